@@ -1,0 +1,187 @@
+-- Some, every, how many, and the least, of the numbers below any width. Assumes nothing.
+use mathlib.Core.Path.{_≡_, refl, sym, ap, ap₂, _∙_}
+use mathlib.Core.Bool.{Bool, true, false}
+use mathlib.Core.Logic.{_⊎_, inl, inr}
+use Prim.Native.Nat.{ℕ, zero, suc, _+_, _*_, _/_, _%_, _^_, _≤_, _<_, suc-le-suc}
+use native.Mathlib.Nat.{not-suc-le-zero, le-of-suc-le-suc, mod-lt, zero-lt-suc}
+use native.Mathlib.Omega.{arith}
+use borrow.Author.Tests.{ne-eqb}
+use lib.Arith.{lt-one}
+use lib.Dec.{T, eqb, eqb·suc-zero, eqb·zero-suc, eqb·suc-suc}
+use lib.Count.{ones, ones-step, trailingZeros, under}
+use Rattle.sets.specs.Tests.{_and_, _or_, non}
+use Rattle.sets.specs.Members.{digit, bit, bitsOf, someBelow, everyBelow, countBelow, leastBelow, orNext}
+use Rattle.sets.proofs.Tests.{and-l, and-r, and-i, or-e, or-l, or-r, T-ext, non-i, non-e, and-true, T→true, true→T}
+use Rattle.sets.proofs.Bits.{bit-first, bit-next, digit-first, half-lt}
+
+-- ---- some and every, number by number
+
+pub some-i : (w : ℕ) (p : ℕ → Bool) (a : ℕ) → a < w → T (p a) → T (someBelow w p)
+unfolding someBelow
+some-i zero p a l t = absurd (not-suc-le-zero l)
+some-i (suc w) p zero l t = or-l _ _ t
+some-i (suc w) p (suc a) l t = or-r _ _ (some-i w (λ b. p (suc b)) a (le-of-suc-le-suc l) t)
+
+pub some-e : (w : ℕ) (p : ℕ → Bool) → T (someBelow w p) → (a : ℕ) × (a < w) × T (p a)
+unfolding someBelow
+some-e zero p t = absurd t
+some-e (suc w) p t = go (or-e _ _ t) (λ k. some-e w (λ b. p (suc b)) k)
+  where
+    go : T (p 0) ⊎ T (someBelow w (λ b. p (suc b))) → (T (someBelow w (λ b. p (suc b))) → (a : ℕ) × (a < w) × T (p (suc a)))
+        → (a : ℕ) × (a < suc w) × T (p a)
+    go (inl h) ih = (0, zero-lt-suc w, h)
+    go (inr h) ih = let r = ih h in (suc (r .0), suc-le-suc (r .1), r .2)
+
+pub every-i : (w : ℕ) (p : ℕ → Bool) → ((a : ℕ) → a < w → T (p a)) → T (everyBelow w p)
+unfolding everyBelow
+every-i zero p f = tt
+every-i (suc w) p f = and-i _ _ (f 0 (zero-lt-suc w)) (every-i w (λ b. p (suc b)) (λ a l. f (suc a) (suc-le-suc l)))
+
+pub every-e : (w : ℕ) (p : ℕ → Bool) → T (everyBelow w p) → (a : ℕ) → a < w → T (p a)
+unfolding everyBelow
+every-e zero p t a l = absurd (not-suc-le-zero l)
+every-e (suc w) p t zero l = and-l _ _ t
+every-e (suc w) p t (suc a) l = every-e w (λ b. p (suc b)) (and-r _ _ t) a (le-of-suc-le-suc l)
+
+pub some-ext : (w : ℕ) (p q : ℕ → Bool) → ((a : ℕ) → a < w → p a ≡ q a) → someBelow w p ≡ someBelow w q
+unfolding someBelow
+some-ext zero p q e = refl
+some-ext (suc w) p q e = ap₂ _or_ (e 0 (zero-lt-suc w)) (some-ext w (λ a. p (suc a)) (λ a. q (suc a)) (λ a l. e (suc a) (suc-le-suc l)))
+
+pub every-ext : (w : ℕ) (p q : ℕ → Bool) → ((a : ℕ) → a < w → p a ≡ q a) → everyBelow w p ≡ everyBelow w q
+unfolding everyBelow
+every-ext zero p q e = refl
+every-ext (suc w) p q e = ap₂ _and_ (e 0 (zero-lt-suc w)) (every-ext w (λ a. p (suc a)) (λ a. q (suc a)) (λ a l. e (suc a) (suc-le-suc l)))
+
+-- every passes where none fails
+pub non-some : (w : ℕ) (p : ℕ → Bool) → non (someBelow w p) ≡ everyBelow w (λ a. non (p a))
+non-some w p =
+    T-ext _ _
+    (λ h. every-i w (λ a. non (p a)) (λ a l. non-i (p a) (λ t. non-e (someBelow w p) h (some-i w p a l t))))
+    (λ h. non-i (someBelow w p) (λ t. let r = some-e w p t in non-e (p (r .0)) (every-e w (λ a. non (p a)) h (r .0) (r .1)) (r .2)))
+
+-- ---- a number is 0 where no digit of it is 1
+
+zero-test : (b t : Bool) (s : ℕ) → t ≡ eqb s 0 → (non b and t) ≡ eqb (digit b + 2 * s) 0
+unfolding _and_ non
+zero-test true t s e = sym (ne-eqb (1 + 2 * s) 0 (λ q. omega arith))
+zero-test false t zero e = e
+zero-test false t (suc s) e = e ∙ ne-eqb (suc s) 0 (λ q. omega arith) ∙ sym (ne-eqb (0 + 2 * suc s) 0 (λ q. omega arith))
+
+pub none-zero : (w : ℕ) (p : ℕ → Bool) → everyBelow w (λ a. non (p a)) ≡ eqb (bitsOf w p) 0
+unfolding everyBelow bitsOf
+none-zero zero p = refl
+none-zero (suc w) p = zero-test (p 0) (everyBelow w (λ a. non (p (suc a)))) (bitsOf w (λ a. p (suc a))) (none-zero w (λ a. p (suc a)))
+
+-- ---- how many
+
+pub count-ext : (w : ℕ) (p q : ℕ → Bool) → ((a : ℕ) → a < w → p a ≡ q a) → countBelow w p ≡ countBelow w q
+unfolding countBelow
+count-ext zero p q e = refl
+count-ext (suc w) p q e =
+    ap₂ (λ (m n : ℕ). m + n) (ap digit (e 0 (zero-lt-suc w)))
+    (count-ext w (λ a. p (suc a)) (λ a. q (suc a)) (λ a l. e (suc a) (suc-le-suc l)))
+
+pub count-le : (w : ℕ) (p : ℕ → Bool) → countBelow w p ≤ w
+unfolding countBelow
+count-le zero p = omega arith
+count-le (suc w) p = by (p 0) (count-le w (λ a. p (suc a)))
+  where
+    by : (b : Bool) → countBelow w (λ a. p (suc a)) ≤ w → digit b + countBelow w (λ a. p (suc a)) ≤ suc w
+    by true h = omega arith
+    by false h = omega arith
+
+-- the machine's count of ones
+pub ones-count : (w x : ℕ) → x < 2 ^ w → ones x ≡ countBelow w (bit x)
+unfolding countBelow ones
+ones-count zero x h = ap ones (lt-one h)
+ones-count (suc w) x h =
+    ones-step x
+    ∙ ap₂ (λ (m n : ℕ). m + n) (sym (digit-first x))
+    (ones-count w (x / 2) (half-lt w x h) ∙ count-ext w (bit (x / 2)) (λ a. bit x (suc a)) (λ a l. sym (bit-next x a)))
+
+-- a number other than k keeps its answer where k is taken away
+kept : (t k : Bool) → k ≡ false → (t and non k) ≡ t
+unfolding non
+kept t k e = ap (λ (x : Bool). t and non x) e ∙ and-true t
+
+gone : (t k : Bool) → k ≡ true → (t and non k) ≡ false
+unfolding _and_ non
+gone true k e = ap non e
+gone false k e = refl
+
+-- without one that passed, one less passes: the measure of a loop over a set's members
+pub count-less : (w : ℕ) (p : ℕ → Bool) (k : ℕ) → k < w → T (p k) → countBelow w p ≡ suc (countBelow w (λ b. p b and non (eqb b k)))
+unfolding countBelow
+count-less zero p k l t = absurd (not-suc-le-zero l)
+count-less (suc w) p zero l t =
+    let same = count-ext w (λ b. p (suc b) and non (eqb (suc b) 0)) (λ b. p (suc b)) (λ b i. kept (p (suc b)) _ (eqb·suc-zero b)) in
+    rw (same, gone (p 0) (eqb 0 0) refl, T→true (p 0) t) (omega arith)
+count-less (suc w) p (suc k) l t =
+    let same =
+    count-ext w (λ b. p (suc b) and non (eqb (suc b) (suc k))) (λ b. p (suc b) and non (eqb b k)) (λ b i. ap (λ (x : Bool). p (suc b) and non x) (eqb·suc-suc b k)) in
+    rw (same, kept (p 0) (eqb 0 (suc k)) (eqb·zero-suc k)) (omega (arith, count-less w (λ b. p (suc b)) k (le-of-suc-le-suc l) t))
+
+-- ---- the least
+
+pub least-ext : (w : ℕ) (p q : ℕ → Bool) → ((a : ℕ) → a < w → p a ≡ q a) → leastBelow w p ≡ leastBelow w q
+unfolding leastBelow
+least-ext zero p q e = refl
+least-ext (suc w) p q e =
+    ap₂ orNext (e 0 (zero-lt-suc w)) (least-ext w (λ a. p (suc a)) (λ a. q (suc a)) (λ a l. e (suc a) (suc-le-suc l)))
+
+pub least-le : (w : ℕ) (p : ℕ → Bool) → leastBelow w p ≤ w
+unfolding leastBelow
+least-le zero p = omega arith
+least-le (suc w) p = by (p 0) (least-le w (λ a. p (suc a)))
+  where
+    by : (b : Bool) → leastBelow w (λ a. p (suc a)) ≤ w → orNext b (leastBelow w (λ a. p (suc a))) ≤ suc w
+    by true h = omega arith
+    by false h = suc-le-suc h
+
+-- it passes, where one does
+pub least-is : (w : ℕ) (p : ℕ → Bool) → leastBelow w p < w → T (p (leastBelow w p))
+unfolding leastBelow
+least-is zero p l = absurd (not-suc-le-zero l)
+least-is (suc w) p l = by (λ k. least-is w (λ b. p (suc b)) k) (p 0) refl l
+  where
+    by : (leastBelow w (λ b. p (suc b)) < w → T (p (suc (leastBelow w (λ b. p (suc b))))))
+        → (t : Bool) → p 0 ≡ t → orNext t (leastBelow w (λ b. p (suc b))) < suc w → T (p (orNext t (leastBelow w (λ b. p (suc b)))))
+    by ih true e k = true→T e
+    by ih false e k = ih (le-of-suc-le-suc k)
+
+-- and none before it does
+pub least-before : (w : ℕ) (p : ℕ → Bool) (a : ℕ) → a < leastBelow w p → p a ≡ false
+unfolding leastBelow
+least-before zero p a l = absurd (not-suc-le-zero l)
+least-before (suc w) p a l = by (λ b k. least-before w (λ c. p (suc c)) b k) (p 0) refl a l
+  where
+    by : ((b : ℕ) → b < leastBelow w (λ c. p (suc c)) → p (suc b) ≡ false)
+        → (t : Bool) → p 0 ≡ t → (b : ℕ) → b < orNext t (leastBelow w (λ c. p (suc c))) → p b ≡ false
+    by ih true e b k = absurd (not-suc-le-zero k)
+    by ih false e zero k = e
+    by ih false e (suc b) k = ih b (le-of-suc-le-suc k)
+
+-- where some number passes, the least is below the width
+pub least-lt : (w : ℕ) (p : ℕ → Bool) → T (someBelow w p) → leastBelow w p < w
+unfolding someBelow leastBelow _or_
+least-lt zero p t = absurd t
+least-lt (suc w) p t = by (λ k. least-lt w (λ b. p (suc b)) k) (p 0) t
+  where
+    by : (T (someBelow w (λ b. p (suc b))) → leastBelow w (λ b. p (suc b)) < w)
+        → (x : Bool) → T (x or someBelow w (λ b. p (suc b))) → orNext x (leastBelow w (λ b. p (suc b))) < suc w
+    by ih true k = zero-lt-suc w
+    by ih false k = suc-le-suc (ih k)
+
+-- the machine's trailing zeros
+under-digit : (d t : ℕ) → d < 2 → under d t ≡ orNext (eqb d 1) t
+under-digit zero t h = refl
+under-digit (suc zero) t h = refl
+under-digit (suc (suc d)) t h = absurd (not-suc-le-zero (le-of-suc-le-suc (le-of-suc-le-suc h)))
+
+pub trailing-least : (w x : ℕ) → trailingZeros w x ≡ leastBelow w (bit x)
+unfolding leastBelow trailingZeros
+trailing-least zero x = refl
+trailing-least (suc w) x =
+    under-digit (x % 2) (trailingZeros w (x / 2)) (mod-lt x (zero-lt-suc 1))
+    ∙ ap₂ orNext (sym (bit-first x)) (trailing-least w (x / 2) ∙ least-ext w (bit (x / 2)) (λ a. bit x (suc a)) (λ a l. sym (bit-next x a)))

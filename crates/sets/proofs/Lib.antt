@@ -1,0 +1,6 @@
+-- The modules of `proofs/` that belong to no one function.
+pub mod Tests
+pub mod Bits
+pub mod Below
+pub mod Members
+pub mod RowLaws

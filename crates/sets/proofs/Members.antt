@@ -1,0 +1,156 @@
+-- Laws of sets by their members, and the machine's operations as comprehensions. Assumes nothing.
+use mathlib.Core.Path.{_≡_, refl, sym, ap, _∙_, subst}
+use mathlib.Core.Bool.{Bool, true, false, not}
+use Prim.Native.Nat.{ℕ, suc, _+_, _^_, _-_, _*_, _/_, _%_, _≤_, _<_}
+use native.Mathlib.Omega.{arith}
+use native.Mathlib.Nat.{lt-of-le-of-lt}
+use borrow.Author.Tests.{ne-eqb, lt-ltb, ltb-true, ltb-false, not-true}
+use lib.Dec.{T, eqb, ltb}
+use lib.Pow.{pow-lt, pow-pos}
+use lib.Bits.{bitAnd, bitOr, and-le-l, and-mask, or-lt}
+use Rattle.sets.specs.Tests.{_and_, _or_, non}
+use Rattle.sets.specs.Members.{width, bit, bitsOf, mem, those, someBelow, everyBelow, countBelow, leastBelow, isEmpty, within}
+use Rattle.sets.specs.declared.set.Set.{Set}
+use Rattle.sets.proofs.Tests.{non-or, non-non, T→true, F→false, false→F, non-false, non-e, imp-i, imp-e, split, either}
+use Rattle.sets.proofs.Bits.{is-bitsOf, bitsOf-ext, bitsOf-bit, bitsOf-lt, bit-bitsOf, bit-bitsOf-above, bit-and, bit-or, bit-non, bit-above, bit-zero, bit-pow, bit-ones, one-shl}
+use Rattle.sets.proofs.Below.{some-i, some-e, some-ext, every-i, every-e, every-ext, non-some, none-zero, count-ext, count-less, least-ext, least-is, least-lt, ones-count, trailing-least}
+
+-- ---- a set and its members
+
+set-of : {x y : ℕ} → x ≡ y → _≡_ {A = Set} (record { bits = x }) (record { bits = y })
+set-of e = ap (λ (n : ℕ). record { bits = n }) e
+
+-- what has the members p is the set of p
+pub is-those : (x : ℕ) (p : ℕ → Bool) → x < 2 ^ width → ((a : ℕ) → a < width → bit x a ≡ p a) → _≡_ {A = Set} (record { bits = x }) (those p)
+is-those x p h e = set-of (is-bitsOf width x p h e)
+
+pub those-ext : (p q : ℕ → Bool) → ((a : ℕ) → a < width → p a ≡ q a) → those p ≡ those q
+those-ext p q e = set-of (bitsOf-ext width p q e)
+
+pub mem-those : (p : ℕ → Bool) (a : ℕ) → a < width → mem (those p) a ≡ p a
+mem-those p a h = bit-bitsOf width p a h
+
+pub mem-those-above : (p : ℕ → Bool) (a : ℕ) → width ≤ a → mem (those p) a ≡ false
+mem-those-above p a h = bit-bitsOf-above width p a h
+
+-- a member of a comprehension is below the width, and passes
+pub those-e : (p : ℕ → Bool) (a : ℕ) → T (mem (those p) a) → (a < width) × T (p a)
+those-e p a t =
+    either (split (ltb a width))
+    (λ l. let h : a < width = ltb-true a width (T→true _ l) in (h, subst T (mem-those p a h) t))
+    (λ g. absurd (false→F (mem-those-above p a (ltb-false a width (F→false _ g))) t))
+
+pub those-i : (p : ℕ → Bool) (a : ℕ) → a < width → T (p a) → T (mem (those p) a)
+those-i p a l t = subst T (sym (mem-those p a l)) t
+
+-- a set is the set of its members
+pub those-mem : (s : Set) → s .bits < 2 ^ width → those (mem s) ≡ s
+those-mem s h = set-of (bitsOf-bit width (s .bits) h)
+
+-- ---- a comprehension over a set that is itself one: what a caller of several operations shows, one law for each turn
+
+member : (u : Set) (p : ℕ → Bool) → u ≡ those p → (a : ℕ) → a < width → mem u a ≡ p a
+member u p e a l = ap (λ (s : Set). mem s a) e ∙ mem-those p a l
+
+pub those-of : (u : Set) (p : ℕ → Bool) (f : ℕ → Bool → Bool) → u ≡ those p → those (λ a. f a (mem u a)) ≡ those (λ a. f a (p a))
+those-of u p f e = those-ext (λ a. f a (mem u a)) (λ a. f a (p a)) (λ a l. ap (f a) (member u p e a l))
+
+pub some-of : (u : Set) (p : ℕ → Bool) (f : ℕ → Bool → Bool) → u ≡ those p → someBelow width (λ a. f a (mem u a)) ≡ someBelow width (λ a. f a (p a))
+some-of u p f e = some-ext width (λ a. f a (mem u a)) (λ a. f a (p a)) (λ a l. ap (f a) (member u p e a l))
+
+pub every-of : (u : Set) (p : ℕ → Bool) (f : ℕ → Bool → Bool) → u ≡ those p → everyBelow width (λ a. f a (mem u a)) ≡ everyBelow width (λ a. f a (p a))
+every-of u p f e = every-ext width (λ a. f a (mem u a)) (λ a. f a (p a)) (λ a l. ap (f a) (member u p e a l))
+
+-- ---- empty, and within
+
+pub empty-e : (s : Set) → T (isEmpty s) → (a : ℕ) → a < width → T (mem s a) → ⊥
+unfolding isEmpty
+empty-e s h a l t = non-e (mem s a) (every-e width _ h a l) t
+
+pub empty-none : (s : Set) → isEmpty s ≡ non (someBelow width (mem s))
+unfolding isEmpty
+empty-none s = sym (non-some width (mem s))
+
+pub within-e : (s t : Set) → T (within s t) → (a : ℕ) → a < width → T (mem s a) → T (mem t a)
+unfolding within
+within-e s t h a l m = imp-e _ _ (every-e width _ h a l) m
+
+pub within-i : (s t : Set) → ((a : ℕ) → a < width → T (mem s a) → T (mem t a)) → T (within s t)
+unfolding within
+within-i s t f = every-i width _ (λ a l. imp-i _ _ (f a l))
+
+-- ---- a turn of a loop over a set's members: `a = rest.least(); rest = rest.difference(Set::one(a))`
+
+pub fewer : (rest rest′ one : Set) (a : ℕ) (r : Bool)
+    → r ≡ isEmpty rest → not r ≡ true
+    → a ≡ leastBelow width (mem rest) → one ≡ those (λ b. eqb b a) → rest′ ≡ those (λ b. mem rest b and non (mem one b))
+    → countBelow width (mem rest′) < countBelow width (mem rest)
+fewer rest rest′ one a r hr ht ha ho hm =
+    let some : T (someBelow width (mem rest)) = non-false _ (sym (empty-none rest) ∙ sym hr ∙ not-true r ht) in
+    let low : leastBelow width (mem rest) < width = least-lt width (mem rest) some in
+    let e = hm ∙ those-of one (λ b. eqb b a) (λ b t. mem rest b and non t) ho in
+    let same : countBelow width (mem rest′) ≡ countBelow width (λ b. mem rest b and non (eqb b (leastBelow width (mem rest)))) =
+    count-ext width (mem rest′) (λ b. mem rest b and non (eqb b (leastBelow width (mem rest))))
+    (λ b l. member rest′ (λ c. mem rest c and non (eqb c a)) e b l ∙ ap (λ (k : ℕ). mem rest b and non (eqb b k)) ha) in
+    omega (arith, count-less width (mem rest) (leastBelow width (mem rest)) low (least-is width (mem rest) low))
+
+-- ---- the operations, as the machine has them: each method's `returns` is closed by its law
+
+module _ (x y : ℕ) (hx : x < 2 ^ width) (hy : y < 2 ^ width) where
+  difference-bits : bitAnd x ((2 ^ width - 1) - y) ≡ bitsOf width (λ a. bit x a and non (bit y a))
+  difference-bits =
+      is-bitsOf width (bitAnd x ((2 ^ width - 1) - y)) (λ a. bit x a and non (bit y a)) (lt-of-le-of-lt (and-le-l x ((2 ^ width - 1) - y)) hx)
+      (λ a l. bit-and x ((2 ^ width - 1) - y) a ∙ ap (λ (b : Bool). bit x a and b) (bit-non width y a hy l))
+
+  pub union-those : _≡_ {A = Set} (record { bits = bitOr x y }) (those (λ a. bit x a or bit y a))
+  union-those = is-those (bitOr x y) (λ a. bit x a or bit y a) (or-lt width x y hx hy) (λ a l. bit-or x y a)
+
+  pub intersection-those : _≡_ {A = Set} (record { bits = bitAnd x y }) (those (λ a. bit x a and bit y a))
+  intersection-those = is-those (bitAnd x y) (λ a. bit x a and bit y a) (lt-of-le-of-lt (and-le-l x y) hx) (λ a l. bit-and x y a)
+
+  pub difference-those : _≡_ {A = Set} (record { bits = bitAnd x ((2 ^ width - 1) - y) }) (those (λ a. bit x a and non (bit y a)))
+  difference-those = set-of difference-bits
+
+  pub within-bits : eqb (bitAnd x ((2 ^ width - 1) - y)) 0 ≡ within (record { bits = x }) (record { bits = y })
+  unfolding within
+  within-bits =
+      ap (λ (n : ℕ). eqb n 0) difference-bits
+      ∙ sym (none-zero width (λ a. bit x a and non (bit y a)))
+      ∙ every-ext width (λ a. non (bit x a and non (bit y a))) (λ a. non (bit x a) or bit y a)
+      (λ a l. ap non (sym (non-or (bit x a) (bit y a))) ∙ non-non (non (bit x a) or bit y a))
+
+module _ (x : ℕ) (hx : x < 2 ^ width) where
+  pub complement-those : _≡_ {A = Set} (record { bits = (2 ^ width - 1) - x }) (those (λ a. non (bit x a)))
+  complement-those = is-those ((2 ^ width - 1) - x) (λ a. non (bit x a)) (omega arith) (λ a l. bit-non width x a hx l)
+
+  pub empty-bits : eqb x 0 ≡ isEmpty (record { bits = x })
+  unfolding isEmpty
+  empty-bits = ap (λ (n : ℕ). eqb n 0) (sym (bitsOf-bit width x hx)) ∙ sym (none-zero width (bit x))
+
+  pub has-above : (a : ℕ) → width ≤ a → false ≡ bit x a
+  has-above a l = sym (bit-above width x a hx l)
+
+pub has-bits : (x a : ℕ) → eqb (bitAnd (x / 2 ^ a) 1) 1 ≡ bit x a
+unfolding bit
+has-bits x a = ap (λ (n : ℕ). eqb n 1) (and-mask (x / 2 ^ a) 1)
+
+module _ (k : ℕ) (h : k < width) where
+  pub one-those : _≡_ {A = Set} (record { bits = 1 * 2 ^ k % 2 ^ width }) (those (λ b. eqb b k))
+  one-those = set-of (one-shl width k h) ∙ is-those (2 ^ k) (λ b. eqb b k) (pow-lt h) (λ a l. bit-pow k a)
+
+  pub below-those : _≡_ {A = Set} (record { bits = 1 * 2 ^ k % 2 ^ width - 1 }) (those (λ a. ltb a k))
+  below-those =
+      ap (λ (n : ℕ). record { bits = n - 1 }) (one-shl width k h)
+      ∙ is-those (2 ^ k - 1) (λ a. ltb a k) (omega (arith, pow-lt h)) (λ a l. bit-ones k a)
+
+  pub one-pos : 1 ≤ 1 * 2 ^ k % 2 ^ width
+  one-pos = rw (one-shl width k h) (pow-pos k)
+
+module _ (k : ℕ) (h : width ≤ k) where
+  pub one-above : _≡_ {A = Set} (record { bits = 0 }) (those (λ b. eqb b k))
+  one-above = is-those 0 (λ b. eqb b k) (omega arith) (λ a l. bit-zero a ∙ sym (ne-eqb a k (λ e. omega arith)))
+
+  pub below-all : _≡_ {A = Set} (record { bits = 2 ^ width - 1 }) (those (λ a. ltb a k))
+  below-all = is-those (2 ^ width - 1) (λ a. ltb a k) (omega arith) (λ a l. bit-ones width a ∙ lt-ltb a width l ∙ sym (lt-ltb a k (omega arith)))
+
+pub ruleset operations = (union-those, intersection-those, difference-those, complement-those, within-bits, empty-bits, has-bits, has-above, one-those, one-above, below-those, below-all, one-pos, ones-count, trailing-least)

@@ -1,0 +1,10 @@
+use borrow.Author.Needs.{needs}
+use Rattle.sets.proofs.Members.{operations}
+use Rattle.sets.proofs.set.Set.is_within.Statement.{statement}
+use Rattle.sets.proofs.set.Set.is_within.Tie as tie
+
+returns : tie.Need-returns
+returns c = search (operations, needs)
+
+pub is-within-spec : {M : Type 1} → statement M
+is-within-spec = tie.close (tie.spec returns)

@@ -1,0 +1,37 @@
+-- A relation kept as one set for each activity.
+use mathlib.Core.Bool.{Bool, cond}
+use mathlib.Core.List.{List, [], _∷_}
+use Prim.Native.Nat.{ℕ, zero, suc}
+use lib.Dec.{ltb}
+use lib.ListN.{getD, set, replicate}
+use Rattle.sets.specs.Members.{width, mem, those}
+use Rattle.sets.specs.declared.set.Set.{Set}
+
+-- a relation, as a test of two activities
+abbrev pub Relation : Type 0
+Relation = ℕ → ℕ → Bool
+
+-- rows without a member
+abbrev pub noRows : List ℕ
+noRows = replicate width 0
+
+-- row a; empty past the last
+unfoldable pub rowAt : List ℕ → ℕ → Set
+rowAt rows a = record { bits = cond (ltb a width) (getD rows a 0) 0 }
+
+-- the rows with s at a; the same where there is no row a
+unfoldable pub withRow : List ℕ → ℕ → Set → List ℕ
+withRow rows a s = cond (ltb a width) (set rows a (s .bits)) rows
+
+-- b stands in row a
+unfoldable pub inRow : List ℕ → Relation
+inRow rows a b = mem (rowAt rows a) b
+
+-- f i, f (i + 1), .. : n numbers
+unfoldable pub listFrom : ℕ → ℕ → (ℕ → ℕ) → List ℕ
+listFrom zero i f = []
+listFrom (suc n) i f = f i ∷ listFrom n (suc i) f
+
+-- the rows of a relation: row a is the set of the b that it has with a
+unfoldable pub rowsOf : Relation → List ℕ
+rowsOf r = listFrom width 0 (λ a. those (r a) .bits)

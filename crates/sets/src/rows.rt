@@ -1,0 +1,64 @@
+// Rows of sets, one for each activity: how a relation is kept. Only these functions read or write the numbers, so a wider
+// set changes this file and set.rt alone.
+ghost use mathlib.Core.Path.{_≡_};
+ghost use Rattle.sets.specs.Tests.{_and_, _or_};
+ghost use Rattle.sets.specs.Members.{mem, those};
+ghost use Rattle.sets.specs.Rows.{noRows, rowAt, withRow};
+use crate::activity::Activity;
+use crate::activity::WIDTH;
+use crate::set::Set;
+
+pub type Rows = [u64; WIDTH];
+
+// Rows that are all empty.
+pub fn empty() -> Rows
+    ensures { λ r. ⌜ r ≡ noRows ⌝ }
+{
+    [0; WIDTH]
+}
+
+// The activity's row; empty past the last.
+pub fn row(rows: &Rows, a: Activity) -> Set
+    ensures { λ r. ⌜ r ≡ rowAt (now (rows .entry)) (a .0) ⌝ }
+{
+    let i = a.0 as usize;
+    if i < WIDTH {
+        Set { bits: rows[i] }
+    } else {
+        Set::EMPTY
+    }
+}
+
+// Puts a set into the activity's row; past the last row nothing changes.
+pub fn put(rows: &mut Rows, a: Activity, s: Set)
+    ensures { λ _. ⌜ now (rows .exit) ≡ withRow (now (rows .entry)) (a .0) s ⌝ }
+{
+    let i = a.0 as usize;
+    if i < WIDTH {
+        rows[i] = s.bits;
+    }
+}
+
+// The activity's row gains the members of a set.
+pub fn join(rows: &mut Rows, a: Activity, s: Set)
+    ensures { λ _. ⌜ now (rows .exit) ≡ withRow (now (rows .entry)) (a .0) (those (λ b. mem (rowAt (now (rows .entry)) (a .0)) b or mem s b)) ⌝ }
+{
+    let i = a.0 as usize;
+    if i < WIDTH {
+        let old = Set { bits: rows[i] };
+        let new = old.union(s);
+        rows[i] = new.bits;
+    }
+}
+
+// The activity's row keeps only members of a set.
+pub fn keep(rows: &mut Rows, a: Activity, s: Set)
+    ensures { λ _. ⌜ now (rows .exit) ≡ withRow (now (rows .entry)) (a .0) (those (λ b. mem (rowAt (now (rows .entry)) (a .0)) b and mem s b)) ⌝ }
+{
+    let i = a.0 as usize;
+    if i < WIDTH {
+        let old = Set { bits: rows[i] };
+        let new = old.intersection(s);
+        rows[i] = new.bits;
+    }
+}
