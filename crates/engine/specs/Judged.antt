@@ -1,0 +1,59 @@
+-- When a graph that is handed over as a value, and a marking beside it, are refused (01, "Numbers given back": 3, then 5).
+use mathlib.Core.Bool.{Bool}
+use mathlib.Core.List.{List}
+use Prim.Native.Nat.{ℕ}
+use lib.Dec.{ltb}
+use Rattle.sets.specs.Tests.{_and_, _or_, non, when_then_else_}
+use Rattle.sets.specs.Members.{width, mem, those, everyBelow, isEmpty, within}
+use Rattle.sets.specs.Rows.{rowAt}
+use Rattle.sets.specs.Answers.{isDone}
+use Rattle.sets.specs.declared.set.Set.{Set}
+use Rattle.sets.specs.declared.answer.Answer.{Answer}
+use Rattle.sets.specs.declared.answer.Answer.the-variants.{Done, AboveLimit, Outside}
+use Rattle.engine.specs.declared.marking.Marking.{Marking}
+use Rattle.engine.specs.declared.graph.Graph.{Graph}
+
+-- the greatest A, and the greatest length of a trace (01, "Sizes")
+abbrev pub mostActivities : ℕ
+mostActivities = 64
+
+abbrev pub longestTrace : ℕ
+longestTrace = 512
+
+-- executed, pending and included are within the events
+unfoldable pub markingWithin : Set → Marking → Bool
+markingWithin events m = within (m .executed) events and within (m .pending) events and within (m .included) events
+
+-- each row's set is within the events, and a row that is not empty stands at an event
+unfoldable pub rowsWithin : Set → List ℕ → Bool
+rowsWithin events rows = everyBelow width (λ a. within (rowAt rows a) events and (mem events a or isEmpty (rowAt rows a)))
+
+-- each event is below A, and the marking and the rows are within the events
+unfoldable pub graphWithin : Graph → Bool
+graphWithin g =
+    within (g .events) (those (λ a. ltb a (g .activities)))
+    and markingWithin (g .events) (g .opening)
+    and rowsWithin (g .events) (g .conditions)
+    and rowsWithin (g .events) (g .responses)
+    and rowsWithin (g .events) (g .includes)
+    and rowsWithin (g .events) (g .excludes)
+
+-- 3 for A, then 3 for the length of a trace beside it, then 5 for the graph
+unfoldable pub judgedFor : Graph → ℕ → Answer
+judgedFor g length =
+    when ltb mostActivities (g .activities) then AboveLimit
+    else when ltb longestTrace length then AboveLimit
+    else when non (graphWithin g) then Outside
+    else Done
+
+-- the graph alone
+abbrev pub judged : Graph → Answer
+judged g = judgedFor g 0
+
+-- the first answer, unless it is done; then the second
+abbrev pub thenAsk : Answer → Answer → Answer
+thenAsk a b = when isDone a then b else a
+
+-- the graph, then 5 for a marking handed beside it
+unfoldable pub judgedWith : Graph → Marking → Answer
+judgedWith g m = thenAsk (judged g) (when markingWithin (g .events) m then Done else Outside)

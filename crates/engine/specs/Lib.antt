@@ -1,0 +1,5 @@
+pub mod Markings
+pub mod Relations
+pub mod Steps
+pub mod Judged
+pub mod Replay

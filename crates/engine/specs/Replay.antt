@@ -1,0 +1,53 @@
+-- What the engine's public functions give, for every graph, marking, activity and trace (01, "A step").
+use mathlib.Core.Bool.{Bool, false}
+use mathlib.Core.List.{List, [], _∷_}
+use Prim.Native.Nat.{ℕ, _+_}
+use lib.ListN.{length}
+use Rattle.sets.specs.Tests.{_and_, when_then_else_}
+use Rattle.sets.specs.Answers.{isDone}
+use Rattle.sets.specs.declared.activity.Place.{Place}
+use Rattle.sets.specs.declared.set.Set.{Set}
+use Rattle.sets.specs.declared.answer.Answer.{Answer}
+use Rattle.sets.specs.declared.answer.Answer.the-variants.{Done}
+use Rattle.engine.specs.declared.marking.Marking.{Marking}
+use Rattle.engine.specs.declared.graph.Graph.{Graph}
+use Rattle.engine.specs.declared.step.Stepped.{Stepped}
+use Rattle.engine.specs.declared.step.Verdict.{Verdict}
+use Rattle.engine.specs.declared.replay.Replayed.{Replayed}
+use Rattle.engine.specs.Markings.{emptyMarking}
+use Rattle.engine.specs.Relations.{Relations, relationsOf}
+use Rattle.engine.specs.Steps.{enabled, after, accepting}
+use Rattle.engine.specs.Judged.{judgedFor, judgedWith, thenAsk}
+
+-- enabled: 3 and 5, then 8, 9, 10
+unfoldable pub enabledOf : Graph → Marking → ℕ → Answer
+enabledOf g m e = thenAsk (judgedWith g m) (enabled (g .events) (relationsOf g) m e)
+
+-- the step: the marking after it, or as it was where refused
+unfoldable pub steppedOf : Graph → Marking → ℕ → Stepped
+steppedOf g m e =
+    record {
+      answer = enabledOf g m e;
+      marking = when isDone (enabledOf g m e) then after (relationsOf g) m e else m;
+    }
+
+-- accepting: no where refused
+unfoldable pub acceptingOf : Graph → Marking → Verdict
+acceptingOf g m = record { answer = judgedWith g m; accepting = isDone (judgedWith g m) and accepting m }
+
+-- the result of a replay
+abbrev pub ending : Answer → ℕ → Marking → Bool → Replayed
+ending a i m accepts = record { answer = a; place = record { 0 = i }; marking = m; accepting = accepts }
+
+-- the rest of a trace, from the marking m at place i: it stops at the first refusal, with the marking before it
+unfoldable pub replayFrom : Set → Relations → Marking → ℕ → List ℕ → Replayed
+replayFrom events r m i [] = ending Done i m (accepting m)
+replayFrom events r m i (e ∷ es) =
+    when isDone (enabled events r m e) then replayFrom events r (after r m e) (i + 1) es
+    else ending (enabled events r m e) i m false
+
+-- the replay of a trace: from the opening marking; refused with 3 or 5 it gives place 0 and the empty marking
+unfoldable pub replayOf : Graph → List ℕ → Replayed
+replayOf g trace =
+    when isDone (judgedFor g (length trace)) then replayFrom (g .events) (relationsOf g) (g .opening) 0 trace
+    else ending (judgedFor g (length trace)) 0 emptyMarking false

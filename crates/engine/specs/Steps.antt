@@ -1,0 +1,36 @@
+-- 01, "A step", by set rules.
+use mathlib.Core.Bool.{Bool}
+use Prim.Native.Nat.{ℕ}
+use lib.Dec.{eqb}
+use Rattle.sets.specs.Tests.{_and_, _or_, non, when_then_else_}
+use Rattle.sets.specs.Members.{width, mem, those, someBelow}
+use Rattle.sets.specs.declared.set.Set.{Set}
+use Rattle.sets.specs.declared.answer.Answer.{Answer}
+use Rattle.sets.specs.declared.answer.Answer.the-variants.{Done, NoEvent, NotIncluded, Waiting}
+use Rattle.engine.specs.declared.marking.Marking.{Marking}
+use Rattle.engine.specs.Markings.{markingOf}
+use Rattle.engine.specs.Relations.{Relations}
+
+-- some condition source of e is included and not executed
+unfoldable pub waits : Relations → Marking → ℕ → Bool
+waits r m e = someBelow width (λ s. r .conditions s e and mem (m .included) s and non (mem (m .executed) s))
+
+-- rules 8, 9, 10 in that order
+unfoldable pub enabled : Set → Relations → Marking → ℕ → Answer
+enabled events r m e =
+    when non (mem events e) then NoEvent
+    else when non (mem (m .included) e) then NotIncluded
+    else when waits r m e then Waiting
+    else Done
+
+-- executed gains e; pending loses e, then gains e's responses; included loses e's excludes, then gains e's includes
+unfoldable pub after : Relations → Marking → ℕ → Marking
+after r m e =
+    markingOf
+    (those (λ a. mem (m .executed) a or eqb a e))
+    (those (λ a. mem (m .pending) a and non (eqb a e) or r .responses e a))
+    (those (λ a. mem (m .included) a and non (r .excludes e a) or r .includes e a))
+
+-- no step is both pending and included
+unfoldable pub accepting : Marking → Bool
+accepting m = non (someBelow width (λ a. mem (m .pending) a and mem (m .included) a))
