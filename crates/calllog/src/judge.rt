@@ -56,29 +56,26 @@ fn judge_head(bytes: &[u8]) -> Answer
     if layout::MOST_ACTIVITIES < layout::activities(bytes) {
         return Answer::AboveLimit;
     }
-    if layout::MOST_TRACES < layout::traces(bytes) as usize {
+    if layout::MOST_TRACES < layout::traces(bytes) {
         return Answer::AboveLimit;
     }
-    if bytes.len() < layout::bodies_start(bytes) {
+    if bytes.len() < layout::bodies_start(bytes) as usize {
         return Answer::TooShort;
     }
     Answer::Done
 }
 
 // One entry, by the sum of the earlier lengths.
-fn judge_entry(earlier: usize, offset: usize, size: usize) -> Answer
+fn judge_entry(earlier: u32, offset: u16, size: u16) -> Answer
     ensures { λ r. ⌜ r ≡ judgedEntry earlier offset size ⌝ }
 {
     if layout::LONGEST_TRACE < size {
         return Answer::AboveLimit;
     }
-    if layout::MOST_EVENTS < earlier {
+    if (layout::MOST_EVENTS as u64) < earlier as u64 + size as u64 {
         return Answer::AboveLimit;
     }
-    if layout::MOST_EVENTS - earlier < size {
-        return Answer::AboveLimit;
-    }
-    if offset != earlier {
+    if offset as u32 != earlier {
         return Answer::WrongOffset;
     }
     Answer::Done
@@ -89,33 +86,30 @@ fn judge_contents(bytes: &[u8]) -> Answer
     ensures { λ r. ⌜ r ≡ judgedContents (now (bytes .entry)) ⌝ }
 {
     let traces = layout::traces(bytes);
-    let mut events: usize = 0;
+    let mut events: u32 = 0;
     let mut k: u16 = 0;
     while k < traces {
-        let size = layout::length(bytes, k) as usize;
-        let answer = judge_entry(events, layout::offset(bytes, k) as usize, size);
+        let size = layout::length(bytes, k);
+        let answer = judge_entry(events, layout::offset(bytes, k), size);
         if !answer.is_done() {
             return answer;
         }
-        events += size;
+        events += size as u32;
         k += 1;
     }
     judge_bodies(bytes, events)
 }
 
 // The end of the bytes, then the bodies' bytes.
-fn judge_bodies(bytes: &[u8], events: usize) -> Answer
+fn judge_bodies(bytes: &[u8], events: u32) -> Answer
     ensures { λ r. ⌜ r ≡ judgedBodies (now (bytes .entry)) events ⌝ }
 {
-    let start = layout::bodies_start(bytes);
-    if bytes.len() < start {
+    let start = layout::bodies_start(bytes) as usize;
+    let end = start + events as usize;
+    if bytes.len() < end {
         return Answer::TooShort;
     }
-    let there = bytes.len() - start;
-    if there < events {
-        return Answer::TooShort;
-    }
-    if events < there {
+    if end < bytes.len() {
         return Answer::WrongOffset;
     }
     if !all_below(bytes, start, layout::activities(bytes)) {

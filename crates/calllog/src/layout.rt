@@ -8,11 +8,11 @@ use sets::Place;
 // The greatest A, T, length of a trace and number of events.
 pub const MOST_ACTIVITIES: u8 = Activity::LIMIT;
 
-pub const MOST_TRACES: usize = 1024;
+pub const MOST_TRACES: u16 = 1024;
 
-pub const LONGEST_TRACE: usize = Place::LIMIT;
+pub const LONGEST_TRACE: u16 = Place::LIMIT as u16;
 
-pub const MOST_EVENTS: usize = 32768;
+pub const MOST_EVENTS: u32 = 32768;
 
 // How many bytes stand before the entries, and how many an entry has.
 pub const HEAD_SIZE: usize = 6;
@@ -59,7 +59,7 @@ fn number_at(bytes: &[u8], i: usize) -> u16
     if bytes.len() <= i {
         return 0;
     }
-    let low = bytes[i];
+    let low = byte_at(bytes, i);
     let high = byte_at(bytes, i + 1);
     low as u16 + 256 * (high as u16)
 }
@@ -95,9 +95,9 @@ pub fn length(bytes: &[u8], k: u16) -> u16
 }
 
 // Where the first body byte stands.
-pub fn bodies_start(bytes: &[u8]) -> usize
+pub fn bodies_start(bytes: &[u8]) -> u32
     ensures { λ r. ⌜ r ≡ bodiesStart (now (bytes .entry)) ⌝ }
 {
     let t = traces(bytes);
-    HEAD_SIZE + ENTRY_SIZE * (t as usize)
+    (HEAD_SIZE + ENTRY_SIZE * (t as usize)) as u32
 }

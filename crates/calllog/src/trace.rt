@@ -43,7 +43,7 @@ pub fn trace_part(bytes: &[u8], k: usize) -> Part
 fn entry_part(bytes: &[u8], k: u16) -> Part
     ensures { λ r. ⌜ r ≡ wherePart (now (bytes .entry)) k ⌝ }
 {
-    let start = layout::bodies_start(bytes) + layout::offset(bytes, k) as usize;
+    let start = layout::bodies_start(bytes) as usize + layout::offset(bytes, k) as usize;
     let length = layout::length(bytes, k) as usize;
     if bytes.len() < start + length {
         return Part {
