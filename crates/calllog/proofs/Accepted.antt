@@ -37,11 +37,12 @@ module _ (bytes : List ℕ) where
       let p = went _ TooShort _ refl d in
       let q = went _ WrongLetters _ refl (p .1) in
       let r = went _ AboveLimit _ refl (q .1) in
-      let s = went _ AboveLimit _ refl (r .1) in
-      (ltb-false (length bytes) headSize (p .0),
-      T→true _ (non-false _ (q .0)),
-      ltb-false mostActivities (activitiesIn bytes) (r .0),
-      ltb-false mostTraces (tracesIn bytes) (s .0))
+      let s = went _ AboveLimit _ refl (r .1) in (
+        ltb-false (length bytes) headSize (p .0),
+        T→true _ (non-false _ (q .0)),
+        ltb-false mostActivities (activitiesIn bytes) (r .0),
+        ltb-false mostTraces (tracesIn bytes) (s .0),
+      )
 
   bodies-good : (events : ℕ) → judgedBodies bytes events ≡ Done
       → (length bytes ≡ bodiesStart bytes + events) × (allBelow (activitiesIn bytes) (drop (bodiesStart bytes) bytes) ≡ true)
@@ -94,7 +95,7 @@ events-mono bytes (suc k) zero l = omega arith
 events-mono bytes k (suc n) l =
     either (split (ltb n k))
     (λ t. let q : k ≡ suc n = omega (arith, ltb→lt n k t) in subst (λ (m : ℕ). eventsBefore bytes k ≤ eventsBefore bytes m) q (le-refl _))
-    (λ nope. 
+    (λ nope.
     let far : n < k → ⊥ = λ h. nope (lt→ltb n k h) in
     let h = events-mono bytes k n (omega arith) in
     omega arith)

@@ -4,3 +4,5 @@ pub mod Verdicts
 pub mod Order
 pub mod Contents
 pub mod Accepted
+pub mod Given
+pub mod Finding

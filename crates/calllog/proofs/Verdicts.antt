@@ -38,30 +38,32 @@ module _ (bytes : List ℕ) where
           pub head-cut : length bytes < s → TooShort ≡ judgedHead bytes
           unfolding judgedHead non
           head-cut l =
-              rw
-              (le-ltb (length bytes) headSize h,
-              ← eo,
-              not-false o yes,
-              ← ea,
-              le-ltb mostActivities a few,
-              ← et,
-              le-ltb mostTraces t low,
-              ← es,
-              lt-ltb (length bytes) s l)
+              rw (
+                le-ltb (length bytes) headSize h,
+                ← eo,
+                not-false o yes,
+                ← ea,
+                le-ltb mostActivities a few,
+                ← et,
+                le-ltb mostTraces t low,
+                ← es,
+                lt-ltb (length bytes) s l,
+              )
 
           pub head-done : s ≤ length bytes → Done ≡ judgedHead bytes
           unfolding judgedHead non
           head-done l =
-              rw
-              (le-ltb (length bytes) headSize h,
-              ← eo,
-              not-false o yes,
-              ← ea,
-              le-ltb mostActivities a few,
-              ← et,
-              le-ltb mostTraces t low,
-              ← es,
-              le-ltb (length bytes) s l)
+              rw (
+                le-ltb (length bytes) headSize h,
+                ← eo,
+                not-false o yes,
+                ← ea,
+                le-ltb mostActivities a few,
+                ← et,
+                le-ltb mostTraces t low,
+                ← es,
+                le-ltb (length bytes) s l,
+              )
 
 pub ruleset heads = (head-short, head-letters, head-activities, head-traces, head-cut, head-done)
 
