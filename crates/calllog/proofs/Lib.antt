@@ -5,4 +5,6 @@ pub mod Order
 pub mod Contents
 pub mod Accepted
 pub mod Given
+pub mod Ends
 pub mod Finding
+pub mod Traces

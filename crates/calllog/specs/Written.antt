@@ -1,8 +1,11 @@
--- A log file written by the rules from A and traces (01, "Log"). Only definitions: no program writes logs.
+-- A log file written by the rules from A and traces (01, "Sizes" and "Log"). Only definitions: no program writes logs.
+use mathlib.Core.Bool.{true}
 use mathlib.Core.List.{List, [], _∷_, _++_}
-use Prim.Native.Nat.{ℕ, _+_, _/_, _%_}
-use lib.ListN.{length}
-use Rattle.calllog.specs.Layout.{letters}
+use mathlib.Core.Path.{_≡_}
+use Prim.Native.Nat.{ℕ, _+_, _/_, _%_, _≤_, _<_}
+use lib.ListN.{length, getD}
+use Rattle.calllog.specs.Layout.{letters, mostActivities, mostTraces, longestTrace, mostEvents}
+use Rattle.calllog.specs.Judged.{allBelow}
 
 -- a number in two bytes, little-endian
 abbrev pub twoBytes : ℕ → List ℕ
@@ -20,3 +23,11 @@ endToEnd (t ∷ ts) = t ++ endToEnd ts
 
 unfoldable pub logBytes : ℕ → List (List ℕ) → List ℕ
 logBytes a traces = letters ++ (a ∷ []) ++ twoBytes (length traces) ++ entriesOf 0 traces ++ endToEnd traces
+
+-- A and traces that keep to the limits, with every member below A
+pub record WithinLimits (a : ℕ) (traces : List (List ℕ)) : Type 0 where
+  pub activities : a ≤ mostActivities
+  pub number : length traces ≤ mostTraces
+  pub lengths : (k : ℕ) → k < length traces → length (getD traces k []) ≤ longestTrace
+  pub events : length (endToEnd traces) ≤ mostEvents
+  pub below : (k : ℕ) → k < length traces → allBelow a (getD traces k []) ≡ true
