@@ -8,3 +8,4 @@ pub mod Given
 pub mod Ends
 pub mod Finding
 pub mod Traces
+pub mod Writing
