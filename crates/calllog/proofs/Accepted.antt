@@ -30,7 +30,7 @@ pub record Accepted (bytes : List ℕ) : Type 0 where
   pub below : allBelow (activitiesIn bytes) (drop (bodiesStart bytes) bytes) ≡ true
 
 module _ (bytes : List ℕ) where
-  head-good : judgedHead bytes ≡ Done
+  pub head-good : judgedHead bytes ≡ Done
       → (headSize ≤ length bytes) × (opensWith letters bytes ≡ true) × (activitiesIn bytes ≤ mostActivities) × (tracesIn bytes ≤ mostTraces)
   unfolding judgedHead
   head-good d =
@@ -99,3 +99,8 @@ events-mono bytes k (suc n) l =
     let far : n < k → ⊥ = λ h. nope (lt→ltb n k h) in
     let h = events-mono bytes k n (omega arith) in
     omega arith)
+
+pub events-most : (bytes : List ℕ) (n : ℕ) → ((k : ℕ) → k < n → eventsBefore bytes k + lengthAt bytes k ≤ mostEvents) → eventsBefore bytes n ≤ mostEvents
+unfolding eventsBefore
+events-most bytes zero f = omega arith
+events-most bytes (suc n) f = f n (le-refl _)

@@ -9,3 +9,4 @@ pub mod Ends
 pub mod Finding
 pub mod Traces
 pub mod Writing
+pub mod Long

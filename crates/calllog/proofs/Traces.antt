@@ -12,13 +12,13 @@ use lib.Seq.{drop-length, drop-drop, length-take-le}
 use Rattle.sets.specs.Tests.{when_then_else_}
 use Rattle.sets.specs.Answers.{isDone}
 use Rattle.sets.specs.declared.answer.Answer.the-variants.{Done}
-use Rattle.calllog.specs.Layout.{mostEvents, activitiesIn, tracesIn, offsetAt, lengthAt, bodiesStart, eventsBefore}
+use Rattle.calllog.specs.Layout.{activitiesIn, tracesIn, offsetAt, lengthAt, bodiesStart, eventsBefore}
 use Rattle.calllog.specs.Judged.{judgedLog, allBelow}
 use Rattle.calllog.specs.Logs.{Log, startAt, traceAt, tracesFrom, logOf, noPart, wherePart, partOf}
 use Rattle.calllog.specs.Written.{endToEnd, WithinLimits}
 use Rattle.calllog.specs.declared.trace.Part.{Part}
 use Rattle.calllog.proofs.Order.{done-is}
-use Rattle.calllog.proofs.Accepted.{Accepted, accepted}
+use Rattle.calllog.proofs.Accepted.{Accepted, accepted, events-most}
 use Rattle.calllog.proofs.Given.{log-accepted, log-refused, length-tracesFrom}
 use Rattle.calllog.proofs.Finding.{trace-within, part-there}
 use Rattle.calllog.proofs.Ends.{below-each}
@@ -71,6 +71,7 @@ part-within bytes k = outer (ltb k (tracesIn bytes))
         ≤ length bytes
     inner true e = omega arith
     inner false e = ltb-false (length bytes) (startAt bytes k + lengthAt bytes k) e
+
     outer : (t : Bool) → (when t then wherePart bytes k else noPart) .start + (when t then wherePart bytes k else noPart) .length ≤ length bytes
     outer true = inner (ltb (length bytes) (startAt bytes k + lengthAt bytes k)) refl
     outer false = omega arith
@@ -109,11 +110,6 @@ bodies-are-traces bytes d =
 
 -- ---- what is read keeps to the limits; of a refused log it is nothing, which does too
 
-events-most : (bytes : List ℕ) → Accepted bytes → (n : ℕ) → n ≤ tracesIn bytes → eventsBefore bytes n ≤ mostEvents
-unfolding eventsBefore
-events-most bytes a zero l = omega arith
-events-most bytes a (suc n) l = a .totals n l
-
 none-within : WithinLimits 0 []
 unfolding endToEnd
 none-within =
@@ -138,18 +134,20 @@ read-within bytes = go (isDone (judgedLog bytes)) refl
           number = omega (arith, a .traces, n);
           lengths = λ k l. omega (arith, trace-length bytes d k (omega arith), a .lengths k (omega arith));
           events =
-          omega
-          (arith,
-          ap length e,
-          length-drop (bodiesStart bytes) bytes,
-          a .whole,
-          events-most bytes a (tracesIn bytes) (omega arith));
+              omega (
+                arith,
+                ap length e,
+                length-drop (bodiesStart bytes) bytes,
+                a .whole,
+                events-most bytes (tracesIn bytes) (a .totals),
+              );
           below =
-          below-each (logOf bytes .activities) (logOf bytes .traces)
-          (ap (allBelow (logOf bytes .activities)) e
-          ∙ ap (λ (x : ℕ). allBelow x (drop (bodiesStart bytes) bytes)) (log-activities bytes d)
-          ∙ a .below);
+              below-each (logOf bytes .activities) (logOf bytes .traces)
+              (ap (allBelow (logOf bytes .activities)) e
+              ∙ ap (λ (x : ℕ). allBelow x (drop (bodiesStart bytes) bytes)) (log-activities bytes d)
+              ∙ a .below);
         }
+
     go : (t : Bool) → isDone (judgedLog bytes) ≡ t → WithinLimits (logOf bytes .activities) (logOf bytes .traces)
     go true e = given (done-is (judgedLog bytes) e)
     go false e = subst (λ (l : Log). WithinLimits (l .activities) (l .traces)) (sym (log-refused bytes e)) none-within

@@ -49,13 +49,14 @@ entry-at earlier (t ∷ ts) rest (suc k) l =
     let four = twoBytes earlier ++ twoBytes (length t) in
     let tail = entriesOf (earlier + length t) ts ++ rest in
     let i : entrySize * suc k ≡ 4 + entrySize * k = omega arith in
-    let j : entrySize * suc k + 2 ≡ 4 + (entrySize * k + 2) = omega arith in
-    (ap (numberAt (four ++ tail)) i
-    ∙ number-behind four tail (entrySize * k)
-    ∙ ih .0
-    ∙ add-assoc earlier (length t) (before ts k)
-    ∙ ap (λ (n : ℕ). earlier + n) (sym (length-append t (endToEnd (take k ts)))),
-    ap (numberAt (four ++ tail)) j ∙ number-behind four tail (entrySize * k + 2) ∙ ih .1)
+    let j : entrySize * suc k + 2 ≡ 4 + (entrySize * k + 2) = omega arith in (
+      ap (numberAt (four ++ tail)) i
+          ∙ number-behind four tail (entrySize * k)
+          ∙ ih .0
+          ∙ add-assoc earlier (length t) (before ts k)
+          ∙ ap (λ (n : ℕ). earlier + n) (sym (length-append t (endToEnd (take k ts)))),
+      ap (numberAt (four ++ tail)) j ∙ number-behind four tail (entrySize * k + 2) ∙ ih .1,
+    )
 
 before-next : (ts : List (List ℕ)) (k : ℕ) → k < length ts → before ts (suc k) ≡ before ts k + length (getD ts k [])
 unfolding endToEnd
@@ -136,8 +137,8 @@ module _ (a : ℕ) (ts : List (List ℕ)) where
 
   -- ---- it is accepted, and read back
 
-  before-most : WithinLimits a ts → (k : ℕ) → before ts k ≤ length (endToEnd ts)
-  before-most w k =
+  before-most : (k : ℕ) → before ts k ≤ length (endToEnd ts)
+  before-most k =
       let e = ap length (ap endToEnd (sym (take-append-drop k ts)) ∙ end-append (take k ts) (drop k ts)) in
       omega (arith, e, length-append (endToEnd (take k ts)) (endToEnd (drop k ts)))
 
@@ -152,20 +153,21 @@ module _ (a : ℕ) (ts : List (List ℕ)) where
         traces = omega (arith, w .number);
         lengths = λ k l. omega (arith, says-length k (omega arith), w .lengths k (omega arith));
         totals = λ k l.
-        omega
-        (arith,
-        says-events k (omega arith),
-        says-length k (omega arith),
-        before-next ts k (omega arith),
-        before-most w (suc k),
-        w .events);
+            omega (
+              arith,
+              says-events k (omega arith),
+              says-length k (omega arith),
+              before-next ts k (omega arith),
+              before-most (suc k),
+              w .events,
+            );
         offsets = λ k l. says-offset k (omega arith) ∙ sym (says-events k (omega arith));
         whole =
-        says-size
-        ∙ ap₂ (λ (x y : ℕ). x + y) (sym says-start)
-        (ap (λ (us : List (List ℕ)). length (endToEnd us)) (sym (take-length ts))
-        ∙ sym (says-events (length ts) (le-refl _))
-        ∙ ap (eventsBefore (logBytes a ts)) (sym n));
+            says-size
+            ∙ ap₂ (λ (x y : ℕ). x + y) (sym says-start)
+            (ap (λ (us : List (List ℕ)). length (endToEnd us)) (sym (take-length ts))
+            ∙ sym (says-events (length ts) (le-refl _))
+            ∙ ap (eventsBefore (logBytes a ts)) (sym n));
         below = ap₂ allBelow says-activities says-bodies ∙ below-all a ts (w .below);
       })
 

@@ -30,6 +30,10 @@ headSize = 6
 abbrev pub entrySize : ℕ
 entrySize = 4
 
+-- a log has at most this many bytes: 36,870
+abbrev pub longestLog : ℕ
+longestLog = headSize + entrySize * mostTraces + mostEvents
+
 -- the bytes open with these
 unfoldable pub opensWith : List ℕ → List ℕ → Bool
 opensWith [] bytes = true
