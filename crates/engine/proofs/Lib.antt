@@ -1,3 +1,5 @@
 -- The modules of `proofs/` that belong to no one function.
 pub mod Ways
 pub mod Judging
+pub mod Stepping
+pub mod Running
