@@ -3,3 +3,4 @@ pub mod Ways
 pub mod Judging
 pub mod Stepping
 pub mod Running
+pub mod Acceptable
