@@ -20,10 +20,11 @@ use Rattle.sets.proofs.Members.{those-e, within-e, within-i}
 use Rattle.sets.proofs.Below.{every-e}
 use Rattle.engine.specs.declared.marking.Marking.{Marking}
 use Rattle.engine.specs.declared.graph.Graph.{Graph}
+use Rattle.engine.specs.declared.step.Stepped.{Stepped}
 use Rattle.engine.specs.Relations.{Relations, relationsOf}
 use Rattle.engine.specs.Steps.{waits, enabled, after}
 use Rattle.engine.specs.Judged.{mostActivities, longestTrace, markingWithin, rowWithin, rowsWithin, relationsWithin, graphWithin, judgedFor, judged, judgedWith}
-use Rattle.engine.specs.Replay.{replayFrom, replayOf}
+use Rattle.engine.specs.Replay.{enabledOf, steppedOf, replayFrom, replayOf}
 
 -- ---- the parts of a chain of answers that is done
 
@@ -66,6 +67,16 @@ module _ (g : Graph) (h : judged g ≡ Done) where
   pub judged-with : (m : Marking) → T (markingWithin (g .events) m) → judgedWith g m ≡ Done
   unfolding judgedWith
   judged-with m w = λ j. when isDone (h j) then when T→true (markingWithin (g .events) m) w j then Done else Outside else h j
+
+  pub enabled-judged : (m : Marking) → T (markingWithin (g .events) m) → (e : ℕ) → enabledOf g m e ≡ enabled (g .events) (relationsOf g) m e
+  unfolding enabledOf
+  enabled-judged m w e = rw (judged-with m w)
+
+  pub stepped-judged : (m : Marking) → T (markingWithin (g .events) m) → (e : ℕ)
+      → steppedOf g m e ≡ record { answer = enabled (g .events) (relationsOf g) m e; marking = when isDone (enabled (g .events) (relationsOf g) m e) then after (relationsOf g) m e else m }
+  unfolding steppedOf
+  stepped-judged m w e j =
+      record { answer = enabled-judged m w e j; marking = when isDone (enabled-judged m w e j) then after (relationsOf g) m e else m }
 
   pub replay-judged : (trace : List ℕ) → length trace ≤ longestTrace
       → replayOf g trace ≡ replayFrom (g .events) (relationsOf g) (g .opening) 0 trace

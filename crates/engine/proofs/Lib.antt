@@ -4,3 +4,4 @@ pub mod Judging
 pub mod Stepping
 pub mod Running
 pub mod Acceptable
+pub mod Examples
