@@ -11,3 +11,4 @@ pub mod Traces
 pub mod Writing
 pub mod Bytes
 pub mod Long
+pub mod Examples

@@ -2,7 +2,7 @@
 use mathlib.Core.Path.{_≡_, refl, sym, ap, subst, _∙_}
 use mathlib.Core.Bool.{Bool, true, false}
 use mathlib.Core.List.{List, [], _++_, append-assoc, append-nil}
-use Prim.Native.Nat.{ℕ, zero, suc, _+_, _≤_, _<_}
+use Prim.Native.Nat.{ℕ, zero, suc, _+_, _-_, _≤_, _<_}
 use native.Mathlib.Nat.{not-suc-le-zero, le-of-suc-le-suc, add-zero, zero-add, add-suc, suc-add, add-assoc}
 use native.Mathlib.Omega.{arith}
 use borrow.Author.Tests.{ltb-false}
@@ -60,17 +60,17 @@ module _ (bytes : List ℕ) (d : judgedLog bytes ≡ Done) where
 -- ---- for callers: no log has to be judged again, and none has to be accepted
 
 -- a part is within the bytes, whatever they are, so a caller may always take it out of its slice
-pub part-within : (bytes : List ℕ) (k : ℕ) → partOf bytes k .start + partOf bytes k .length ≤ length bytes
+pub part-within : (bytes : List ℕ) (k : ℕ) (p : Part) → p ≡ partOf bytes k → p .start + p .length ≤ length bytes
 unfolding partOf wherePart
-part-within bytes k = outer (ltb k (tracesIn bytes))
+part-within bytes k p e = subst fits (sym e) (outer (ltb k (tracesIn bytes)))
   where
     fits : Part → Type 0
-    fits p = p .start + p .length ≤ length bytes
+    fits x = x .start + x .length ≤ length bytes
 
     inner : (t : Bool) → ltb (length bytes) (startAt bytes k + lengthAt bytes k) ≡ t
         → fits (when t then noPart else record { start = startAt bytes k; length = lengthAt bytes k })
-    inner true e = omega arith
-    inner false e = ltb-false (length bytes) (startAt bytes k + lengthAt bytes k) e
+    inner true h = omega arith
+    inner false h = ltb-false (length bytes) (startAt bytes k + lengthAt bytes k) h
 
     outer : (t : Bool) → fits (when t then wherePart bytes k else noPart)
     outer true = inner (ltb (length bytes) (startAt bytes k + lengthAt bytes k)) refl
@@ -92,6 +92,13 @@ part-trace bytes k p l e =
     let h : k < tracesIn bytes = omega (arith, traces-number bytes d) in
     ap (λ (x : Part). take (x .length) (drop (x .start) bytes)) (e ∙ part-there bytes k d h) ∙ sym (trace-is bytes d k h)
 
+-- the same, as a slice that ends at start + length has it
+pub part-slice : (bytes : List ℕ) (k : ℕ) (p : Part) → k < length (logOf bytes .traces) → p ≡ partOf bytes k
+    → take (p .start + p .length - p .start) (drop (p .start) bytes) ≡ getD (logOf bytes .traces) k []
+part-slice bytes k p l e =
+    let n : p .start + p .length - p .start ≡ p .length = omega arith in
+    ap (λ (m : ℕ). take m (drop (p .start) bytes)) n ∙ part-trace bytes k p l e
+
 -- what `find_trace` finds is trace k, within the bytes
 pub found-trace : (bytes : List ℕ) (k : ℕ) (f : Found) → f ≡ foundOf bytes k → f .answer ≡ Done
     → (f .start + f .length ≤ length bytes) × (take (f .length) (drop (f .start) bytes) ≡ getD (logOf bytes .traces) k [])
@@ -99,7 +106,7 @@ found-trace bytes k f e y =
     let r = found-part bytes k f e y in
     let p = partOf bytes k in
     let l : k < length (logOf bytes .traces) = omega (arith, traces-number bytes (r .0), r .1) in (
-      subst (λ (x : Found). x .start + x .length ≤ length bytes) (sym (r .2)) (part-within bytes k),
+      subst (λ (x : Found). x .start + x .length ≤ length bytes) (sym (r .2)) (part-within bytes k p refl),
       ap (λ (x : Found). take (x .length) (drop (x .start) bytes)) (r .2) ∙ part-trace bytes k p l refl,
     )
 
