@@ -8,6 +8,7 @@ pub mod Given
 pub mod Ends
 pub mod Finding
 pub mod Traces
+pub mod Each
 pub mod Writing
 pub mod Bytes
 pub mod Long

@@ -14,7 +14,7 @@ use Rattle.calllog.specs.Layout.{letters, mostActivities, mostTraces, lo
 abbrev pub thenAsk : Answer → Answer → Answer
 thenAsk a b = when isDone a then b else a
 
--- of n questions the first refusal, or done where there is none
+-- of the questions 0 to n - 1, asked in this order, the first refusal; done where there is none
 unfoldable pub firstRefusal : ℕ → (ℕ → Answer) → Answer
 firstRefusal zero ask = Done
 firstRefusal (suc n) ask = thenAsk (firstRefusal n ask) (ask n)

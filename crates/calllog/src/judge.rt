@@ -13,6 +13,7 @@ pub struct Judged {
     pub traces: usize,
 }
 
+// Judges any bytes.
 pub fn judge_log(bytes: &[u8]) -> Judged
     ensures { λ r. ⌜ r ≡ judgedOf (now (bytes .entry)) ⌝ }
 {

@@ -11,6 +11,13 @@ pub struct Part {
     pub length: usize,
 }
 
+impl Part {
+    pub const NONE: Part = Part {
+        start: 0,
+        length: 0,
+    };
+}
+
 // A trace that was asked for: the part of the bytes that it is; 0 and 0 where refused.
 pub struct Found {
     pub answer: Answer,
@@ -31,10 +38,7 @@ pub fn trace_part(bytes: &[u8], k: usize) -> Part
 {
     let traces = layout::traces(bytes);
     if traces as usize <= k {
-        return Part {
-            start: 0,
-            length: 0,
-        };
+        return Part::NONE;
     }
     entry_part(bytes, k as u16)
 }
@@ -46,10 +50,7 @@ fn entry_part(bytes: &[u8], k: u16) -> Part
     let start = layout::bodies_start(bytes) as usize + layout::offset(bytes, k) as usize;
     let length = layout::length(bytes, k) as usize;
     if bytes.len() < start + length {
-        return Part {
-            start: 0,
-            length: 0,
-        };
+        return Part::NONE;
     }
     Part { start, length }
 }
