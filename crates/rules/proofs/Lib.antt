@@ -1,0 +1,1 @@
+-- The modules of `proofs/` that belong to no one function.
