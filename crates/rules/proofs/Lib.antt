@@ -4,3 +4,5 @@ pub mod Why
 pub mod InTurn
 pub mod Acceptable
 pub mod Demand3
+pub mod Listed
+pub mod Cases
