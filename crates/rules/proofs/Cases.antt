@@ -17,7 +17,7 @@ use Rattle.rules.specs.Mining.{step1, step2, directlyAfter, step3, never
 use Rattle.rules.specs.Mined.{graphOf, minedGraph}
 use Rattle.rules.proofs.Listed.{Pair, _to_, setOf, listed, rows, Case, _gives_, mining, replaying, stepping, graph, ended, stepped, asked, wanted}
 
-pub L : Traces
+unfoldable pub L : Traces
 L = (0 ∷ 1 ∷ 2 ∷ []) ∷ (0 ∷ 2 ∷ []) ∷ []
 
 -- the graph of L as the listing has it: the pairs of C, R, I, E
@@ -30,7 +30,7 @@ listing =
     (0 to 0 ∷ 1 to 1 ∷ 2 to 1 ∷ 2 to 2 ∷ [])
 
 -- the same in numbers: each set, and each row of a relation from row 0, as the number that the graph file holds
-pub G : Graph
+unfoldable pub G : Graph
 G =
     record {
       activities = 3;
@@ -44,7 +44,16 @@ G =
 
 -- the graph of the paper's Table 3: eight events, no conditions; event 4 has response 2, include 2, exclude 7
 table3 : Graph
-table3 = listed 8 (0 ∷ 1 ∷ 2 ∷ 3 ∷ 4 ∷ 5 ∷ 6 ∷ 7 ∷ []) [] (4 to 2 ∷ []) (4 to 2 ∷ []) (4 to 7 ∷ [])
+table3 =
+    record {
+      activities = 8;
+      events = record { bits = 255 };
+      opening = markingOf noSet noSet (record { bits = 255 });
+      conditions = rows [];
+      responses = rows (0 ∷ 0 ∷ 0 ∷ 0 ∷ 4 ∷ []);
+      includes = rows (0 ∷ 0 ∷ 0 ∷ 0 ∷ 4 ∷ []);
+      excludes = rows (0 ∷ 0 ∷ 0 ∷ 0 ∷ 128 ∷ []);
+    }
 
 pub table : List Case
 table =

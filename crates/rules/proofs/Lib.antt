@@ -6,3 +6,5 @@ pub mod Acceptable
 pub mod Demand3
 pub mod Listed
 pub mod Cases
+pub mod Readings
+pub mod Slips

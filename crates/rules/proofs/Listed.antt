@@ -1,10 +1,10 @@
 -- Graphs, logs and results as 01 writes them down: a relation by its pairs, a set by its members. For the tables of worked cases.
 use mathlib.Core.Bool.{Bool, false}
-use mathlib.Core.List.{List, [], _∷_}
+use mathlib.Core.List.{List, [], _∷_, _++_}
 use Prim.Native.Nat.{ℕ}
 use lib.Dec.{eqb}
 use lib.ListN.{getD}
-use Rattle.sets.specs.Tests.{_and_, _or_}
+use Rattle.sets.specs.Tests.{_and_, _or_, when_then_else_}
 use Rattle.sets.specs.Members.{width, those}
 use Rattle.sets.specs.Rows.{Relation, listFrom, rowsOf}
 use Rattle.sets.specs.Answers.{numberOf}
@@ -20,6 +20,7 @@ use Rattle.rules.specs.Mined.{minedGraph}
 
 infix 80 _to_
 infix 75 _gives_
+infix 75 _are_
 -- a pair, source and target
 pub data Pair : Type 0 where
   _to_ : ℕ → ℕ → Pair
@@ -83,3 +84,28 @@ asked (q gives a) = answered q
 
 abbrev pub wanted : Case → Given
 wanted (q gives a) = a
+
+-- ---- a relation as the list of its pairs, rising by source, then target
+
+-- of the pairs with source s and a target among ts, those that stand
+abbrev pub targets : Relation → ℕ → List ℕ → List Pair
+targets r s [] = []
+targets r s (t ∷ ts) = when r s t then s to t ∷ targets r s ts else targets r s ts
+
+abbrev pub sources : Relation → List ℕ → List ℕ → List Pair
+sources r [] ts = []
+sources r (s ∷ ss) ts = targets r s ts ++ sources r ss ts
+
+-- the pairs of activities below A
+abbrev pub pairs : ℕ → Relation → List Pair
+pairs A r = sources r (listFrom A 0 (λ a. a)) (listFrom A 0 (λ a. a))
+
+-- a table of relations: the pairs found, and those meant
+pub data Claim : Type 0 where
+  _are_ : List Pair → List Pair → Claim
+
+abbrev pub found : Claim → List Pair
+found (ps are qs) = ps
+
+abbrev pub meant : Claim → List Pair
+meant (ps are qs) = qs
