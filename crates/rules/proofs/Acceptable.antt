@@ -1,27 +1,23 @@
 -- The mined graph of an accepted log is acceptable by the engine's own test: it is never refused with 3 or 5. Assumes nothing.
-use mathlib.Core.Path.{_≡_, refl, sym, ap, _∙_}
-use mathlib.Core.Bool.{Bool, true, false}
-use mathlib.Core.List.{List, List·Memᴰ}
+use mathlib.Core.Path.{_≡_}
+use mathlib.Core.Bool.{Bool, false}
 use Prim.Native.Nat.{ℕ, _<_, _≤_}
 use native.Mathlib.Omega.{arith}
 use borrow.Author.Tests.{le-ltb, lt-ltb}
-use lib.Dec.{T, ltb}
-use lib.ListN.{length}
-use Rattle.sets.specs.Tests.{_and_, _or_, non, when_then_else_}
+use lib.Dec.{T}
+use Rattle.sets.specs.Tests.{non}
 use Rattle.sets.specs.Members.{width, mem, those, isEmpty, within}
 use Rattle.sets.specs.Rows.{Relation, rowAt, inRow, rowsOf}
-use Rattle.sets.specs.declared.set.Set.{Set}
-use Rattle.sets.specs.declared.answer.Answer.{Answer}
-use Rattle.sets.specs.declared.answer.Answer.the-variants.{Done, AboveLimit, Outside}
-use Rattle.sets.proofs.Tests.{and-i, or-l, or-r, non-i, non-e, T-eq, T→true, true→T, F→false, split, either}
+use Rattle.sets.specs.declared.answer.Answer.the-variants.{Done}
+use Rattle.sets.proofs.Tests.{and-i, or-l, or-r, non-i, non-e, T-eq, true→T, F→false, split, either}
 use Rattle.sets.proofs.Bits.{bit-zero}
 use Rattle.sets.proofs.Below.{every-i}
 use Rattle.sets.proofs.Members.{those-i, those-e, within-i}
 use Rattle.sets.proofs.RowLaws.{in-rowsOf}
 use Rattle.engine.specs.Markings.{noSet}
 use Rattle.engine.specs.Judged.{mostActivities, longestTrace, markingWithin, rowsWithin, graphWithin, judgedFor, judged}
-use Rattle.rules.specs.Traces.{Traces, _has_}
-use Rattle.rules.specs.Mining.{event, mined}
+use Rattle.rules.specs.Traces.{Traces}
+use Rattle.rules.specs.Mining.{event}
 use Rattle.rules.specs.Mined.{graphOf, minedGraph}
 use Rattle.rules.specs.Replays.{Accepted}
 use Rattle.rules.proofs.Places.{some-trace}

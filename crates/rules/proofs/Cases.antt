@@ -2,7 +2,6 @@
 use mathlib.Core.Path.{_≡_, refl}
 use mathlib.Core.Bool.{true, false}
 use mathlib.Core.List.{List, [], _∷_, map}
-use Prim.Native.Nat.{ℕ}
 use Rattle.sets.specs.Tests.{_and_, _or_, non}
 use Rattle.sets.specs.Members.{bit, bitsOf, someBelow, everyBelow, isEmpty, within}
 use Rattle.sets.specs.Rows.{rowAt, inRow, listFrom, rowsOf}
@@ -15,7 +14,7 @@ use Rattle.rules.specs.Traces.{Traces, _has_, _beginsWith_, atEachFrom, 
 use Rattle.rules.specs.Mining.{noPair, noRelations, smallestSource, _without_, event, someEvent, _with_, atMostOnce, precedes, answers, chained, together, before, followed, between, alternates, beforeFirst}
 use Rattle.rules.specs.Mining.{step1, step2, directlyAfter, step3, neverTogether, step4, overAfter, step5, step6, step7, reduced, step8, includedAfter, neverMissed, step9, step10, afterFive, afterSeven, afterEight, mined}
 use Rattle.rules.specs.Mined.{graphOf, minedGraph}
-use Rattle.rules.proofs.Listed.{Pair, _to_, setOf, listed, rows, Case, _gives_, mining, replaying, stepping, graph, ended, stepped, asked, wanted}
+use Rattle.rules.proofs.Listed.{_to_, setOf, listed, rows, Case, _gives_, mining, replaying, stepping, graph, ended, stepped, asked, wanted}
 
 unfoldable pub L : Traces
 L = (0 ∷ 1 ∷ 2 ∷ []) ∷ (0 ∷ 2 ∷ []) ∷ []

@@ -6,13 +6,11 @@ use mathlib.Core.Logic.{_⊎_, inl, inr}
 use mathlib.Core.List.{List, [], _∷_, reverseAux, List·Memᴰ}
 use Prim.Native.Nat.{ℕ, suc, _+_, _<_, _≤_}
 use native.Mathlib.Nat.{add-zero, zero-add, lt-of-lt-of-le}
-use native.Mathlib.Numerals.{add-one}
 use native.Mathlib.Omega.{arith}
-use lib.Dec.{T, eqb, eqb-refl}
+use lib.Dec.{T, eqb}
 use lib.ListN.{length}
 use Rattle.sets.specs.Tests.{_and_, _or_, non, when_then_else_}
 use Rattle.sets.specs.Members.{width, bitsOf, mem, those}
-use Rattle.sets.specs.Rows.{inRow, rowsOf}
 use Rattle.sets.specs.Answers.{isDone}
 use Rattle.sets.specs.declared.set.Set.{Set}
 use Rattle.sets.specs.declared.answer.Answer.{Answer}
@@ -26,9 +24,9 @@ use Rattle.engine.specs.declared.marking.Marking.{Marking}
 use Rattle.engine.specs.declared.graph.Graph.{Graph}
 use Rattle.engine.specs.declared.replay.Replayed.{Replayed}
 use Rattle.engine.specs.Markings.{noSet, emptyMarking}
-use Rattle.engine.specs.Relations.{Relations, relationsOf}
+use Rattle.engine.specs.Relations.{relationsOf}
 use Rattle.engine.specs.Steps.{waits, enabled, after, accepting}
-use Rattle.engine.specs.Judged.{longestTrace, judgedFor}
+use Rattle.engine.specs.Judged.{longestTrace}
 use Rattle.engine.specs.Replay.{ending, replayFrom, replayOf}
 use Rattle.rules.specs.Traces.{Traces, _has_}
 use Rattle.rules.specs.Mining.{event, includedAfter, afterEight, mined, step9, step10}

@@ -3,10 +3,9 @@
 use mathlib.Core.Path.{_≡_, sym, subst}
 use mathlib.Core.List.{List, [], _∷_, reverseAux, List·Memᴰ}
 use Prim.Native.Nat.{ℕ, _<_}
-use lib.Dec.{T, eqb, eqb→eq, eqb-refl}
-use Rattle.sets.specs.Tests.{_and_, _or_, non}
+use lib.Dec.{T, eqb→eq, eqb-refl}
 use Rattle.sets.specs.Members.{width}
-use Rattle.sets.proofs.Tests.{and-l, and-r, and-i, or-e, or-l, or-r, non-i, non-e, split, either}
+use Rattle.sets.proofs.Tests.{and-r, and-i, or-e, or-l, or-r, non-i, non-e, split, either}
 use Rattle.rules.specs.Traces.{Traces, _has_, _beginsWith_}
 use Rattle.rules.specs.Mining.{event, atMostOnce, precedes, answers, chained, together, before, followed, between, directlyAfter, includedAfter, neverMissed, afterEight, mined}
 use Rattle.rules.proofs.Places.{each-at, some-at, has-first, has-rest, has-past, every-of, some-of}

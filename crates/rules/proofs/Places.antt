@@ -4,7 +4,7 @@ use mathlib.Core.Path.{refl, sym, subst}
 use mathlib.Core.Bool.{Bool}
 use mathlib.Core.List.{List, [], _∷_, reverseAux, List·Memᴰ, List·Memᴰ·head, List·Memᴰ·tail}
 use Prim.Native.Nat.{ℕ}
-use lib.Dec.{T, eqb, eqb-refl}
+use lib.Dec.{T, eqb-refl}
 use Rattle.sets.proofs.Tests.{and-l, and-r, and-i, or-e, or-l, or-r, imp-e, either}
 use Rattle.rules.specs.Traces.{Traces, _has_, atEachFrom, atEach, atSomeFrom, atSome, everyTrace, someTrace}
 

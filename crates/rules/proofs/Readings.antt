@@ -1,7 +1,6 @@
 -- Where the words of 01 allow more than one reading: logs on which the readings differ, and the pairs that the chosen reading gives. Those
 -- of steps 3 to 5 are told apart only before step 6. One table, computed by antt.
 use mathlib.Core.Path.{_≡_, refl}
-use mathlib.Core.Bool.{true, false}
 use mathlib.Core.List.{List, [], _∷_, map}
 use Prim.Native.Nat.{ℕ}
 use Rattle.sets.specs.Tests.{_and_, _or_, non}

@@ -1,7 +1,7 @@
 -- Slips that look right (01, the list of that name, those of mining): each as a definition of its own, beside the rule, on a log where the
 -- two differ. One table of pairs and one of replays, computed by antt.
 use mathlib.Core.Path.{_≡_, refl}
-use mathlib.Core.Bool.{Bool, true, false}
+use mathlib.Core.Bool.{Bool, false}
 use mathlib.Core.List.{List, [], _∷_, map}
 use Prim.Native.Nat.{ℕ}
 use lib.Dec.{eqb}

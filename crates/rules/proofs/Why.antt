@@ -3,14 +3,14 @@ use mathlib.Core.Path.{_≡_}
 use mathlib.Core.Bool.{Bool}
 use mathlib.Core.Logic.{_⊎_, inl, inr}
 use Prim.Native.Nat.{ℕ, _<_}
-use lib.Dec.{T, eqb, eqb→eq}
+use lib.Dec.{T, eqb→eq}
 use Rattle.sets.specs.Tests.{non}
 use Rattle.sets.specs.Members.{width}
 use Rattle.sets.specs.Rows.{Relation}
 use Rattle.sets.proofs.Tests.{and-l, and-r, and-i, or-e, or-l, or-r, either}
 use Rattle.sets.proofs.Below.{some-i, some-e}
 use Rattle.rules.specs.Traces.{Traces}
-use Rattle.rules.specs.Mining.{noPair, noRelations, smallestSource, _without_, event, someEvent, _with_, atMostOnce, precedes, answers, chained, together, before, followed, between}
+use Rattle.rules.specs.Mining.{noPair, noRelations, smallestSource, _without_, event, someEvent, _with_, atMostOnce, precedes, answers, together, before, followed, between}
 use Rattle.rules.specs.Mining.{step1, step2, directlyAfter, step3, neverTogether, step4, overAfter, step5, step6, step7, reduced, step8, neverMissed, step9, step10, afterFive, afterSeven, afterEight, mined}
 
 -- both are events
