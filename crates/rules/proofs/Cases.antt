@@ -12,7 +12,7 @@ use Rattle.engine.specs.Judged.{markingWithin, rowsWithin, graphWithin, judgedF
 use Rattle.engine.specs.Replay.{enabledOf, steppedOf, replayFrom, replayOf}
 use Rattle.rules.specs.Traces.{Traces, _has_, _beginsWith_, atEachFrom, atSomeFrom, everyTrace, someTrace}
 use Rattle.rules.specs.Mining.{noPair, noRelations, smallestSource, _without_, event, someEvent, _with_, atMostOnce, precedes, answers, chained, together, before, followed, between, alternates, beforeFirst}
-use Rattle.rules.specs.Mining.{step1, step2, directlyAfter, step3, neverTogether, step4, overAfter, step5, step6, step7, reduced, step8, includedAfter, neverMissed, step9, step10, afterFive, afterSeven, afterEight, mined}
+use Rattle.rules.specs.Mining.{step1, step2, directlyBefore, step3, neverTogether, step4, closes, step5, step6, step7, reduced, step8, includedAfter, neverMissed, step9, step10, afterFive, afterSeven, afterEight, mined}
 use Rattle.rules.specs.Mined.{graphOf, minedGraph}
 use Rattle.rules.proofs.Listed.{_to_, setOf, listed, rows, Case, _gives_, mining, replaying, stepping, graph, ended, stepped, asked, wanted}
 
@@ -80,6 +80,6 @@ unfolding table L listing G table3
     waits enabled after accepting markingWithin rowsWithin graphWithin judgedFor judgedWith enabledOf steppedOf replayFrom replayOf
     _has_ _beginsWith_ atEachFrom atSomeFrom everyTrace someTrace
     noPair noRelations smallestSource _without_ event someEvent _with_ atMostOnce precedes answers chained together before followed between alternates beforeFirst
-    step1 step2 directlyAfter step3 neverTogether step4 overAfter step5 step6 step7 reduced step8 includedAfter neverMissed step9 step10
+    step1 step2 directlyBefore step3 neverTogether step4 closes step5 step6 step7 reduced step8 includedAfter neverMissed step9 step10
     afterFive afterSeven afterEight mined graphOf minedGraph
 cases = refl

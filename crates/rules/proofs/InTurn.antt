@@ -7,7 +7,7 @@ use lib.Dec.{T, eqb→eq, eqb-refl}
 use Rattle.sets.specs.Members.{width}
 use Rattle.sets.proofs.Tests.{and-r, and-i, or-e, or-l, or-r, non-i, non-e, split, either}
 use Rattle.rules.specs.Traces.{Traces, _has_, _beginsWith_}
-use Rattle.rules.specs.Mining.{event, atMostOnce, precedes, answers, chained, together, before, followed, between, directlyAfter, includedAfter, neverMissed, afterEight, mined}
+use Rattle.rules.specs.Mining.{event, atMostOnce, precedes, answers, chained, together, before, followed, between, directlyBefore, includedAfter, neverMissed, afterEight, mined}
 use Rattle.rules.proofs.Places.{each-at, some-at, has-first, has-rest, has-past, every-of, some-of}
 use Rattle.rules.proofs.Why.{Events, Why, once, chain, apart, over, next, why-excludes, includes-between, includes-chain, why-response, why-condition}
 
@@ -46,13 +46,13 @@ module _ (L : Traces) where
     middle y h = some-of _ m (some-at x _ past (t ∷ rest) (and-i _ _ h (has-first t rest)))
 
     not-why : (Includes x t → ⊥) → (y : ℕ) → T ((x ∷ past) has y) → Why L y t → ⊥
-    unfolding atMostOnce chained together before directlyAfter _has_ _beginsWith_
+    unfolding atMostOnce chained together before directlyBefore _has_ _beginsWith_
     not-why ni y hy (once e o) =
         let o′ : T (atMostOnce L t) = subst (λ (z : ℕ). T (atMostOnce L z)) e o in
         non-e _ (each-at t _ (x ∷ past) rest (every-of _ m o′)) (subst (λ (z : ℕ). T ((x ∷ past) has z)) e hy)
     not-why ni y hy (chain e u c) =
         let ux : u ≡ x = eqb→eq u x (each-at t _ (x ∷ past) rest (every-of _ m (and-r _ _ c))) in
-        ni (includes-chain L x t events (subst (λ (z : ℕ). T (directlyAfter L z t)) ux c))
+        ni (includes-chain L x t events (subst (λ (z : ℕ). T (directlyBefore L z t)) ux c))
     not-why ni y hy (apart a) = non-e _ a (some-of _ m (and-i _ _ (earlier y hy) here))
     not-why ni y hy (over a) = non-e _ a (some-of _ m (some-at t _ (x ∷ past) rest hy))
     not-why ni y hy (next a) =

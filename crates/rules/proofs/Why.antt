@@ -11,7 +11,7 @@ use Rattle.sets.proofs.Tests.{and-l, and-r, and-i, or-e, or-l, or-r, either}
 use Rattle.sets.proofs.Below.{some-i, some-e}
 use Rattle.rules.specs.Traces.{Traces}
 use Rattle.rules.specs.Mining.{noPair, noRelations, smallestSource, _without_, event, someEvent, _with_, atMostOnce, precedes, answers, together, before, followed, between}
-use Rattle.rules.specs.Mining.{step1, step2, directlyAfter, step3, neverTogether, step4, overAfter, step5, step6, step7, reduced, step8, neverMissed, step9, step10, afterFive, afterSeven, afterEight, mined}
+use Rattle.rules.specs.Mining.{step1, step2, directlyBefore, step3, neverTogether, step4, closes, step5, step6, step7, reduced, step8, neverMissed, step9, step10, afterFive, afterSeven, afterEight, mined}
 
 -- both are events
 abbrev pub Events : Traces → ℕ → ℕ → Type 0
@@ -46,14 +46,14 @@ module _ (L : Traces) (p : ℕ → Bool) where
 -- by which step s came to exclude t
 pub data Why (L : Traces) (s t : ℕ) : Type 0 where
   once : s ≡ t → T (atMostOnce L s) → Why L s t
-  chain : s ≡ t → (u : ℕ) → T (directlyAfter L u t) → Why L s t
+  chain : s ≡ t → (u : ℕ) → T (directlyBefore L u t) → Why L s t
   apart : T (non (together L s t)) → Why L s t
   over : T (non (before L s t)) → Why L s t
   next : T (non (followed L s t)) → Why L s t
 
 module _ (L : Traces) (s t : ℕ) where
   pub why-excludes : T (afterEight L .excludes s t) → Why L s t
-  unfolding afterEight step8 afterSeven step7 _without_ step6 afterFive step5 step4 step3 step2 step1 noRelations noPair smallestSource neverTogether overAfter
+  unfolding afterEight step8 afterSeven step7 _without_ step6 afterFive step5 step4 step3 step2 step1 noRelations noPair smallestSource neverTogether closes
   why-excludes h =
       either (with-e L s t _ _ (and-l _ _ h))
       (λ a. either (with-e L s t _ _ a)
@@ -72,7 +72,7 @@ module _ (L : Traces) (s t : ℕ) where
   unfolding afterEight step8 afterSeven step7 step6
   includes-between e z l ez nf b = with-r L s t _ _ e (some-event L _ z l ez (and-i _ _ nf b))
 
-  pub includes-chain : Events L s t → T (directlyAfter L s t) → T (afterEight L .includes s t)
+  pub includes-chain : Events L s t → T (directlyBefore L s t) → T (afterEight L .includes s t)
   unfolding afterEight step8 afterSeven step7 step6 afterFive step5 step4 step3
   includes-chain e c = with-l L s t _ _ e (with-r L s t _ _ e c)
 
