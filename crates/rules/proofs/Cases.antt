@@ -2,6 +2,7 @@
 use mathlib.Core.Path.{_≡_, refl}
 use mathlib.Core.Bool.{true, false}
 use mathlib.Core.List.{List, [], _∷_, map}
+use Prim.Native.Nat.{ℕ}
 use Rattle.sets.specs.Tests.{_and_, _or_, non}
 use Rattle.sets.specs.Members.{bit, bitsOf, someBelow, everyBelow, isEmpty, within}
 use Rattle.sets.specs.Rows.{rowAt, inRow, listFrom, rowsOf}
@@ -10,14 +11,21 @@ use Rattle.engine.specs.Markings.{noSet, markingOf}
 use Rattle.engine.specs.Steps.{waits, enabled, after, accepting}
 use Rattle.engine.specs.Judged.{markingWithin, rowsWithin, graphWithin, judgedFor, judgedWith}
 use Rattle.engine.specs.Replay.{enabledOf, steppedOf, replayFrom, replayOf}
+use Rattle.calllog.specs.Layout.{opensWith, numberAt, activitiesIn, tracesIn, offsetAt, lengthAt, bodiesStart, eventsBefore}
+use Rattle.calllog.specs.Judged.{firstRefusal, allBelow, judgedHead, judgedEntry, judgedBodies, judgedContents, judgedLog}
+use Rattle.calllog.specs.Logs.{tracesFrom, logOf}
 use Rattle.rules.specs.Traces.{Traces, _has_, _beginsWith_, atEachFrom, atSomeFrom, everyTrace, someTrace}
 use Rattle.rules.specs.Mining.{noPair, noRelations, smallestSource, _without_, event, someEvent, _with_, atMostOnce, precedes, answers, chained, together, before, followed, between, alternates, beforeFirst}
 use Rattle.rules.specs.Mining.{step1, step2, directlyBefore, step3, neverTogether, step4, closes, step5, step6, step7, reduced, step8, includedAfter, neverMissed, step9, step10, afterFive, afterSeven, afterEight, mined}
 use Rattle.rules.specs.Mined.{graphOf, minedGraph}
-use Rattle.rules.proofs.Listed.{_to_, setOf, listed, rows, Case, _gives_, mining, replaying, stepping, graph, ended, stepped, asked, wanted}
+use Rattle.rules.proofs.Listed.{_to_, setOf, listed, rows, Case, _gives_, reading, mining, replaying, stepping, log, graph, ended, stepped, asked, wanted}
 
+-- the log L, and all bytes of its file
 unfoldable pub L : Traces
 L = (0 ∷ 1 ∷ 2 ∷ []) ∷ (0 ∷ 2 ∷ []) ∷ []
+
+file : List ℕ
+file = 66 ∷ 76 ∷ 1 ∷ 3 ∷ 2 ∷ 0 ∷ 0 ∷ 0 ∷ 3 ∷ 0 ∷ 3 ∷ 0 ∷ 2 ∷ 0 ∷ 0 ∷ 1 ∷ 2 ∷ 0 ∷ 2 ∷ []
 
 -- the graph of L as the listing has it: the pairs of C, R, I, E
 listing : Graph
@@ -56,7 +64,8 @@ table3 =
 
 pub table : List Case
 table =
-    mining 3 L gives graph listing
+    reading file gives log 0 3 L
+    ∷ mining 3 L gives graph listing
     ∷ mining 3 L gives graph G
     ∷ replaying G (0 ∷ 1 ∷ 2 ∷ []) gives ended 0 3 true
     ∷ replaying G (0 ∷ 2 ∷ []) gives ended 0 2 true
@@ -75,9 +84,11 @@ table =
 
 -- THE THEOREM
 pub cases : map asked table ≡ map wanted table
-unfolding table L listing G table3
+unfolding table file L listing G table3
     _and_ _or_ non bit bitsOf someBelow everyBelow isEmpty within rowAt inRow listFrom rowsOf
     waits enabled after accepting markingWithin rowsWithin graphWithin judgedFor judgedWith enabledOf steppedOf replayFrom replayOf
+    opensWith numberAt activitiesIn tracesIn offsetAt lengthAt bodiesStart eventsBefore
+    firstRefusal allBelow judgedHead judgedEntry judgedBodies judgedContents judgedLog tracesFrom logOf
     _has_ _beginsWith_ atEachFrom atSomeFrom everyTrace someTrace
     noPair noRelations smallestSource _without_ event someEvent _with_ atMostOnce precedes answers chained together before followed between alternates beforeFirst
     step1 step2 directlyBefore step3 neverTogether step4 closes step5 step6 step7 reduced step8 includedAfter neverMissed step9 step10

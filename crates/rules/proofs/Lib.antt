@@ -8,3 +8,4 @@ pub mod Listed
 pub mod Cases
 pub mod Readings
 pub mod Slips
+pub mod FromFile

@@ -15,6 +15,7 @@ use Rattle.engine.specs.declared.step.Stepped.{Stepped}
 use Rattle.engine.specs.declared.replay.Replayed.{Replayed}
 use Rattle.engine.specs.Markings.{markingOf}
 use Rattle.engine.specs.Replay.{replayOf, steppedOf}
+use Rattle.calllog.specs.Logs.{logOf}
 use Rattle.rules.specs.Traces.{Traces, _has_}
 use Rattle.rules.specs.Mined.{minedGraph}
 
@@ -54,11 +55,14 @@ rows xs = listFrom width 0 (λ a. getD xs a 0)
 -- ---- a table: what is asked, and what it gives
 
 pub data Asked : Type 0 where
+  reading : List ℕ → Asked
   mining : ℕ → Traces → Asked
   replaying : Graph → List ℕ → Asked
   stepping : Graph → Marking → ℕ → Asked
 
 pub data Given : Type 0 where
+  -- the number, A, and the traces
+  log : ℕ → ℕ → Traces → Given
   graph : Graph → Given
   -- the number, the place, and accepting
   ended : ℕ → ℕ → Bool → Given
@@ -72,6 +76,7 @@ abbrev pub step : Stepped → Given
 step r = stepped (numberOf (r .answer)) (r .marking)
 
 abbrev pub answered : Asked → Given
+answered (reading bytes) = log (numberOf (logOf bytes .answer)) (logOf bytes .activities) (logOf bytes .traces)
 answered (mining A L) = graph (minedGraph A L)
 answered (replaying g σ) = end (replayOf g σ)
 answered (stepping g m e) = step (steppedOf g m e)
