@@ -5,20 +5,21 @@ use mathlib.Core.List.{List, [], _∷_, map}
 use Prim.Native.Nat.{ℕ}
 use Rattle.sets.specs.Tests.{_and_, _or_, non}
 use Rattle.sets.specs.Members.{bit, bitsOf, someBelow, everyBelow, isEmpty, within}
-use Rattle.sets.specs.Rows.{rowAt, inRow, listFrom, rowsOf}
+use Rattle.sets.specs.Rows.{rowAt, withRow, inRow, listFrom, rowsOf}
 use Rattle.engine.specs.declared.graph.Graph.{Graph}
 use Rattle.engine.specs.Markings.{noSet, markingOf}
 use Rattle.engine.specs.Steps.{waits, enabled, after, accepting}
-use Rattle.engine.specs.Judged.{markingWithin, rowsWithin, graphWithin, judgedFor, judgedWith}
+use Rattle.engine.specs.Judged.{markingWithin, rowWithin, rowsWithin, relationsWithin, graphWithin, judgedFor, judgedWith}
 use Rattle.engine.specs.Replay.{enabledOf, steppedOf, replayFrom, replayOf}
+use Rattle.engine.proofs.Examples.{table3, table3-before, table3-after}
 use Rattle.calllog.specs.Layout.{opensWith, numberAt, activitiesIn, tracesIn, offsetAt, lengthAt, bodiesStart, eventsBefore}
 use Rattle.calllog.specs.Judged.{firstRefusal, allBelow, judgedHead, judgedEntry, judgedBodies, judgedContents, judgedLog}
 use Rattle.calllog.specs.Logs.{tracesFrom, logOf}
 use Rattle.rules.specs.Traces.{Traces, _has_, _beginsWith_, atEachFrom, atSomeFrom, everyTrace, someTrace}
 use Rattle.rules.specs.Mining.{noPair, noRelations, smallestSource, _without_, event, someEvent, _with_, atMostOnce, precedes, answers, chained, together, before, followed, between, alternates, beforeFirst}
 use Rattle.rules.specs.Mining.{step1, step2, directlyBefore, step3, neverTogether, step4, closes, step5, step6, step7, reduced, step8, includedAfter, neverMissed, step9, step10, afterFive, afterSeven, afterEight, mined}
-use Rattle.rules.specs.Mined.{graphOf, minedGraph}
-use Rattle.rules.proofs.Listed.{_to_, setOf, listed, rows, Case, _gives_, reading, mining, replaying, stepping, log, graph, ended, stepped, asked, wanted}
+use Rattle.rules.specs.Mined.{graphFrom, minedGraph}
+use Rattle.rules.proofs.Listed.{_to_, listed, rows, Case, _gives_, reading, mining, replaying, stepping, log, graph, ended, stepped, asked, wanted}
 
 -- the log L, and all bytes of its file
 unfoldable pub L : Traces
@@ -49,19 +50,6 @@ G =
       excludes = rows (1 ∷ 2 ∷ 6 ∷ []);
     }
 
--- the graph of the paper's Table 3: eight events, no conditions; event 4 has response 2, include 2, exclude 7
-table3 : Graph
-table3 =
-    record {
-      activities = 8;
-      events = record { bits = 255 };
-      opening = markingOf noSet noSet (record { bits = 255 });
-      conditions = rows [];
-      responses = rows (0 ∷ 0 ∷ 0 ∷ 0 ∷ 4 ∷ []);
-      includes = rows (0 ∷ 0 ∷ 0 ∷ 0 ∷ 4 ∷ []);
-      excludes = rows (0 ∷ 0 ∷ 0 ∷ 0 ∷ 128 ∷ []);
-    }
-
 pub table : List Case
 table =
     reading file gives log 0 3 L
@@ -78,19 +66,18 @@ table =
     ∷ mining 2 ((0 ∷ 1 ∷ 0 ∷ []) ∷ []) gives graph (listed 2 (0 ∷ 1 ∷ []) (0 to 1 ∷ []) (1 to 0 ∷ []) (0 to 1 ∷ 1 to 0 ∷ []) (0 to 0 ∷ 1 to 1 ∷ []))
     ∷ mining 2 ((0 ∷ []) ∷ (1 ∷ []) ∷ []) gives graph (listed 2 (0 ∷ 1 ∷ []) [] [] [] (0 to 0 ∷ 0 to 1 ∷ 1 to 0 ∷ 1 to 1 ∷ []))
     ∷ mining 1 ((0 ∷ 0 ∷ []) ∷ []) gives graph (listed 1 (0 ∷ []) [] [] [] [])
-    ∷ stepping table3 (markingOf (setOf (0 ∷ [])) (setOf (1 ∷ 4 ∷ [])) (setOf (1 ∷ 4 ∷ 7 ∷ []))) 4
-    gives stepped 0 (markingOf (setOf (0 ∷ 4 ∷ [])) (setOf (1 ∷ 2 ∷ [])) (setOf (1 ∷ 2 ∷ 4 ∷ [])))
+    ∷ stepping table3 table3-before 4 gives stepped 0 table3-after
     ∷ []
 
 -- THE THEOREM
 pub cases : map asked table ≡ map wanted table
-unfolding table file L listing G table3
-    _and_ _or_ non bit bitsOf someBelow everyBelow isEmpty within rowAt inRow listFrom rowsOf
-    waits enabled after accepting markingWithin rowsWithin graphWithin judgedFor judgedWith enabledOf steppedOf replayFrom replayOf
+unfolding table file L listing G
+    _and_ _or_ non bit bitsOf someBelow everyBelow isEmpty within rowAt withRow inRow listFrom rowsOf
+    waits enabled after accepting markingWithin rowWithin rowsWithin relationsWithin graphWithin judgedFor judgedWith enabledOf steppedOf replayFrom replayOf
     opensWith numberAt activitiesIn tracesIn offsetAt lengthAt bodiesStart eventsBefore
     firstRefusal allBelow judgedHead judgedEntry judgedBodies judgedContents judgedLog tracesFrom logOf
     _has_ _beginsWith_ atEachFrom atSomeFrom everyTrace someTrace
     noPair noRelations smallestSource _without_ event someEvent _with_ atMostOnce precedes answers chained together before followed between alternates beforeFirst
     step1 step2 directlyBefore step3 neverTogether step4 closes step5 step6 step7 reduced step8 includedAfter neverMissed step9 step10
-    afterFive afterSeven afterEight mined graphOf minedGraph
+    afterFive afterSeven afterEight mined graphFrom minedGraph
 cases = refl

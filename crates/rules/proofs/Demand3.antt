@@ -23,18 +23,19 @@ use Rattle.sets.proofs.RowLaws.{in-rowsOf}
 use Rattle.engine.specs.declared.marking.Marking.{Marking}
 use Rattle.engine.specs.declared.graph.Graph.{Graph}
 use Rattle.engine.specs.declared.replay.Replayed.{Replayed}
-use Rattle.engine.specs.Markings.{noSet, emptyMarking}
+use Rattle.engine.specs.Markings.{noSet}
 use Rattle.engine.specs.Relations.{relationsOf}
 use Rattle.engine.specs.Steps.{waits, enabled, after, accepting}
 use Rattle.engine.specs.Judged.{longestTrace}
-use Rattle.engine.specs.Replay.{ending, replayFrom, replayOf}
+use Rattle.engine.specs.Replay.{ending, replayFrom}
+use Rattle.engine.proofs.Acceptable.{replay-judged}
 use Rattle.rules.specs.Traces.{Traces, _has_}
 use Rattle.rules.specs.Mining.{event, includedAfter, afterEight, mined, step9, step10}
-use Rattle.rules.specs.Mined.{graphOf, minedGraph}
+use Rattle.rules.specs.Mined.{graphFrom, minedGraph}
 use Rattle.rules.specs.Replays.{Accepted, Replays}
 use Rattle.rules.proofs.Places.{has-first, has-rest}
 use Rattle.rules.proofs.InTurn.{Small, is-event, included-here, condition-here, response-here}
-use Rattle.rules.proofs.Acceptable.{passed, acceptable-for}
+use Rattle.rules.proofs.Acceptable.{passed, acceptable}
 
 -- the marking m between past and rest: executed is what stands in the past, included is what step 9 found, and what is pending stands in
 -- the rest
@@ -76,7 +77,7 @@ module _ (A : ℕ) (L : Traces) where
   G = minedGraph A L
 
   opens : (σ : List ℕ) → Marks L [] σ (G .opening)
-  unfolding minedGraph graphOf includedAfter _has_
+  unfolding minedGraph graphFrom includedAfter _has_
   opens σ =
       record {
         ran = λ a l. bit-zero a;
@@ -93,14 +94,14 @@ module _ (A : ℕ) (L : Traces) where
     low = small _ here e (has-rest e past (e ∷ rest) (has-first e rest))
 
     an-event : T (mem (G .events) e)
-    unfolding minedGraph graphOf
+    unfolding minedGraph graphFrom
     an-event = those-i (event L) e low (is-event L e here (has-rest e past (e ∷ rest) (has-first e rest)))
 
     is-included : T (mem (m .included) e)
     is-included = T-eq (sym (f .open-now e low)) (included-here L small e past rest here)
 
     not-waiting : T (waits (relationsOf G) m e) → ⊥
-    unfolding waits minedGraph graphOf
+    unfolding waits minedGraph graphFrom
     not-waiting w =
         let r = some-e width _ w in
         let s : ℕ = r .0 in
@@ -116,7 +117,7 @@ module _ (A : ℕ) (L : Traces) where
     pending-next a = mem (m .pending) a and non (eqb a e) or relationsOf G .responses e a
 
     comes : (a : ℕ) → a < width → T (pending-next a) → T (rest has a)
-    unfolding pending-next minedGraph graphOf _has_
+    unfolding pending-next minedGraph graphFrom _has_
     comes a l t =
         either (or-e _ _ t)
         (λ p. either (or-e _ _ (f .later a l (T-eq (ap (λ (s : Set). mem s a) (f .pends) ∙ mem-those (f .due) a l) (and-l _ _ p))))
@@ -125,7 +126,7 @@ module _ (A : ℕ) (L : Traces) where
         (λ q. response-here L e a past rest here (T-eq (in-rowsOf (mined L .responses) e a low l) q))
 
     steps : Marks L (e ∷ past) rest (after (relationsOf G) m e)
-    unfolding after pending-next minedGraph graphOf includedAfter mined step10 step9 _has_
+    unfolding after pending-next minedGraph graphFrom includedAfter mined step10 step9 _has_
     steps =
         record {
           ran = λ a l. mem-those _ a l ∙ or-swap _ _ ∙ ap (λ (b : Bool). eqb a e or b) (f .ran a l);
@@ -158,11 +159,8 @@ module _ (A : ℕ) (L : Traces) where
 
   -- the engine takes the graph, and then replays
   replays : Accepted A L → (σ : List ℕ) → length σ ≤ longestTrace → Through (length σ) (replayFrom (G .events) (relationsOf G) (G .opening) 0 σ) → Replays G σ
-  unfolding replayOf
   replays ok σ l t =
-      let taken : replayOf G σ ≡ replayFrom (G .events) (relationsOf G) (G .opening) 0 σ =
-      ap (λ (a : Answer). when isDone a then replayFrom (G .events) (relationsOf G) (G .opening) 0 σ else ending a 0 emptyMarking false)
-      (acceptable-for A L ok (length σ) l) in
+      let taken = replay-judged G (acceptable A L ok) σ l in
       record {
         done = ap (λ (r : Replayed). r .answer) taken ∙ t .done;
         whole = ap (λ (r : Replayed). r .place .0) taken ∙ t .whole;
