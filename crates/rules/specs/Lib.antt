@@ -1,0 +1,4 @@
+pub mod Traces
+pub mod Mining
+pub mod Mined
+pub mod Replays
