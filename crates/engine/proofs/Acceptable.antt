@@ -1,12 +1,11 @@
 -- What an acceptable graph gives the crates above: its parts are within the events, a step keeps a marking there, and what
 -- is judged once need not be judged again. Assumes nothing.
-use mathlib.Core.Path.{_≡_, refl, sym, ap, subst, _∙_}
+use mathlib.Core.Path.{_≡_, refl, sym, ap, subst}
 use mathlib.Core.Bool.{Bool, true, false}
 use mathlib.Core.List.{List}
 use Prim.Native.Nat.{ℕ, _≤_, _<_}
-use native.Mathlib.Omega.{arith}
 use borrow.Author.Tests.{ltb-false, le-ltb}
-use lib.Dec.{T, eqb, ltb, eqb→eq}
+use lib.Dec.{T, ltb, eqb→eq}
 use lib.ListN.{length}
 use Rattle.sets.specs.Tests.{_and_, _or_, non, when_then_else_}
 use Rattle.sets.specs.Members.{width, mem, those, within}
@@ -15,12 +14,11 @@ use Rattle.sets.specs.Answers.{isDone}
 use Rattle.sets.specs.declared.set.Set.{Set}
 use Rattle.sets.specs.declared.answer.Answer.{Answer}
 use Rattle.sets.specs.declared.answer.Answer.the-variants.{Done, AboveLimit, Outside, NoEvent, NotIncluded, Waiting}
-use Rattle.sets.proofs.Tests.{and-l, and-r, and-i, or-e, non-e, T→true, F→false, non-false, true→T, false→F, split, either}
+use Rattle.sets.proofs.Tests.{and-l, and-r, and-i, or-e, T→true, F→false, non-false, true→T, false→F, either}
 use Rattle.sets.proofs.Members.{those-e, within-e, within-i}
 use Rattle.sets.proofs.Below.{every-e}
 use Rattle.engine.specs.declared.marking.Marking.{Marking}
 use Rattle.engine.specs.declared.graph.Graph.{Graph}
-use Rattle.engine.specs.declared.step.Stepped.{Stepped}
 use Rattle.engine.specs.Relations.{Relations, relationsOf}
 use Rattle.engine.specs.Steps.{waits, enabled, after}
 use Rattle.engine.specs.Judged.{mostActivities, longestTrace, markingWithin, rowWithin, rowsWithin, relationsWithin, graphWithin, judgedFor, judged, judgedWith}

@@ -1,6 +1,6 @@
 -- Worked examples of the source paper (document 002), computed: its Table 3, and the graph a, b, c, d of the example that
 -- stands after Definition 3, at the end of its section 3. Assumes nothing.
-use mathlib.Core.Path.{_≡_, refl, _∙_}
+use mathlib.Core.Path.{_≡_, refl}
 use mathlib.Core.Bool.{Bool, true, false}
 use mathlib.Core.List.{List, [], _∷_}
 use Prim.Native.Nat.{ℕ, _+_, _*_}
@@ -13,7 +13,6 @@ use Rattle.sets.specs.declared.answer.Answer.{Answer}
 use Rattle.sets.specs.declared.answer.Answer.the-variants.{Done, NotIncluded, Waiting}
 use Rattle.engine.specs.declared.marking.Marking.{Marking}
 use Rattle.engine.specs.declared.graph.Graph.{Graph}
-use Rattle.engine.specs.declared.step.Stepped.{Stepped}
 use Rattle.engine.specs.Markings.{markingOf}
 use Rattle.engine.specs.Relations.{graphOf}
 use Rattle.engine.specs.Steps.{waits, enabled, after, accepting}

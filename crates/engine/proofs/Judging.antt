@@ -1,12 +1,12 @@
 -- The rows of a relation, judged one after the other. Assumes nothing.
-use mathlib.Core.Path.{_≡_, refl, sym, ap, subst, _∙_}
+use mathlib.Core.Path.{_≡_, sym, ap, _∙_}
 use mathlib.Core.Bool.{Bool, true, false, not}
 use mathlib.Core.List.{List}
 use Prim.Native.Nat.{ℕ, _+_, _≤_, _<_}
 use native.Mathlib.Omega.{arith}
 use borrow.Author.Count.{below-more}
 use lib.Dec.{T}
-use Rattle.sets.specs.Members.{width, everyBelow, those, within}
+use Rattle.sets.specs.Members.{width, those, within}
 use Rattle.sets.specs.Rows.{rowAt}
 use Rattle.sets.specs.declared.set.Set.{Set}
 use Rattle.sets.proofs.Tests.{T→true, true→T, F→false, false→F}

@@ -1,7 +1,7 @@
 -- The answers of the public functions, and a replay one event further. Assumes nothing.
 use mathlib.Core.Path.{_≡_, refl, sym, ap, _∙_}
 use mathlib.Core.Bool.{Bool, true, false, not}
-use mathlib.Core.List.{List, [], _∷_}
+use mathlib.Core.List.{List}
 use Prim.Native.Nat.{ℕ, suc, _+_, _≤_, _<_}
 use native.Mathlib.Numerals.{add-one}
 use lib.ListN.{length, getD, drop, drop-of-length-le}
@@ -18,7 +18,7 @@ use Rattle.engine.specs.declared.step.Stepped.{Stepped}
 use Rattle.engine.specs.declared.step.Verdict.{Verdict}
 use Rattle.engine.specs.declared.replay.Replayed.{Replayed}
 use Rattle.engine.specs.Markings.{emptyMarking}
-use Rattle.engine.specs.Relations.{Relations, inRows, relationsOf}
+use Rattle.engine.specs.Relations.{inRows, relationsOf}
 use Rattle.engine.specs.Steps.{enabled, after, accepting}
 use Rattle.engine.specs.Judged.{judgedFor, judgedWith}
 use Rattle.engine.specs.Replay.{enabledOf, steppedOf, acceptingOf, ending, replayFrom, replayOf}

@@ -5,7 +5,6 @@ use Prim.Native.Nat.{ℕ, _+_}
 use lib.ListN.{length}
 use Rattle.sets.specs.Tests.{_and_, when_then_else_}
 use Rattle.sets.specs.Answers.{isDone}
-use Rattle.sets.specs.declared.activity.Place.{Place}
 use Rattle.sets.specs.declared.set.Set.{Set}
 use Rattle.sets.specs.declared.answer.Answer.{Answer}
 use Rattle.sets.specs.declared.answer.Answer.the-variants.{Done}

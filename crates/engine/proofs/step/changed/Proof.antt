@@ -10,7 +10,7 @@ union-requires : tie.Need-union-requires
 union-requires c κs = search needs
 
 returns : tie.Need-returns
-returns c = changed-by _ _ _ _ _ (c .before .difference .ensures) (c .union .ensures)
+returns c = let a = c .before .before .args in search (changed-by (a .s) (a .lost) (a .gained), needs)
 
 pub changed-spec : {M : Type 1} → statement M
 changed-spec = tie.close (tie.spec difference-requires union-requires returns)

@@ -18,7 +18,8 @@ next-requires c κs = search needs
 returns-2 : tie.Need-returns-2
 returns-2 c =
     let asked = c .before .before .before .before .before in
-    step-done _ _ _ _ (asked .before .is-done .ensures) _ _ (asked .before .before .ask-judged .ensures) (asked .if1 .left) (c .next .ensures)
+    let args = c .before .before .before .before .before .before .before .before .before .before .before .before .before .before .before .args in
+    step-done (args .t1) (args .m) _ _ (asked .before .is-done .ensures) _ _ (asked .before .before .ask-judged .ensures) (asked .if1 .left) (c .next .ensures)
 
 pub step-spec : {M : Type 1} → statement M
 step-spec = tie.close (tie.spec ask-judged-requires is-done-requires returns next-requires returns-2)
