@@ -1,0 +1,72 @@
+-- One turn of a pass over a trace: what stands before place i, the set of it, and what the row of the event gains. Assumes nothing.
+use mathlib.Core.Path.{_≡_, refl, sym, ap, _∙_}
+use mathlib.Core.Bool.{Bool, true, false}
+use mathlib.Core.List.{List, [], _∷_, _++_, reverseAux}
+use Prim.Native.Nat.{ℕ, suc, _+_, _≤_, _<_}
+use native.Mathlib.Numerals.{add-one}
+use lib.Dec.{eqb}
+use lib.ListN.{length, getD, take, drop, drop-of-length-le}
+use lib.Seq.{take-suc, drop-cons}
+use Rattle.sets.specs.Tests.{_and_, _or_}
+use Rattle.sets.specs.Members.{width, mem, those}
+use Rattle.sets.specs.Rows.{rowAt, withRow}
+use Rattle.sets.specs.declared.set.Set.{Set}
+use Rattle.sets.proofs.Members.{those-ext, those-of, mem-those}
+use Rattle.rules.specs.Traces.{_has_}
+use Rattle.miner.specs.Passes.{Fact, gains, forward, precededBy}
+
+-- what stands before place i, the nearest first
+abbrev pub pastAt : List ℕ → ℕ → List ℕ
+pastAt σ i = reverseAux (take i σ) []
+
+past-snoc : (xs : List ℕ) (x : ℕ) (ys : List ℕ) → reverseAux (xs ++ x ∷ []) ys ≡ x ∷ reverseAux xs ys
+past-snoc [] x ys = refl
+past-snoc (z ∷ xs) x ys = past-snoc xs x (z ∷ ys)
+
+pub past-next : (σ : List ℕ) (i : ℕ) → i < length σ → pastAt σ (i + 1) ≡ getD σ i 0 ∷ pastAt σ i
+past-next σ i h =
+    ap (λ (n : ℕ). pastAt σ n) (add-one i) ∙ ap (λ (l : List ℕ). reverseAux l []) (take-suc σ i 0 h) ∙ past-snoc (take i σ) (getD σ i 0) []
+
+pub rest-next : (σ : List ℕ) (i : ℕ) → i < length σ → drop i σ ≡ getD σ i 0 ∷ drop (i + 1) σ
+rest-next σ i h = drop-cons σ i 0 h ∙ ap (λ (n : ℕ). getD σ i 0 ∷ drop n σ) (sym (add-one i))
+
+-- the set of what stands in a list
+abbrev pub seenIn : List ℕ → Set
+seenIn past = those (λ x. past has x)
+
+or-comm : (a b : Bool) → (a or b) ≡ (b or a)
+unfolding _or_
+or-comm true true = refl
+or-comm true false = refl
+or-comm false true = refl
+or-comm false false = refl
+
+-- a set of what was seen gains an event
+pub seen-more : (past : List ℕ) (e : ℕ) (seen one seen′ : Set) → seen ≡ seenIn past → one ≡ those (λ b. eqb b e)
+    → seen′ ≡ those (λ a. mem seen a or mem one a) → seen′ ≡ seenIn (e ∷ past)
+unfolding _has_
+seen-more past e seen one seen′ hs ho hu =
+    hu ∙ those-of one (λ b. eqb b e) (λ a t. mem seen a or t) ho ∙ those-of seen (λ x. past has x) (λ a t. t or eqb a e) hs
+    ∙ those-ext (λ a. past has a or eqb a e) (λ a. (e ∷ past) has a) (λ a l. or-comm (past has a) (eqb a e))
+
+-- the row of the event gains a set that is the fact's
+pub gains-by : (p : Fact) (rows : List ℕ) (e : ℕ) (past rest : List ℕ) (s : Set) (rows′ : List ℕ) → s ≡ those (p e past rest)
+    → rows′ ≡ withRow rows e (those (λ b. mem (rowAt rows e) b or mem s b)) → rows′ ≡ gains p rows e past rest
+unfolding gains
+gains-by p rows e past rest s rows′ hs h =
+    h ∙ ap (withRow rows e) (those-of s (p e past rest) (λ b t. mem (rowAt rows e) b or t) hs)
+
+-- the forward loop: before the first turn, one turn further, after the last
+module _ (p : Fact) (σ all : List ℕ) where
+  pub forward-next : (i : ℕ) (rows rows′ : List ℕ) → i < length σ → rows′ ≡ gains p rows (getD σ i 0) (pastAt σ i) (drop (i + 1) σ)
+      → forward p rows (pastAt σ i) (drop i σ) ≡ all → forward p rows′ (pastAt σ (i + 1)) (drop (i + 1) σ) ≡ all
+  unfolding forward
+  forward-next i rows rows′ h hr inv =
+      ap (λ (l : List ℕ). forward p rows′ l (drop (i + 1) σ)) (past-next σ i h)
+      ∙ ap (λ (r : List ℕ). forward p r (getD σ i 0 ∷ pastAt σ i) (drop (i + 1) σ)) hr
+      ∙ ap (forward p rows (pastAt σ i)) (sym (rest-next σ i h))
+      ∙ inv
+
+  pub forward-end : (i : ℕ) (rows : List ℕ) → length σ ≤ i → forward p rows (pastAt σ i) (drop i σ) ≡ all → rows ≡ all
+  unfolding forward
+  forward-end i rows h inv = ap (forward p rows (pastAt σ i)) (sym (drop-of-length-le σ h)) ∙ inv

@@ -1,0 +1,5 @@
+// The miner: from the bytes of a log to its graph, in passes linear in the events.
+mod passes;
+mod tally;
+
+pub use tally::Tally;
