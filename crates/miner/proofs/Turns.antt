@@ -13,7 +13,7 @@ use Rattle.sets.specs.Rows.{rowAt, withRow}
 use Rattle.sets.specs.declared.set.Set.{Set}
 use Rattle.sets.proofs.Members.{those-ext, those-of, mem-those}
 use Rattle.rules.specs.Traces.{_has_}
-use Rattle.miner.specs.Passes.{Fact, gains, forward, precededBy}
+use Rattle.miner.specs.Passes.{Fact, gains, forward}
 
 -- what stands before place i, the nearest first
 abbrev pub pastAt : List ℕ → ℕ → List ℕ

@@ -1,11 +1,13 @@
--- What a pass over a trace does to rows.
+-- What the passes over a trace do to rows: the words of the contracts of src/passes.rt and src/second.rt. That they are the rules'
+-- answers is a theorem, so a reader of `mine` need not believe this file.
 use mathlib.Core.Bool.{Bool}
 use mathlib.Core.List.{List, [], _∷_}
 use Prim.Native.Nat.{ℕ}
-use Rattle.sets.specs.Tests.{_or_}
-use Rattle.sets.specs.Members.{mem, those}
-use Rattle.sets.specs.Rows.{rowAt, withRow}
-use Rattle.rules.specs.Traces.{_has_}
+use Rattle.sets.specs.Tests.{_and_, _or_, non}
+use Rattle.sets.specs.Members.{width, mem, those, someBelow}
+use Rattle.sets.specs.Rows.{rowAt, withRow, inRow}
+use Rattle.sets.specs.declared.set.Set.{Set}
+use Rattle.rules.specs.Traces.{_has_, _beginsWith_, atSome}
 
 -- whether a place, by its activity, past and rest, puts x into the row of its activity
 abbrev pub Fact : Type 0
@@ -25,6 +27,50 @@ unfoldable pub backward : Fact → List ℕ → List ℕ → List ℕ → List �
 backward p rows past [] = rows
 backward p rows past (e ∷ rest) = gains p (backward p rows (e ∷ past) rest) e past rest
 
+-- ---- the facts of the passes, each of a place with the activity e
+
 -- x stands before the place
-unfoldable pub precededBy : Fact
-precededBy e past rest x = past has x
+unfoldable pub earlier : Fact
+earlier e past rest x = past has x
+
+-- x does not stand before the place
+unfoldable pub notEarlier : Fact
+notEarlier e past rest x = non (past has x)
+
+-- x does not stand directly before the place
+unfoldable pub notDirectly : Fact
+notDirectly e past rest x = non (past beginsWith x)
+
+-- x does not stand between the place and the e before it, or the trace's start
+unfoldable pub notSince : Fact
+notSince e past rest x = non (atSome x (λ nearer farther. non (nearer has e)) past)
+
+-- x stands after the place
+unfoldable pub later : Fact
+later e past rest x = rest has x
+
+-- x does not stand after the place
+unfoldable pub notLater : Fact
+notLater e past rest x = non (rest has x)
+
+-- x stands directly after the place
+unfoldable pub next : Fact
+next e past rest x = rest beginsWith x
+
+-- x comes later, and never directly follows something that stands before the place: row s of `unfollowed` has what never directly follows s
+unfoldable pub letIn : List ℕ → Fact
+letIn unfollowed e past rest x = rest has x and someBelow width (λ s. past has s and inRow unfollowed s x)
+
+-- x stands before the place, and e does not
+unfoldable pub beforeFirst : Fact
+beforeFirst e past rest x = past has x and non (past has e)
+
+-- x is included once the past has been replayed by these includes and excludes alone, from all events
+unfoldable pub stillIncluded : Set → List ℕ → List ℕ → List ℕ → ℕ → Bool
+stillIncluded events includes excludes [] x = mem events x
+stillIncluded events includes excludes (y ∷ past) x =
+    stillIncluded events includes excludes past x and non (inRow excludes y x) or inRow includes y x
+
+-- x does not stand before the place, and is included there
+unfoldable pub missed : Set → List ℕ → List ℕ → Fact
+missed events includes excludes e past rest x = non (past has x) and stillIncluded events includes excludes past x

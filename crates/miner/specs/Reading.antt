@@ -42,8 +42,8 @@ unfoldable pub turned : List ℕ → Relation
 turned rows a x = inRow rows x a
 
 -- a pair of one or of the other
-unfoldable pub either : List ℕ → List ℕ → Relation
-either rows others a x = inRow rows a x or inRow others a x
+unfoldable pub inEither : List ℕ → List ℕ → Relation
+inEither rows others a x = inRow rows a x or inRow others a x
 
 -- step 7: a pair of a goes where some event u has the same target and stands not in a's row of what does not alternate with it
 unfoldable pub notRedundant : Set → List ℕ → List ℕ → Relation
