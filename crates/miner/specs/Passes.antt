@@ -7,7 +7,7 @@ use Rattle.sets.specs.Tests.{_and_, _or_, non}
 use Rattle.sets.specs.Members.{width, mem, those, someBelow}
 use Rattle.sets.specs.Rows.{rowAt, withRow, inRow}
 use Rattle.sets.specs.declared.set.Set.{Set}
-use Rattle.rules.specs.Traces.{_has_, _beginsWith_, atSome}
+use Rattle.rules.specs.Traces.{Traces, _has_, _beginsWith_, atSome}
 
 -- whether a place, by its activity, past and rest, puts x into the row of its activity
 abbrev pub Fact : Type 0
@@ -26,6 +26,11 @@ forward p rows past (e ∷ rest) = forward p (gains p rows e past rest) (e ∷ p
 unfoldable pub backward : Fact → List ℕ → List ℕ → List ℕ → List ℕ
 backward p rows past [] = rows
 backward p rows past (e ∷ rest) = gains p (backward p rows (e ∷ past) rest) e past rest
+
+-- a pass over each trace of a log, in turn
+unfoldable pub through : (List ℕ → List ℕ → List ℕ) → List ℕ → Traces → List ℕ
+through pass rows [] = rows
+through pass rows (σ ∷ L) = through pass (pass rows σ) L
 
 -- ---- the facts of the passes, each of a place with the activity e
 
