@@ -11,7 +11,7 @@ use Rattle.sets.specs.Rows.{Relation, noRows, rowsOf}
 use Rattle.sets.proofs.Tests.{or-false, false-or, false-and}
 use Rattle.sets.proofs.RowLaws.{rowsOf-ext, gain-rowsOf, empty-rowsOf}
 use Rattle.rules.specs.Traces.{Traces, atSomeFrom, atSome, someTrace}
-use Rattle.miner.specs.Passes.{Fact, gains, forward, backward, through}
+use Rattle.miner.specs.Passes.{Fact, gained, gains, forward, backward, through}
 
 or-assoc : (a b c : Bool) → (a or b or c) ≡ (a or (b or c))
 unfolding _or_
@@ -32,7 +32,7 @@ module _ (p : Fact) where
   said past rest a x = atSomeFrom a (λ q s. p a q s x) past rest
 
   gains-rowsOf : (r : Relation) (e : ℕ) (past rest : List ℕ) → gains p (rowsOf r) e past rest ≡ rowsOf (λ a x. r a x or eqb a e and p e past rest x)
-  unfolding gains
+  unfolding gains gained
   gains-rowsOf r e past rest = gain-rowsOf r e (p e past rest)
 
   at-e : (a e : ℕ) (past rest : List ℕ) (x : ℕ) → (eqb a e and p e past rest x) ≡ (eqb a e and p a past rest x)

@@ -8,12 +8,12 @@ use lib.Dec.{eqb}
 use lib.ListN.{length, getD, take, drop, drop-of-length-le}
 use lib.Seq.{take-suc, drop-cons}
 use Rattle.sets.specs.Tests.{_and_, _or_}
-use Rattle.sets.specs.Members.{width, mem, those}
+use Rattle.sets.specs.Members.{width, bitsOf, mem, those}
 use Rattle.sets.specs.Rows.{rowAt, withRow}
 use Rattle.sets.specs.declared.set.Set.{Set}
 use Rattle.sets.proofs.Members.{those-ext, those-of, mem-those}
-use Rattle.rules.specs.Traces.{_has_}
-use Rattle.miner.specs.Passes.{Fact, gains, forward}
+use Rattle.rules.specs.Traces.{_has_, _beginsWith_}
+use Rattle.miner.specs.Passes.{Fact, gained, gains, forward}
 
 -- what stands before place i, the nearest first
 abbrev pub pastAt : List ℕ → ℕ → List ℕ
@@ -34,6 +34,19 @@ rest-next σ i h = drop-cons σ i 0 h ∙ ap (λ (n : ℕ). getD σ i 0 ∷ drop
 abbrev pub seenIn : List ℕ → Set
 seenIn past = those (λ x. past has x)
 
+-- the set of what stands at its front
+abbrev pub lastIn : List ℕ → Set
+lastIn past = those (λ x. past beginsWith x)
+
+-- of an empty list both are the empty set
+pub seen-none : _≡_ {A = Set} (record { bits = 0 }) (seenIn [])
+unfolding _has_ bitsOf
+seen-none = refl
+
+pub last-none : _≡_ {A = Set} (record { bits = 0 }) (lastIn [])
+unfolding _beginsWith_ bitsOf
+last-none = refl
+
 or-comm : (a b : Bool) → (a or b) ≡ (b or a)
 unfolding _or_
 or-comm true true = refl
@@ -49,12 +62,33 @@ seen-more past e seen one seen′ hs ho hu =
     hu ∙ those-of one (λ b. eqb b e) (λ a t. mem seen a or t) ho ∙ those-of seen (λ x. past has x) (λ a t. t or eqb a e) hs
     ∙ those-ext (λ a. past has a or eqb a e) (λ a. (e ∷ past) has a) (λ a l. or-comm (past has a) (eqb a e))
 
+-- a row joined with a set that is known
+pub joined-by : (rows : List ℕ) (e : ℕ) (q : ℕ → Bool) (s : Set) (rows′ : List ℕ) → s ≡ those q
+    → rows′ ≡ withRow rows e (those (λ b. mem (rowAt rows e) b or mem s b)) → rows′ ≡ gained rows e q
+unfolding gained
+joined-by rows e q s rows′ hs h = h ∙ ap (withRow rows e) (those-of s q (λ b t. mem (rowAt rows e) b or t) hs)
+
+-- a row joined with a set, as it is
+pub joined-with : (rows : List ℕ) (e : ℕ) (s : Set) (rows′ : List ℕ)
+    → rows′ ≡ withRow rows e (those (λ b. mem (rowAt rows e) b or mem s b)) → rows′ ≡ gained rows e (mem s)
+unfolding gained
+joined-with rows e s rows′ h = h
+
 -- the row of the event gains a set that is the fact's
 pub gains-by : (p : Fact) (rows : List ℕ) (e : ℕ) (past rest : List ℕ) (s : Set) (rows′ : List ℕ) → s ≡ those (p e past rest)
     → rows′ ≡ withRow rows e (those (λ b. mem (rowAt rows e) b or mem s b)) → rows′ ≡ gains p rows e past rest
 unfolding gains
-gains-by p rows e past rest s rows′ hs h =
-    h ∙ ap (withRow rows e) (those-of s (p e past rest) (λ b t. mem (rowAt rows e) b or t) hs)
+gains-by p rows e past rest s rows′ hs h = joined-by rows e (p e past rest) s rows′ hs h
+
+-- the same, of what a turn's function says: the row gains f of the members of a set that is known
+pub gained-by : (p : Fact) (f : ℕ → Bool → Bool) (q : ℕ → Bool) (rows : List ℕ) (e : ℕ) (past rest : List ℕ) (s : Set) (rows′ : List ℕ) → s ≡ those q
+    → ((x : ℕ) → f x (q x) ≡ p e past rest x) → rows′ ≡ gained rows e (λ x. f x (mem s x)) → rows′ ≡ gains p rows e past rest
+unfolding gains gained
+gained-by p f q rows e past rest s rows′ hs hp h =
+    h
+    ∙ ap (withRow rows e)
+    (those-of s q (λ x t. mem (rowAt rows e) x or f x t) hs
+    ∙ those-ext (λ x. mem (rowAt rows e) x or f x (q x)) (λ x. mem (rowAt rows e) x or p e past rest x) (λ x l. ap (λ (t : Bool). mem (rowAt rows e) x or t) (hp x)))
 
 -- the forward loop: before the first turn, one turn further, after the last
 module _ (p : Fact) (σ all : List ℕ) where

@@ -13,9 +13,13 @@ use Rattle.rules.specs.Traces.{Traces, _has_, _beginsWith_, atSome}
 abbrev pub Fact : Type 0
 Fact = ℕ → List ℕ → List ℕ → ℕ → Bool
 
+-- row e gains what passes
+unfoldable pub gained : List ℕ → ℕ → (ℕ → Bool) → List ℕ
+gained rows e p = withRow rows e (those (λ x. mem (rowAt rows e) x or p x))
+
 -- the row of e gains what the place puts into it
 unfoldable pub gains : Fact → List ℕ → ℕ → List ℕ → List ℕ → List ℕ
-gains p rows e past rest = withRow rows e (those (λ x. mem (rowAt rows e) x or p e past rest x))
+gains p rows e past rest = gained rows e (p e past rest)
 
 -- place by place, from the first to the last
 unfoldable pub forward : Fact → List ℕ → List ℕ → List ℕ → List ℕ
