@@ -3,6 +3,7 @@ use mathlib.Core.Path.{_≡_, refl, sym, ap, _∙_}
 use mathlib.Core.Bool.{Bool, true, false}
 use mathlib.Core.List.{List, [], _∷_, _++_, reverseAux}
 use Prim.Native.Nat.{ℕ, suc, _+_, _≤_, _<_}
+use native.Mathlib.Omega.{arith}
 use native.Mathlib.Numerals.{add-one}
 use lib.Dec.{eqb}
 use lib.ListN.{length, getD, take, drop, drop-of-length-le}
@@ -13,7 +14,7 @@ use Rattle.sets.specs.Rows.{rowAt, withRow}
 use Rattle.sets.specs.declared.set.Set.{Set}
 use Rattle.sets.proofs.Members.{those-ext, those-of, mem-those}
 use Rattle.rules.specs.Traces.{_has_, _beginsWith_}
-use Rattle.miner.specs.Passes.{Fact, gained, gains, forward}
+use Rattle.miner.specs.Passes.{Fact, gained, gains, forward, backward}
 
 -- what stands before place i, the nearest first
 abbrev pub pastAt : List ℕ → ℕ → List ℕ
@@ -104,3 +105,20 @@ module _ (p : Fact) (σ all : List ℕ) where
   pub forward-end : (i : ℕ) (rows : List ℕ) → length σ ≤ i → forward p rows (pastAt σ i) (drop i σ) ≡ all → rows ≡ all
   unfolding forward
   forward-end i rows h inv = ap (forward p rows (pastAt σ i)) (sym (drop-of-length-le σ h)) ∙ inv
+
+pub rest-none : (σ : List ℕ) → drop (length σ) σ ≡ []
+rest-none σ = let all : length σ ≤ length σ = omega arith in drop-of-length-le σ all
+
+-- the backward loop: before the first turn, one turn further
+module _ (p : Fact) (σ rows₀ : List ℕ) where
+  pub backward-start : rows₀ ≡ backward p rows₀ (pastAt σ (length σ)) (drop (length σ) σ)
+  unfolding backward
+  backward-start = ap (backward p rows₀ (pastAt σ (length σ))) (sym (rest-none σ))
+
+  pub backward-next : (i : ℕ) (rows rows′ : List ℕ) → i < length σ → rows′ ≡ gains p rows (getD σ i 0) (pastAt σ i) (drop (i + 1) σ)
+      → rows ≡ backward p rows₀ (pastAt σ (i + 1)) (drop (i + 1) σ) → rows′ ≡ backward p rows₀ (pastAt σ i) (drop i σ)
+  unfolding backward
+  backward-next i rows rows′ h hr inv =
+      hr
+      ∙ ap (λ (r : List ℕ). gains p r (getD σ i 0) (pastAt σ i) (drop (i + 1) σ)) (inv ∙ ap (λ (l : List ℕ). backward p rows₀ l (drop (i + 1) σ)) (past-next σ i h))
+      ∙ ap (backward p rows₀ (pastAt σ i)) (sym (rest-next σ i h))

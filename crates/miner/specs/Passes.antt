@@ -39,8 +39,8 @@ through pass rows (σ ∷ L) = through pass (pass rows σ) L
 -- ---- the facts of the passes, each of a place with the activity e
 
 -- x stands before the place
-unfoldable pub earlier : Fact
-earlier e past rest x = past has x
+unfoldable pub isEarlier : Fact
+isEarlier e past rest x = past has x
 
 -- x does not stand before the place
 unfoldable pub notEarlier : Fact
@@ -55,16 +55,16 @@ unfoldable pub notSince : Fact
 notSince e past rest x = non (atSome x (λ nearer farther. non (nearer has e)) past)
 
 -- x stands after the place
-unfoldable pub later : Fact
-later e past rest x = rest has x
+unfoldable pub isLater : Fact
+isLater e past rest x = rest has x
 
 -- x does not stand after the place
 unfoldable pub notLater : Fact
 notLater e past rest x = non (rest has x)
 
 -- x stands directly after the place
-unfoldable pub next : Fact
-next e past rest x = rest beginsWith x
+unfoldable pub isNext : Fact
+isNext e past rest x = rest beginsWith x
 
 -- x comes later, and never directly follows something that stands before the place: row s of `unfollowed` has what never directly follows s
 unfoldable pub letIn : List ℕ → Fact

@@ -12,7 +12,7 @@ use Rattle.sets.specs.Tests.{_or_, non}
 use Rattle.sets.specs.Members.{mem, those, bitsOf}
 use Rattle.sets.specs.declared.set.Set.{Set}
 use Rattle.rules.specs.Traces.{_has_, _beginsWith_}
-use Rattle.miner.specs.Passes.{Fact, gained, forward, earlier, notEarlier, notDirectly}
+use Rattle.miner.specs.Passes.{Fact, gained, forward, isEarlier, notEarlier, notDirectly}
 use Rattle.miner.proofs.Turns.{pastAt, past-next, seenIn, lastIn, seen-more, seen-none, last-none, gained-by, forward-next, forward-end}
 use Rattle.miner.proofs.passes.forward.Statement.{statement}
 use Rattle.miner.proofs.passes.forward.Tie as tie
@@ -21,7 +21,7 @@ record Passed (σ b₀ u₀ c₀ b u c : List ℕ) (seen last : Set) (i : ℕ) :
   reached : i ≤ length σ
   seen-is : seen ≡ seenIn (pastAt σ i)
   last-is : last ≡ lastIn (pastAt σ i)
-  before : forward earlier b (pastAt σ i) (drop i σ) ≡ forward earlier b₀ [] σ
+  before : forward isEarlier b (pastAt σ i) (drop i σ) ≡ forward isEarlier b₀ [] σ
   unpreceded : forward notEarlier u (pastAt σ i) (drop i σ) ≡ forward notEarlier u₀ [] σ
   unchained : forward notDirectly c (pastAt σ i) (drop i σ) ≡ forward notDirectly c₀ [] σ
 
@@ -32,13 +32,13 @@ module _ {σ b₀ u₀ c₀ b u c : List ℕ} {seen last : Set} {i : ℕ} (inv :
       → c′ ≡ gained c (getD σ i 0) (λ x. non (mem last x))
       → one ≡ those (λ b. eqb b (getD σ i 0)) → seen′ ≡ those (λ a. mem seen a or mem one a)
       → Passed σ b₀ u₀ c₀ b′ u′ c′ seen′ one (i + 1)
-  unfolding earlier notEarlier notDirectly _beginsWith_
+  unfolding isEarlier notEarlier notDirectly _beginsWith_
   turn b′ u′ c′ one seen′ hb hu hc ho hs =
       record {
         reached = omega arith;
         seen-is = seen-more _ _ seen one seen′ (inv .seen-is) ho hs ∙ ap seenIn (sym (past-next σ i h));
         last-is = ho ∙ ap lastIn (sym (past-next σ i h));
-        before = forward-next earlier σ _ i b b′ h (gained-by earlier (λ x t. t) _ b _ _ _ seen b′ (inv .seen-is) (λ x. refl) hb) (inv .before);
+        before = forward-next isEarlier σ _ i b b′ h (gained-by isEarlier (λ x t. t) _ b _ _ _ seen b′ (inv .seen-is) (λ x. refl) hb) (inv .before);
         unpreceded = forward-next notEarlier σ _ i u u′ h (gained-by notEarlier (λ x t. non t) _ u _ _ _ seen u′ (inv .seen-is) (λ x. refl) hu) (inv .unpreceded);
         unchained = forward-next notDirectly σ _ i c c′ h (gained-by notDirectly (λ x t. non t) _ c _ _ _ last c′ (inv .last-is) (λ x. refl) hc) (inv .unchained);
       }
@@ -82,7 +82,7 @@ returns : tie.Need-returns Inv-loop μ-loop
 returns c =
     let inv = c .before .loop .inv in
     let over = c .loop-test .left in
-    ( forward-end earlier _ _ _ _ over (inv .before),
+    ( forward-end isEarlier _ _ _ _ over (inv .before),
       ( forward-end notEarlier _ _ _ _ over (inv .unpreceded),
         forward-end notDirectly _ _ _ _ over (inv .unchained)))
 
