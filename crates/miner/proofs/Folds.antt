@@ -50,8 +50,8 @@ module _ (p : Fact) where
       ∙ forward-rowsOf (λ a x. r a x or eqb a e and p e past rest x) (e ∷ past) rest
       ∙ rowsOf-ext (λ a x. r a x or eqb a e and p e past rest x or said (e ∷ past) rest a x) (λ a x. r a x or said past (e ∷ rest) a x)
       (λ a x ha hx.
-        or-assoc (r a x) (eqb a e and p e past rest x) (said (e ∷ past) rest a x)
-        ∙ ap (λ (b : Bool). r a x or (b or said (e ∷ past) rest a x)) (at-e a e past rest x))
+      or-assoc (r a x) (eqb a e and p e past rest x) (said (e ∷ past) rest a x)
+      ∙ ap (λ (b : Bool). r a x or (b or said (e ∷ past) rest a x)) (at-e a e past rest x))
 
   pub backward-rowsOf : (r : Relation) (past rest : List ℕ) → backward p (rowsOf r) past rest ≡ rowsOf (λ a x. r a x or said past rest a x)
   unfolding backward atSomeFrom
@@ -61,8 +61,8 @@ module _ (p : Fact) where
       ∙ gains-rowsOf (λ a x. r a x or said (e ∷ past) rest a x) e past rest
       ∙ rowsOf-ext (λ a x. r a x or said (e ∷ past) rest a x or eqb a e and p e past rest x) (λ a x. r a x or said past (e ∷ rest) a x)
       (λ a x ha hx.
-        or-swap (r a x) (said (e ∷ past) rest a x) (eqb a e and p e past rest x)
-        ∙ ap (λ (b : Bool). r a x or (b or said (e ∷ past) rest a x)) (at-e a e past rest x))
+      or-swap (r a x) (said (e ∷ past) rest a x) (eqb a e and p e past rest x)
+      ∙ ap (λ (b : Bool). r a x or (b or said (e ∷ past) rest a x)) (at-e a e past rest x))
 
   -- what some trace says
   abbrev pub heard : Traces → Relation

@@ -2,3 +2,4 @@
 pub mod Turns
 pub mod Folds
 pub mod Since
+pub mod Alternate

@@ -94,11 +94,11 @@ module _ (i : ℕ) {past : List ℕ} {e : ℕ} {wanted left : Set} (inv : Looked
       ∙ those-ext (λ x. mem left x and non (eqb x (getD past i 0)) and non (since e x (drop i past) (pastAt past i)))
       (λ x. mem left x and non (since e x (drop (i + 1) past) (pastAt past (i + 1))))
       (λ x l.
-        regroup (mem left x) (eqb x (getD past i 0)) (since e x (drop i past) (pastAt past i))
-        ∙ ap (λ (t : Bool). mem left x and non t)
-        (ap (λ (l : List ℕ). eqb x (getD past i 0) or since e x l (pastAt past i)) (rest-next past i here)
-        ∙ sym (since-step e x (getD past i 0) (drop (i + 1) past) (pastAt past i) (inv .unseen))
-        ∙ ap (λ (l : List ℕ). since e x (drop (i + 1) past) l) (sym (past-next past i here))))
+      regroup (mem left x) (eqb x (getD past i 0)) (since e x (drop i past) (pastAt past i))
+      ∙ ap (λ (t : Bool). mem left x and non t)
+      (ap (λ (l : List ℕ). eqb x (getD past i 0) or since e x l (pastAt past i)) (rest-next past i here)
+      ∙ sym (since-step e x (getD past i 0) (drop (i + 1) past) (pastAt past i) (inv .unseen))
+      ∙ ap (λ (l : List ℕ). since e x (drop (i + 1) past) l) (sym (past-next past i here))))
       ∙ inv .whole
 
   set′ : those (mem left′) ≡ left′

@@ -30,12 +30,7 @@ fn note_past(
 }
 
 // From the first place to the last.
-pub fn forward(
-    trace: &[u8],
-    before: &mut Rows,
-    unpreceded: &mut Rows,
-    unchained: &mut Rows,
-)
+pub fn forward(trace: &[u8], before: &mut Rows, unpreceded: &mut Rows, unchained: &mut Rows)
     ensures { λ _. ⌜ now (before .exit) ≡ forward isEarlier (now (before .entry)) [] (now (trace .entry)) ⌝ }
     ensures { λ _. ⌜ now (unpreceded .exit) ≡ forward notEarlier (now (unpreceded .entry)) [] (now (trace .entry)) ⌝ }
     ensures { λ _. ⌜ now (unchained .exit) ≡ forward notDirectly (now (unchained .entry)) [] (now (trace .entry)) ⌝ }
@@ -71,12 +66,7 @@ fn note_rest(
 }
 
 // From the last place to the first.
-pub fn backward(
-    trace: &[u8],
-    later: &mut Rows,
-    unanswered: &mut Rows,
-    followed: &mut Rows,
-)
+pub fn backward(trace: &[u8], later: &mut Rows, unanswered: &mut Rows, followed: &mut Rows)
     ensures { λ _. ⌜ now (later .exit) ≡ backward isLater (now (later .entry)) [] (now (trace .entry)) ⌝ }
     ensures { λ _. ⌜ now (unanswered .exit) ≡ backward notLater (now (unanswered .entry)) [] (now (trace .entry)) ⌝ }
     ensures { λ _. ⌜ now (followed .exit) ≡ backward isNext (now (followed .entry)) [] (now (trace .entry)) ⌝ }

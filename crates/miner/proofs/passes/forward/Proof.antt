@@ -81,10 +81,13 @@ loop-again c =
 returns : tie.Need-returns Inv-loop μ-loop
 returns c =
     let inv = c .before .loop .inv in
-    let over = c .loop-test .left in
-    ( forward-end isEarlier _ _ _ _ over (inv .before),
-      ( forward-end notEarlier _ _ _ _ over (inv .unpreceded),
-        forward-end notDirectly _ _ _ _ over (inv .unchained)))
+    let over = c .loop-test .left in (
+      forward-end isEarlier _ _ _ _ over (inv .before),
+      (
+        forward-end notEarlier _ _ _ _ over (inv .unpreceded),
+        forward-end notDirectly _ _ _ _ over (inv .unchained),
+      ),
+    )
 
 pub forward-spec : {M : Type 1} → statement M
 forward-spec =
