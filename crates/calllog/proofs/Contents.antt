@@ -1,0 +1,64 @@
+-- The entries, one turn of the code after the other, then the bodies. Assumes nothing.
+use mathlib.Core.Path.{_≡_, refl, sym, ap, _∙_}
+use mathlib.Core.Bool.{Bool, true, false, not}
+use mathlib.Core.List.{List}
+use Prim.Native.Nat.{ℕ, suc, _+_, _≤_, _<_}
+use native.Mathlib.Numerals.{add-one}
+use native.Mathlib.Omega.{arith}
+use borrow.Author.Tests.{not-true, not-false, ltb-false}
+use lib.Dec.{eqb, ltb, eqb→eq}
+use Rattle.sets.specs.Tests.{non, when_then_else_}
+use Rattle.sets.specs.Answers.{isDone}
+use Rattle.sets.specs.declared.answer.Answer.{Answer}
+use Rattle.sets.specs.declared.answer.Answer.the-variants.{Done, AboveLimit, WrongOffset}
+use Rattle.sets.proofs.Tests.{non-false}
+use Rattle.calllog.specs.Layout.{longestTrace, mostEvents, tracesIn, offsetAt, lengthAt, eventsBefore}
+use Rattle.calllog.specs.Judged.{thenAsk, firstRefusal, judgedEntry, entryOf, judgedBodies, judgedContents}
+use Rattle.calllog.proofs.Order.{done-is, ask-on, ask-stop, went, refusal-next, refusal-stands}
+
+-- what an entry that is done tells
+pub entry-good : (earlier offset size : ℕ) → judgedEntry earlier offset size ≡ Done
+    → (size ≤ longestTrace) × (earlier + size ≤ mostEvents) × (offset ≡ earlier)
+unfolding judgedEntry
+entry-good earlier offset size d =
+    let p = went _ AboveLimit _ refl d in
+    let q = went _ AboveLimit _ refl (p .1) in
+    let r = went _ WrongOffset _ refl (q .1) in
+    (ltb-false longestTrace size (p .0), ltb-false mostEvents (earlier + size) (q .0), eqb→eq offset earlier (non-false _ (r .0)))
+
+pub events-next : (bytes : List ℕ) (k events size : ℕ) → events ≡ eventsBefore bytes k → size ≡ lengthAt bytes k
+    → events + size ≡ eventsBefore bytes (k + 1)
+unfolding eventsBefore
+events-next bytes k events size e s = (λ i. e i + s i) ∙ ap (eventsBefore bytes) (sym (add-one k))
+
+module _ (bytes : List ℕ) (k events size offset : ℕ) (a : Answer) (r : Bool) (ee : events ≡ eventsBefore bytes k) (es : size ≡ lengthAt bytes k)
+    (eo : offset ≡ offsetAt bytes k) (ea : a ≡ judgedEntry events offset size) (er : r ≡ isDone a) where
+  entry-is : a ≡ entryOf bytes k
+  entry-is = ea ∙ (λ i. judgedEntry (ee i) (eo i) (es i))
+
+  entry-fine : not r ≡ false → a ≡ Done
+  entry-fine d = done-is a (sym er ∙ not-false r d)
+
+  pub contents-room : not r ≡ false → events + size ≤ mostEvents
+  contents-room d = entry-good events offset size (sym ea ∙ entry-fine d) .1
+
+  pub contents-next : not r ≡ false → firstRefusal k (entryOf bytes) ≡ Done → firstRefusal (k + 1) (entryOf bytes) ≡ Done
+  contents-next d f = refusal-next (entryOf bytes) k f (sym entry-is ∙ entry-fine d)
+
+  pub contents-refused : (t : ℕ) → t ≡ tracesIn bytes → k < t → firstRefusal k (entryOf bytes) ≡ Done → not r ≡ true → a ≡ judgedContents bytes
+  unfolding judgedContents
+  contents-refused t et l f n =
+      let stop : isDone (entryOf bytes k) ≡ false = ap isDone (sym entry-is) ∙ sym er ∙ not-true r n in
+      let stands : firstRefusal (tracesIn bytes) (entryOf bytes) ≡ entryOf bytes k = refusal-stands (entryOf bytes) (tracesIn bytes) k (omega arith) f stop in
+      entry-is ∙ sym (ask-stop _ _ (ap isDone stands ∙ stop) ∙ stands)
+
+pub contents-end : (bytes : List ℕ) (k events t : ℕ) (b : Answer) → t ≡ tracesIn bytes → t ≤ k → k ≤ t → events ≡ eventsBefore bytes k
+    → firstRefusal k (entryOf bytes) ≡ Done → b ≡ judgedBodies bytes events → b ≡ judgedContents bytes
+unfolding judgedContents
+contents-end bytes k events t b et l g ee f eb =
+    let q : k ≡ tracesIn bytes = omega arith in
+    eb
+    ∙ ap (judgedBodies bytes) (ee ∙ ap (eventsBefore bytes) q)
+    ∙ sym (ask-on _ _ (ap (λ (n : ℕ). firstRefusal n (entryOf bytes)) (sym q) ∙ f))
+
+pub ruleset turns = (events-next, contents-room, contents-next, contents-refused, contents-end)

@@ -1,0 +1,12 @@
+-- The modules of `proofs/` that belong to no one function.
+pub mod Scans
+pub mod Verdicts
+pub mod Order
+pub mod Contents
+pub mod Accepted
+pub mod Given
+pub mod Ends
+pub mod Finding
+pub mod Traces
+pub mod Writing
+pub mod Long

@@ -1,0 +1,69 @@
+-- Where a log file keeps what (01, "Sizes" and "Log"). Of bytes that end too soon, what is missing reads as 0.
+use mathlib.Core.Bool.{Bool, true, false}
+use mathlib.Core.List.{List, [], _∷_}
+use Prim.Native.Nat.{ℕ, zero, suc, _+_, _*_}
+use lib.Dec.{eqb}
+use lib.ListN.{getD}
+use Rattle.sets.specs.Tests.{_and_}
+
+-- the two letters, B and L, and the edition
+abbrev pub letters : List ℕ
+letters = 66 ∷ 76 ∷ 1 ∷ []
+
+-- the greatest A, T, length of a trace, and number of events in a log
+abbrev pub mostActivities : ℕ
+mostActivities = 64
+
+abbrev pub mostTraces : ℕ
+mostTraces = 1024
+
+abbrev pub longestTrace : ℕ
+longestTrace = 512
+
+abbrev pub mostEvents : ℕ
+mostEvents = 32768
+
+-- how many bytes stand before the entries, and how many an entry has
+abbrev pub headSize : ℕ
+headSize = 6
+
+abbrev pub entrySize : ℕ
+entrySize = 4
+
+-- a log has at most this many bytes: 36,870
+abbrev pub longestLog : ℕ
+longestLog = headSize + entrySize * mostTraces + mostEvents
+
+-- the bytes open with these
+unfoldable pub opensWith : List ℕ → List ℕ → Bool
+opensWith [] bytes = true
+opensWith (x ∷ xs) [] = false
+opensWith (x ∷ xs) (b ∷ bytes) = eqb b x and opensWith xs bytes
+
+-- a number of two bytes, little-endian
+unfoldable pub numberAt : List ℕ → ℕ → ℕ
+numberAt bytes i = getD bytes i 0 + 256 * getD bytes (i + 1) 0
+
+-- A
+unfoldable pub activitiesIn : List ℕ → ℕ
+activitiesIn bytes = getD bytes 3 0
+
+-- T
+unfoldable pub tracesIn : List ℕ → ℕ
+tracesIn bytes = numberAt bytes 4
+
+-- entry k: an offset, then a length
+unfoldable pub offsetAt : List ℕ → ℕ → ℕ
+offsetAt bytes k = numberAt bytes (headSize + entrySize * k)
+
+unfoldable pub lengthAt : List ℕ → ℕ → ℕ
+lengthAt bytes k = numberAt bytes (headSize + entrySize * k + 2)
+
+-- where the first body byte stands
+unfoldable pub bodiesStart : List ℕ → ℕ
+bodiesStart bytes = headSize + entrySize * tracesIn bytes
+
+-- the sum of the lengths of the entries before entry k
+unfoldable pub eventsBefore : List ℕ → ℕ → ℕ
+eventsBefore bytes zero = 0
+eventsBefore bytes (suc k) = eventsBefore bytes k + lengthAt bytes k

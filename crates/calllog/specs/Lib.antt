@@ -1,0 +1,4 @@
+pub mod Layout
+pub mod Judged
+pub mod Logs
+pub mod Written

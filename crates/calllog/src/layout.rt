@@ -1,0 +1,103 @@
+// Where a log file keeps what (01, "Sizes" and "Log"). Bytes that are missing read as 0.
+ghost use mathlib.Core.Path.{_≡_};
+ghost use lib.ListN.{getD};
+ghost use Rattle.calllog.specs.Layout.{opensWith, numberAt, activitiesIn, tracesIn, offsetAt, lengthAt, bodiesStart};
+use sets::Activity;
+use sets::Place;
+
+// The greatest A, T, length of a trace and number of events.
+pub const MOST_ACTIVITIES: u8 = Activity::LIMIT;
+
+pub const MOST_TRACES: u16 = 1024;
+
+pub const LONGEST_TRACE: u16 = Place::LIMIT as u16;
+
+pub const MOST_EVENTS: u32 = 32768;
+
+// How many bytes stand before the entries, and how many an entry has.
+pub const HEAD_SIZE: usize = 6;
+
+pub const ENTRY_SIZE: usize = 4;
+
+// Where A and T stand, and an entry's length within it.
+const ACTIVITIES_AT: usize = 3;
+
+const TRACES_AT: usize = 4;
+
+const LENGTH_AT: usize = 2;
+
+// Whether the bytes open with the given ones.
+pub fn opens_with<'a>(mark: &'a [u8], bytes: &'a [u8]) -> bool
+    ensures { λ r. ⌜ r ≡ opensWith (now (mark .entry)) (now (bytes .entry)) ⌝ }
+{
+    let mut i: usize = 0;
+    while i < mark.len() {
+        if bytes.len() <= i {
+            return false;
+        }
+        if bytes[i] != mark[i] {
+            return false;
+        }
+        i += 1;
+    }
+    true
+}
+
+fn byte_at(bytes: &[u8], i: usize) -> u8
+    ensures { λ r. ⌜ r ≡ getD (now (bytes .entry)) i 0 ⌝ }
+{
+    if i < bytes.len() {
+        return bytes[i];
+    }
+    0
+}
+
+// A number of two bytes.
+fn number_at(bytes: &[u8], i: usize) -> u16
+    ensures { λ r. ⌜ r ≡ numberAt (now (bytes .entry)) i ⌝ }
+{
+    if bytes.len() <= i {
+        return 0;
+    }
+    let low = byte_at(bytes, i);
+    let high = byte_at(bytes, i + 1);
+    low as u16 + 256 * (high as u16)
+}
+
+// A.
+pub fn activities(bytes: &[u8]) -> u8
+    ensures { λ r. ⌜ r ≡ activitiesIn (now (bytes .entry)) ⌝ }
+{
+    byte_at(bytes, ACTIVITIES_AT)
+}
+
+// T.
+pub fn traces(bytes: &[u8]) -> u16
+    ensures { λ r. ⌜ r ≡ tracesIn (now (bytes .entry)) ⌝ }
+{
+    number_at(bytes, TRACES_AT)
+}
+
+// The offset of entry k.
+pub fn offset(bytes: &[u8], k: u16) -> u16
+    ensures { λ r. ⌜ r ≡ offsetAt (now (bytes .entry)) k ⌝ }
+{
+    let entry = HEAD_SIZE + ENTRY_SIZE * (k as usize);
+    number_at(bytes, entry)
+}
+
+// The length of entry k.
+pub fn length(bytes: &[u8], k: u16) -> u16
+    ensures { λ r. ⌜ r ≡ lengthAt (now (bytes .entry)) k ⌝ }
+{
+    let entry = HEAD_SIZE + ENTRY_SIZE * (k as usize);
+    number_at(bytes, entry + LENGTH_AT)
+}
+
+// Where the first body byte stands.
+pub fn bodies_start(bytes: &[u8]) -> u32
+    ensures { λ r. ⌜ r ≡ bodiesStart (now (bytes .entry)) ⌝ }
+{
+    let t = traces(bytes);
+    (HEAD_SIZE + ENTRY_SIZE * (t as usize)) as u32
+}

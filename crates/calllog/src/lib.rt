@@ -1,0 +1,9 @@
+// The log file: its refusals, and where its traces stand in the bytes.
+pub mod judge;
+mod layout;
+pub mod trace;
+
+pub use judge::Judged;
+pub use trace::Asked;
+pub use trace::Found;
+pub use trace::Part;

@@ -1,0 +1,95 @@
+// Where the traces of a log stand in its bytes, so that a trace is a part of the caller's slice.
+ghost use mathlib.Core.Path.{_≡_};
+ghost use Rattle.calllog.specs.Logs.{partOf, wherePart, foundOf, askedOf};
+use crate::judge;
+use crate::layout;
+use sets::Answer;
+
+// A part of the bytes: its first byte, and how many.
+pub struct Part {
+    pub start: usize,
+    pub length: usize,
+}
+
+// A trace that was asked for: the part of the bytes that it is; 0 and 0 where refused.
+pub struct Found {
+    pub answer: Answer,
+    pub start: usize,
+    pub length: usize,
+}
+
+// What a reader gives, and the number of the trace that comes next.
+pub struct Asked {
+    pub found: Found,
+    pub next: usize,
+}
+
+// Where trace k stands, in a log that the caller has judged: one step for each trace of a walk. Of bytes that have no such trace it
+// gives nothing, so the part is within any bytes.
+pub fn trace_part(bytes: &[u8], k: usize) -> Part
+    ensures { λ r. ⌜ r ≡ partOf (now (bytes .entry)) k ⌝ }
+{
+    let traces = layout::traces(bytes);
+    if traces as usize <= k {
+        return Part {
+            start: 0,
+            length: 0,
+        };
+    }
+    entry_part(bytes, k as u16)
+}
+
+// The part of the bytes that entry k names, where they have all of it.
+fn entry_part(bytes: &[u8], k: u16) -> Part
+    ensures { λ r. ⌜ r ≡ wherePart (now (bytes .entry)) k ⌝ }
+{
+    let start = layout::bodies_start(bytes) as usize + layout::offset(bytes, k) as usize;
+    let length = layout::length(bytes, k) as usize;
+    if bytes.len() < start + length {
+        return Part {
+            start: 0,
+            length: 0,
+        };
+    }
+    Part { start, length }
+}
+
+// Trace k of any bytes: the refusals of the bytes, then 11.
+pub fn find_trace(bytes: &[u8], k: usize) -> Found
+    ensures { λ r. ⌜ r ≡ foundOf (now (bytes .entry)) k ⌝ }
+{
+    let judged = judge::judge_log(bytes);
+    let answer = judged.answer;
+    if !answer.is_done() {
+        return Found {
+            answer,
+            start: 0,
+            length: 0,
+        };
+    }
+    if judged.traces <= k {
+        return Found {
+            answer: Answer::NoTrace,
+            start: 0,
+            length: 0,
+        };
+    }
+    let p = trace_part(bytes, k);
+    Found {
+        answer: Answer::Done,
+        start: p.start,
+        length: p.length,
+    }
+}
+
+// What a reader that remembers `next` gives when it is asked for trace k, and what it remembers then.
+pub fn ask(bytes: &[u8], next: usize, k: usize) -> Asked
+    ensures { λ r. ⌜ r ≡ askedOf (now (bytes .entry)) next k ⌝ }
+{
+    let found = find_trace(bytes, k);
+    let answer = found.answer;
+    if answer.is_done() {
+        return Asked { found, next: k + 1 };
+    }
+    Asked { found, next }
+}
