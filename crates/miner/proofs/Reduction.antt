@@ -1,11 +1,10 @@
 -- The transitive reduction, by loops over the members of a row: what is known of a row while its targets are judged, and of a target while its
 -- middles are tried. Assumes nothing.
-use mathlib.Core.Path.{_≡_, refl, sym, ap, _∙_, subst}
+use mathlib.Core.Path.{_≡_, refl, sym, ap, ap₂, _∙_, subst}
 use mathlib.Core.Bool.{Bool, true, false, not}
 use mathlib.Core.List.{List}
-use Prim.Native.Nat.{ℕ, _+_, _^_, _≤_, _<_}
+use Prim.Native.Nat.{ℕ, _+_, _≤_, _<_}
 use native.Mathlib.Omega.{arith}
-use native.Mathlib.Nat.{not-suc-le-zero}
 use borrow.Author.Tests.{lt-ltb, le-ltb, ltb-true, ltb-false, eqb-true, eqb-false, not-true, not-false}
 use lib.Dec.{T, eqb, ltb, eqb→eq}
 use Rattle.sets.specs.Tests.{_and_, _or_, non, when_then_else_}
@@ -37,11 +36,11 @@ without rest rest′ one a ho hm = hm ∙ those-of one (λ b. eqb b a) (λ b t. 
 abbrev pub Part : List ℕ → ℕ → Set → Type 0
 Part rows s rest = (a : ℕ) → T (mem rest a) → T (inRow rows s a)
 
-pub part-row : (rows : List ℕ) (s : ℕ) (from : Set) → from ≡ rowAt rows s → Part rows s from
+part-row : (rows : List ℕ) (s : ℕ) (from : Set) → from ≡ rowAt rows s → Part rows s from
 unfolding inRow
 part-row rows s from e a t = subst (λ (u : Set). T (mem u a)) e t
 
-pub part-next : (rows : List ℕ) (s a : ℕ) (rest rest′ : Set) → rest′ ≡ those (λ b. mem rest b and non (eqb b a)) → Part rows s rest → Part rows s rest′
+part-next : (rows : List ℕ) (s a : ℕ) (rest rest′ : Set) → rest′ ≡ those (λ b. mem rest b and non (eqb b a)) → Part rows s rest → Part rows s rest′
 part-next rows s a rest rest′ e p b t = p b (and-l _ _ (those-e _ b (subst (λ (u : Set). T (mem u b)) e t) .1))
 
 -- ---- the middles of one pair
@@ -147,40 +146,42 @@ module _ (rows : List ℕ) (s t : ℕ) (kept targets targets′ one : Set) (ho :
             ∙ sym less;
       }
 
--- ---- row by row
+-- no target is left: the row is the reduction's
+pub judging-end : (rows : List ℕ) (s : ℕ) (kept targets : Set) (r : Bool) → r ≡ isEmpty targets → not r ≡ false → Judging rows s kept targets
+    → kept ≡ those (reducedOf rows s)
+unfolding non
+judging-end rows s kept targets r hr he h =
+    let none = empty-e targets (true→T (sym hr ∙ not-false r he)) in
+    h .judged ∙ those-ext _ _ (λ x l. ap (λ (t : Bool). reducedOf rows s x and non t) (F→false (mem targets x) (none x l)) ∙ and-true (reducedOf rows s x))
 
--- the reduction's pairs with a source below s
-abbrev pub reducedBelow : List ℕ → ℕ → Relation
-reducedBelow rows s a x = ltb a s and reducedOf rows a x
+-- ---- a loop that fills row by row
 
-module _ (rows out : List ℕ) (s : ℕ) where
-  pub rows-start : out ≡ noRows → out ≡ rowsOf (reducedBelow rows 0)
-  unfolding _and_
-  rows-start h = h ∙ empty-rowsOf (reducedBelow rows 0) (λ a b ha hb. ap (λ (t : Bool). t and reducedOf rows a b) (le-ltb a 0 (omega arith)))
+-- the pairs of a relation in the rows below i
+unfoldable pub upTo : Relation → ℕ → Relation
+upTo F i a x = ltb a i and F a x
 
-  pub rows-end : width ≤ s → out ≡ rowsOf (reducedBelow rows s) → out ≡ rowsOf (reducedOf rows)
-  unfolding _and_
-  rows-end g h = h ∙ rowsOf-ext (reducedBelow rows s) (reducedOf rows) (λ a b ha hb. ap (λ (t : Bool). t and reducedOf rows a b) (lt-ltb a s (omega arith)))
+below-next : (a i : ℕ) → (a ≡ i → ⊥) → (t : Bool) → ltb a i ≡ t → t ≡ ltb a (i + 1)
+below-next a i ne true e = let l : a < i = ltb-true a i e in sym (lt-ltb a (i + 1) (omega arith))
+below-next a i ne false e = let l : i ≤ a = ltb-false a i e in sym (le-ltb a (i + 1) (omega arith))
 
-  below-next : (a : ℕ) → (a ≡ s → ⊥) → (t : Bool) → ltb a s ≡ t → t ≡ ltb a (s + 1)
-  below-next a ne true e = let l : a < s = ltb-true a s e in sym (lt-ltb a (s + 1) (omega arith))
-  below-next a ne false e = let l : s ≤ a = ltb-false a s e in sym (le-ltb a (s + 1) (omega arith))
+module _ (F : Relation) where
+  pub fill-start : (out : List ℕ) → out ≡ noRows → out ≡ rowsOf (upTo F 0)
+  unfolding upTo _and_
+  fill-start out h = h ∙ empty-rowsOf (upTo F 0) (λ a x la lx. ap (λ (t : Bool). t and F a x) (le-ltb a 0 (omega arith)))
 
-  at : (a x : ℕ) (t : Bool) → eqb a s ≡ t → (when t then reducedOf rows s x else reducedBelow rows s a x) ≡ reducedBelow rows (s + 1) a x
-  unfolding _and_
-  at a x true e =
-      let same : a ≡ s = eqb-true a s e in
-      ap (λ (n : ℕ). reducedOf rows n x) (sym same) ∙ ap (λ (t : Bool). t and reducedOf rows a x) (sym (lt-ltb a (s + 1) (omega arith)))
-  at a x false e = ap (λ (t : Bool). t and reducedOf rows a x) (below-next a (eqb-false a s e) (ltb a s) refl)
+  pick : (i a x : ℕ) (t : Bool) → eqb a i ≡ t → (when t then F i x else upTo F i a x) ≡ upTo F (i + 1) a x
+  unfolding upTo _and_
+  pick i a x true e =
+      let same : a ≡ i = eqb-true a i e in
+      ap (λ (n : ℕ). F n x) (sym same) ∙ ap (λ (t : Bool). t and F a x) (sym (lt-ltb a (i + 1) (omega arith)))
+  pick i a x false e = ap (λ (t : Bool). t and F a x) (below-next a i (eqb-false a i e) (ltb a i) refl)
 
-  -- no target is left: the row is put
-  pub rows-next : (out′ : List ℕ) (kept targets : Set) (r : Bool) → r ≡ isEmpty targets → not r ≡ false → out′ ≡ withRow out s kept
-      → Judging rows s kept targets → out ≡ rowsOf (reducedBelow rows s) → out′ ≡ rowsOf (reducedBelow rows (s + 1))
-  unfolding non
-  rows-next out′ kept targets r hr he ho h inv =
-      let none = empty-e targets (true→T (sym hr ∙ not-false r he)) in
-      let row : kept ≡ those (reducedOf rows s) =
-      h .judged ∙ those-ext _ _ (λ x l. ap (λ (t : Bool). reducedOf rows s x and non t) (F→false (mem targets x) (none x l)) ∙ and-true (reducedOf rows s x)) in
-      ho ∙ ap (λ (l : List ℕ). withRow l s kept) inv ∙ ap (withRow (rowsOf (reducedBelow rows s)) s) row
-      ∙ put-rowsOf (reducedBelow rows s) s (reducedOf rows s)
-      ∙ rowsOf-ext _ (reducedBelow rows (s + 1)) (λ a x ha hx. at a x (eqb a s) refl)
+  pub fill-turn : (i : ℕ) (s : Set) (out out′ : List ℕ) → out ≡ rowsOf (upTo F i) → s ≡ those (F i) → out′ ≡ withRow out i s
+      → out′ ≡ rowsOf (upTo F (i + 1))
+  fill-turn i s out out′ ho hs h =
+      h ∙ ap₂ (λ (l : List ℕ) (u : Set). withRow l i u) ho hs ∙ put-rowsOf (upTo F i) i (F i)
+      ∙ rowsOf-ext _ (upTo F (i + 1)) (λ a x la lx. pick i a x (eqb a i) refl)
+
+  pub fill-end : (i : ℕ) (out : List ℕ) → width ≤ i → out ≡ rowsOf (upTo F i) → out ≡ rowsOf F
+  unfolding upTo _and_
+  fill-end i out g h = h ∙ rowsOf-ext (upTo F i) F (λ a x la lx. ap (λ (t : Bool). t and F a x) (lt-ltb a i (omega arith)))

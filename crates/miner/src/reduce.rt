@@ -7,7 +7,7 @@ use sets::Rows;
 use sets::Set;
 use sets::rows;
 
-// The relation without the pairs that some middle activity makes needless. A pair goes as soon as one middle is found. All pairs are
+// The relation without the pairs from a source to a target that a middle activity joins too; the first middle decides. Every pair is
 // judged on `rows`, which stay as they are, so the order of the pairs makes no difference.
 pub fn reduced(rows: &Rows) -> Rows
     ensures { λ r. ⌜ r ≡ rowsOf (reducedOf (now (rows .entry))) ⌝ }

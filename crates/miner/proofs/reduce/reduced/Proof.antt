@@ -1,11 +1,14 @@
+-- `reduced` meets its contract. Of the middles and targets those are left that were not tried yet, and the rows below the source are the
+-- reduction's; the measures count what is left. Assumes nothing.
 use mathlib.Core.Path.{_≡_}
-use Prim.Native.Nat.{ℕ, _-_, _≤_, _+_}
+use Prim.Native.Nat.{_-_, _≤_}
 use native.Mathlib.Omega.{arith}
 use borrow.Author.Needs.{needs}
 use Rattle.sets.specs.Members.{width, mem, countBelow}
 use Rattle.sets.specs.Rows.{rowsOf}
 use Rattle.sets.proofs.Members.{fewer}
-use Rattle.miner.proofs.Reduction.{Trying, trying-row, trying-next, Judging, judging-row, judging-goes, judging-stays, reducedBelow, rows-start, rows-next, rows-end}
+use Rattle.miner.specs.Reading.{reducedOf}
+use Rattle.miner.proofs.Reduction.{Trying, trying-row, trying-next, Judging, judging-row, judging-goes, judging-stays, judging-end, upTo, fill-start, fill-turn, fill-end}
 use Rattle.miner.proofs.reduce.reduced.Statement.{statement}
 use Rattle.miner.proofs.reduce.reduced.Tie as tie
 
@@ -22,7 +25,7 @@ abbrev μ-target : tie.MeasureT-target
 μ-target rows out source from kept₀ targets₀ kept targets = countBelow width (mem targets)
 
 abbrev Inv-source : tie.InvT-source
-Inv-source rows out₀ source₀ out source = (source ≤ width) × (out ≡ rowsOf (reducedBelow rows source))
+Inv-source rows out₀ source₀ out source = (source ≤ width) × (out ≡ rowsOf (upTo (reducedOf rows) source))
 
 abbrev μ-source : tie.MeasureT-source
 μ-source rows out₀ source₀ out source = width - source
@@ -32,7 +35,7 @@ empty-requires :
 empty-requires c κs = search needs
 
 source-holds : tie.Need-source-holds Inv-middle μ-middle Inv-target μ-target Inv-source μ-source
-source-holds c = (omega arith, search (rows-start, needs))
+source-holds c = (omega arith, search (fill-start, needs))
 
 row-requires : tie.Need-row-requires Inv-middle μ-middle Inv-target μ-target Inv-source μ-source
 row-requires c κs = search needs
@@ -118,10 +121,10 @@ source-less : tie.Need-source-less Inv-middle μ-middle Inv-target μ-target Inv
 source-less c = omega arith
 
 source-again : tie.Need-source-again Inv-middle μ-middle Inv-target μ-target Inv-source μ-source
-source-again c = (omega arith, search (rows-next, needs))
+source-again c = (omega arith, search (fill-turn, judging-end, needs))
 
 returns : tie.Need-returns Inv-middle μ-middle Inv-target μ-target Inv-source μ-source
-returns c = search (rows-end, needs)
+returns c = search (fill-end, needs)
 
 pub reduced-spec : {M : Type 1} → statement M
 reduced-spec =
