@@ -3,3 +3,4 @@ pub mod Turns
 pub mod Folds
 pub mod Since
 pub mod Alternate
+pub mod Reduction
