@@ -7,11 +7,12 @@ use native.Mathlib.Omega.{arith}
 use native.Mathlib.Numerals.{add-one}
 use lib.Dec.{eqb}
 use lib.ListN.{length, getD, take, drop, drop-of-length-le}
-use lib.Seq.{take-suc, drop-cons}
+use lib.Seq.{take-suc, take-all, drop-cons}
 use Rattle.sets.specs.Tests.{_and_, _or_}
 use Rattle.sets.specs.Members.{width, bitsOf, mem, those}
 use Rattle.sets.specs.Rows.{rowAt, withRow}
 use Rattle.sets.specs.declared.set.Set.{Set}
+use Rattle.sets.proofs.Tests.{or-false}
 use Rattle.sets.proofs.Members.{those-ext, those-of, mem-those}
 use Rattle.rules.specs.Traces.{_has_, _beginsWith_}
 use Rattle.miner.specs.Passes.{Fact, gained, gains, forward, backward}
@@ -54,6 +55,26 @@ or-comm true true = refl
 or-comm true false = refl
 or-comm false true = refl
 or-comm false false = refl
+
+-- order does not matter to what stands in a list
+pub has-past : (x : ℕ) (xs ys : List ℕ) → reverseAux xs ys has x ≡ (xs has x or ys has x)
+unfolding _has_ _or_
+has-past x [] ys = refl
+has-past x (y ∷ xs) ys = has-past x xs (y ∷ ys) ∙ swap (eqb x y) (xs has x) (ys has x)
+  where
+    swap : (a b c : Bool) → (b or (a or c)) ≡ ((a or b) or c)
+    swap true true c = refl
+    swap true false c = refl
+    swap false true c = refl
+    swap false false c = refl
+
+-- after the last turn all of the trace was seen
+pub seen-all : (σ : List ℕ) (i : ℕ) (seen : Set) → length σ ≤ i → seen ≡ seenIn (pastAt σ i) → seen ≡ those (λ x. σ has x)
+unfolding _has_
+seen-all σ i seen h e =
+    e
+    ∙ those-ext (λ x. pastAt σ i has x) (λ x. σ has x)
+    (λ x l. has-past x (take i σ) [] ∙ or-false _ ∙ ap (λ (l : List ℕ). l has x) (take-all i σ h))
 
 -- a set of what was seen gains an event
 pub seen-more : (past : List ℕ) (e : ℕ) (seen one seen′ : Set) → seen ≡ seenIn past → one ≡ those (λ b. eqb b e)

@@ -5,6 +5,7 @@ ghost use mathlib.Core.List.{[], reverseAux};
 ghost use Rattle.sets.specs.Members.{mem, those};
 ghost use Rattle.sets.specs.Tests.{_and_, non, when_then_else_};
 ghost use Rattle.sets.specs.Rows.{rowAt, withRow};
+ghost use Rattle.rules.specs.Traces.{_has_};
 ghost use Rattle.miner.specs.Passes.{gained, forward, backward, isEarlier, notEarlier, notDirectly, notSince, isLater, notLater, isNext};
 use sets::Activity;
 use sets::Rows;
@@ -29,8 +30,9 @@ fn note_past(
     rows::join(unchained, e, last.complement());
 }
 
-// From the first place to the last.
-pub fn forward(trace: &[u8], before: &mut Rows, unpreceded: &mut Rows, unchained: &mut Rows)
+// From the first place to the last. It gives the set of what stands in the trace.
+pub fn forward(trace: &[u8], before: &mut Rows, unpreceded: &mut Rows, unchained: &mut Rows) -> Set
+    ensures { λ r. ⌜ r ≡ those (λ x. now (trace .entry) has x) ⌝ }
     ensures { λ _. ⌜ now (before .exit) ≡ forward isEarlier (now (before .entry)) [] (now (trace .entry)) ⌝ }
     ensures { λ _. ⌜ now (unpreceded .exit) ≡ forward notEarlier (now (unpreceded .entry)) [] (now (trace .entry)) ⌝ }
     ensures { λ _. ⌜ now (unchained .exit) ≡ forward notDirectly (now (unchained .entry)) [] (now (trace .entry)) ⌝ }
@@ -45,6 +47,7 @@ pub fn forward(trace: &[u8], before: &mut Rows, unpreceded: &mut Rows, unchained
         seen = seen.union(last);
         i += 1;
     }
+    seen
 }
 
 // One place: what comes after it, what does not, and what comes directly after it.

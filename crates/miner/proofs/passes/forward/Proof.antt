@@ -13,7 +13,7 @@ use Rattle.sets.specs.Members.{mem, those, bitsOf}
 use Rattle.sets.specs.declared.set.Set.{Set}
 use Rattle.rules.specs.Traces.{_has_, _beginsWith_}
 use Rattle.miner.specs.Passes.{Fact, gained, forward, isEarlier, notEarlier, notDirectly}
-use Rattle.miner.proofs.Turns.{pastAt, past-next, seenIn, lastIn, seen-more, seen-none, last-none, gained-by, forward-next, forward-end}
+use Rattle.miner.proofs.Turns.{pastAt, past-next, seenIn, lastIn, seen-more, seen-all, seen-none, last-none, gained-by, forward-next, forward-end}
 use Rattle.miner.proofs.passes.forward.Statement.{statement}
 use Rattle.miner.proofs.passes.forward.Tie as tie
 
@@ -81,13 +81,11 @@ loop-again c =
 returns : tie.Need-returns Inv-loop μ-loop
 returns c =
     let inv = c .before .loop .inv in
-    let over = c .loop-test .left in (
-      forward-end isEarlier _ _ _ _ over (inv .before),
-      (
-        forward-end notEarlier _ _ _ _ over (inv .unpreceded),
-        forward-end notDirectly _ _ _ _ over (inv .unchained),
-      ),
-    )
+    let over = c .loop-test .left in
+    ( seen-all _ _ _ over (inv .seen-is),
+      ( forward-end isEarlier _ _ _ _ over (inv .before),
+        ( forward-end notEarlier _ _ _ _ over (inv .unpreceded),
+          forward-end notDirectly _ _ _ _ over (inv .unchained))))
 
 pub forward-spec : {M : Type 1} → statement M
 forward-spec =
