@@ -3,4 +3,5 @@ pub mod Turns
 pub mod Folds
 pub mod Since
 pub mod Alternate
+pub mod Walks
 pub mod Reduction

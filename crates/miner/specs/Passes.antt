@@ -2,11 +2,13 @@
 -- answers is a theorem, so a reader of `mine` need not believe this file.
 use mathlib.Core.Bool.{Bool}
 use mathlib.Core.List.{List, [], _∷_}
-use Prim.Native.Nat.{ℕ}
+use Prim.Native.Nat.{ℕ, zero, suc}
+use lib.ListN.{take, drop}
 use Rattle.sets.specs.Tests.{_and_, _or_, non}
 use Rattle.sets.specs.Members.{width, mem, those, someBelow}
 use Rattle.sets.specs.Rows.{rowAt, withRow, inRow}
 use Rattle.sets.specs.declared.set.Set.{Set}
+use Rattle.calllog.specs.Logs.{partOf}
 use Rattle.rules.specs.Traces.{Traces, _has_, _beginsWith_, atSome}
 
 -- whether a place, by its activity, past and rest, puts x into the row of its activity
@@ -35,6 +37,11 @@ backward p rows past (e ∷ rest) = gains p (backward p rows (e ∷ past) rest) 
 unfoldable pub through : (List ℕ → List ℕ → List ℕ) → List ℕ → Traces → List ℕ
 through pass rows [] = rows
 through pass rows (σ ∷ L) = through pass (pass rows σ) L
+
+-- n parts of a log's bytes, from part k on: of an accepted log its traces
+unfoldable pub walked : List ℕ → ℕ → ℕ → Traces
+walked bytes zero k = []
+walked bytes (suc n) k = take (partOf bytes k .length) (drop (partOf bytes k .start) bytes) ∷ walked bytes n (suc k)
 
 -- ---- the facts of the passes, each of a place with the activity e
 

@@ -81,11 +81,16 @@ loop-again c =
 returns : tie.Need-returns Inv-loop μ-loop
 returns c =
     let inv = c .before .loop .inv in
-    let over = c .loop-test .left in
-    ( seen-all _ _ _ over (inv .seen-is),
-      ( forward-end isEarlier _ _ _ _ over (inv .before),
-        ( forward-end notEarlier _ _ _ _ over (inv .unpreceded),
-          forward-end notDirectly _ _ _ _ over (inv .unchained))))
+    let over = c .loop-test .left in (
+      seen-all _ _ _ over (inv .seen-is),
+      (
+        forward-end isEarlier _ _ _ _ over (inv .before),
+        (
+          forward-end notEarlier _ _ _ _ over (inv .unpreceded),
+          forward-end notDirectly _ _ _ _ over (inv .unchained),
+        ),
+      ),
+    )
 
 pub forward-spec : {M : Type 1} → statement M
 forward-spec =
