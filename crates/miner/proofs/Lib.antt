@@ -4,4 +4,6 @@ pub mod Folds
 pub mod Since
 pub mod Alternate
 pub mod Walks
+pub mod Heard
+pub mod Tallying
 pub mod Reduction

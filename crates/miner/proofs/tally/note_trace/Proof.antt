@@ -19,9 +19,10 @@ returns : tie.Need-returns
 returns c =
     let rest = c .before .backward .ensures in
     let since = c .before .before .before .before .before in
-    let past = since .before .before .forward .ensures in
-    ( union-seen _ _ _ _ (past .0) (c .union .ensures),
-      (past .1 .0, (rest .0, (past .1 .1 .0, (rest .1 .0, (past .1 .1 .1, (since .alternate .ensures, rest .1 .1)))))))
+    let past = since .before .before .forward .ensures in (
+      union-seen _ _ _ _ (past .0) (c .union .ensures),
+      (past .1 .0, (rest .0, (past .1 .1 .0, (rest .1 .0, (past .1 .1 .1, (since .alternate .ensures, rest .1 .1)))))),
+    )
 
 pub note-trace-spec : {M : Type 1} → statement M
 note-trace-spec =

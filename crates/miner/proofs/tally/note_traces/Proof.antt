@@ -123,15 +123,28 @@ loop-again c =
 returns : tie.Need-returns Inv-loop μ-loop
 returns c =
     let inv = c .before .loop .inv in
-    let over = c .loop-test .left in
-    ( events-end _ _ _ _ _ (inv .a-set) over (inv .events-are),
-      ( through-end (ahead isEarlier) _ _ _ _ _ over (inv .before),
-        ( through-end (back isLater) _ _ _ _ _ over (inv .later),
-          ( through-end (ahead notEarlier) _ _ _ _ _ over (inv .unpreceded),
-            ( through-end (back notLater) _ _ _ _ _ over (inv .unanswered),
-              ( through-end (ahead notDirectly) _ _ _ _ _ over (inv .unchained),
-                ( through-end (ahead notSince) _ _ _ _ _ over (inv .unalternated),
-                  through-end (back isNext) _ _ _ _ _ over (inv .followed))))))))
+    let over = c .loop-test .left in (
+      events-end _ _ _ _ _ (inv .a-set) over (inv .events-are),
+      (
+        through-end (ahead isEarlier) _ _ _ _ _ over (inv .before),
+        (
+          through-end (back isLater) _ _ _ _ _ over (inv .later),
+          (
+            through-end (ahead notEarlier) _ _ _ _ _ over (inv .unpreceded),
+            (
+              through-end (back notLater) _ _ _ _ _ over (inv .unanswered),
+              (
+                through-end (ahead notDirectly) _ _ _ _ _ over (inv .unchained),
+                (
+                  through-end (ahead notSince) _ _ _ _ _ over (inv .unalternated),
+                  through-end (back isNext) _ _ _ _ _ over (inv .followed),
+                ),
+              ),
+            ),
+          ),
+        ),
+      ),
+    )
 
 pub note-traces-spec : {M : Type 1} → statement M
 note-traces-spec =
