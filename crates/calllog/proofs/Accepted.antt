@@ -1,19 +1,17 @@
 -- What an accepted log keeps to, all of it: a log is accepted just where these facts hold. Assumes nothing.
-use mathlib.Core.Path.{_≡_, refl, sym, ap, subst, _∙_}
-use mathlib.Core.Bool.{Bool, true, false, not}
+use mathlib.Core.Path.{_≡_, refl, sym, subst, _∙_}
+use mathlib.Core.Bool.{true, not}
 use mathlib.Core.List.{List}
-use Prim.Native.Nat.{ℕ, zero, suc, _+_, _*_, _≤_, _<_}
+use Prim.Native.Nat.{ℕ, zero, suc, _+_, _≤_, _<_}
 use native.Mathlib.Nat.{le-refl}
 use native.Mathlib.Omega.{arith}
-use borrow.Author.Tests.{ltb-true, ltb-false, lt-ltb, le-ltb}
-use lib.Dec.{T, eqb, ltb, ltb→lt, lt→ltb}
+use borrow.Author.Tests.{ltb-false}
+use lib.Dec.{ltb, ltb→lt, lt→ltb}
 use lib.ListN.{length, drop}
-use Rattle.sets.specs.Tests.{non, when_then_else_}
-use Rattle.sets.specs.declared.answer.Answer.{Answer}
 use Rattle.sets.specs.declared.answer.Answer.the-variants.{Done, TooShort, WrongLetters, AboveLimit, WrongOffset, Outside}
 use Rattle.sets.proofs.Tests.{non-false, split, either, T→true}
-use Rattle.calllog.specs.Layout.{letters, mostActivities, mostTraces, longestTrace, mostEvents, headSize, opensWith, activitiesIn, tracesIn, offsetAt, lengthAt, bodiesStart, eventsBefore}
-use Rattle.calllog.specs.Judged.{thenAsk, firstRefusal, allBelow, judgedHead, judgedEntry, entryOf, judgedBodies, judgedContents, judgedLog}
+use Rattle.calllog.specs.Layout.{letters, mostActivities, mostTraces, longestTrace, mostEvents, headSize, longestLog, opensWith, activitiesIn, tracesIn, offsetAt, lengthAt, bodiesStart, eventsBefore}
+use Rattle.calllog.specs.Judged.{firstRefusal, allBelow, judgedHead, entryOf, judgedBodies, judgedContents, judgedLog}
 use Rattle.calllog.proofs.Order.{both, went, ask-on, none-refuses, no-refusal}
 use Rattle.calllog.proofs.Verdicts.{head-done, entry-done, bodies-done}
 use Rattle.calllog.proofs.Contents.{entry-good}
@@ -104,3 +102,8 @@ pub events-most : (bytes : List ℕ) (n : ℕ) → ((k : ℕ) → k < n → even
 unfolding eventsBefore
 events-most bytes zero f = omega arith
 events-most bytes (suc n) f = f n (le-refl _)
+
+-- an accepted log is no longer than the longest
+pub accepted-size : (bytes : List ℕ) → judgedLog bytes ≡ Done → length bytes ≤ longestLog
+unfolding bodiesStart
+accepted-size bytes d = let a = accepted bytes d in omega (arith, a .whole, a .traces, events-most bytes (tracesIn bytes) (a .totals))

@@ -2,18 +2,17 @@
 use mathlib.Core.Path.{_≡_, refl, sym, ap, _∙_}
 use mathlib.Core.Bool.{Bool, true, false, not}
 use mathlib.Core.List.{List}
-use Prim.Native.Nat.{ℕ, suc, _+_, _≤_, _<_}
+use Prim.Native.Nat.{ℕ, _+_, _≤_, _<_}
 use native.Mathlib.Numerals.{add-one}
 use native.Mathlib.Omega.{arith}
 use borrow.Author.Tests.{not-true, not-false, ltb-false}
-use lib.Dec.{eqb, ltb, eqb→eq}
-use Rattle.sets.specs.Tests.{non, when_then_else_}
+use lib.Dec.{eqb→eq}
 use Rattle.sets.specs.Answers.{isDone}
 use Rattle.sets.specs.declared.answer.Answer.{Answer}
 use Rattle.sets.specs.declared.answer.Answer.the-variants.{Done, AboveLimit, WrongOffset}
 use Rattle.sets.proofs.Tests.{non-false}
 use Rattle.calllog.specs.Layout.{longestTrace, mostEvents, tracesIn, offsetAt, lengthAt, eventsBefore}
-use Rattle.calllog.specs.Judged.{thenAsk, firstRefusal, judgedEntry, entryOf, judgedBodies, judgedContents}
+use Rattle.calllog.specs.Judged.{firstRefusal, judgedEntry, entryOf, judgedBodies, judgedContents}
 use Rattle.calllog.proofs.Order.{done-is, ask-on, ask-stop, went, refusal-next, refusal-stands}
 
 -- what an entry that is done tells

@@ -1,13 +1,12 @@
 -- Traces laid end to end: lengths, members, and where each stands. Assumes nothing.
-use mathlib.Core.Path.{_≡_, refl, sym, ap, ap₂, _∙_}
-use mathlib.Core.Bool.{Bool, true, false}
+use mathlib.Core.Path.{_≡_, refl, sym, ap, _∙_}
+use mathlib.Core.Bool.{true}
 use mathlib.Core.List.{List, [], _∷_, _++_, append-assoc}
-use Prim.Native.Nat.{ℕ, zero, suc, _+_, _≤_, _<_, suc-le-suc}
+use Prim.Native.Nat.{ℕ, zero, suc, _<_, suc-le-suc}
 use native.Mathlib.Nat.{not-suc-le-zero, le-of-suc-le-suc, zero-lt-suc}
 use lib.Dec.{T, ltb}
 use lib.ListN.{length, getD, take, drop, length-append}
 use lib.Seq.{take-append-seam, drop-append-add}
-use Rattle.sets.specs.Tests.{_and_}
 use Rattle.sets.proofs.Tests.{and-l, and-r, and-i, T→true, true→T}
 use Rattle.calllog.specs.Judged.{allBelow}
 use Rattle.calllog.specs.Written.{endToEnd}
@@ -21,7 +20,7 @@ below-split a (x ∷ xs) ys t =
     let r = below-split a xs ys (and-r (ltb x a) _ t) in
     (and-i (ltb x a) _ (and-l (ltb x a) _ t) (r .0), r .1)
 
-below-join : (a : ℕ) (xs ys : List ℕ) → T (allBelow a xs) → T (allBelow a ys) → T (allBelow a (xs ++ ys))
+pub below-join : (a : ℕ) (xs ys : List ℕ) → T (allBelow a xs) → T (allBelow a ys) → T (allBelow a (xs ++ ys))
 unfolding allBelow
 below-join a [] ys s t = t
 below-join a (x ∷ xs) ys s t = and-i (ltb x a) _ (and-l (ltb x a) _ s) (below-join a xs ys (and-r (ltb x a) _ s) t)

@@ -11,17 +11,16 @@ use mir.Val.{Fits}
 use lib.ListN.{length}
 use Rattle.sets.specs.Tests.{when_then_else_}
 use Rattle.sets.specs.Answers.{isDone}
-use Rattle.sets.specs.declared.answer.Answer.{Answer}
 use Rattle.sets.specs.declared.answer.Answer.the-variants.{Done, NoTrace}
 use Rattle.sets.proofs.Tests.{true→T}
-use Rattle.calllog.specs.Layout.{tracesIn, lengthAt, bodiesStart, eventsBefore}
-use Rattle.calllog.specs.Judged.{thenAsk, judgedLog}
-use Rattle.calllog.specs.Logs.{startAt, judgedOf, noPart, wherePart, partOf, foundAs, findingOf, foundOf, askedOf}
+use Rattle.calllog.specs.Layout.{tracesIn, lengthAt, eventsBefore}
+use Rattle.calllog.specs.Judged.{judgedLog}
+use Rattle.calllog.specs.Logs.{startAt, judgedOf, partOf, foundAs, findingOf, foundOf, askedOf}
 use Rattle.calllog.specs.declared.judge.Judged.{Judged}
 use Rattle.calllog.specs.declared.trace.Part.{Part}
 use Rattle.calllog.specs.declared.trace.Found.{Found}
 use Rattle.calllog.specs.declared.trace.Asked.{Asked}
-use Rattle.calllog.proofs.Order.{done-is, ask-on, ask-stop, both}
+use Rattle.calllog.proofs.Order.{done-is, ask-stop, both}
 use Rattle.calllog.proofs.Accepted.{Accepted, accepted, events-mono}
 use Rattle.calllog.proofs.Given.{log-answer, judged-accepted, where-is, part-of}
 
@@ -73,6 +72,14 @@ module _ (bytes : List ℕ) (k : ℕ) where
       go : (t : Bool) → ltb k (tracesIn bytes) ≡ t → (when t then Done else NoTrace) ≡ Done → k < tracesIn bytes
       go true e h = ltb-true k (tracesIn bytes) e
       go false e h = absurd (true→T (ap isDone h))
+
+-- what is found is the part that `trace_part` gives
+pub found-part : (bytes : List ℕ) (k : ℕ) (f : Found) → f ≡ foundOf bytes k → f .answer ≡ Done
+    → (judgedLog bytes ≡ Done) × (k < tracesIn bytes) × (f ≡ foundAs Done (partOf bytes k))
+found-part bytes k f e y =
+    let d : findingOf bytes k ≡ Done = sym (found-answer bytes k) ∙ ap (λ (x : Found). x .answer) (sym e) ∙ y in
+    let b = found-below bytes k d in
+    (b .0, b .1, e ∙ found-there bytes k d ∙ ap (foundAs Done) (sym (part-there bytes k (b .0) (b .1))))
 
 -- ---- what the code gives
 

@@ -1,26 +1,19 @@
 -- What the public functions give, as the code puts it together. Assumes nothing.
 use mathlib.Core.Path.{_≡_, refl, sym, ap, ap₂, _∙_}
 use mathlib.Core.Bool.{Bool, true, false, not}
-use mathlib.Core.List.{List, [], _∷_}
+use mathlib.Core.List.{List, []}
 use Prim.Native.Nat.{ℕ, zero, suc, _+_, _≤_, _<_}
-use native.Mathlib.Omega.{arith}
 use borrow.Author.Tests.{not-true, not-false, lt-ltb, le-ltb}
-use lib.Dec.{ltb}
 use lib.ListN.{length}
-use Rattle.sets.specs.Tests.{when_then_else_}
 use Rattle.sets.specs.Answers.{isDone}
 use Rattle.sets.specs.declared.answer.Answer.{Answer}
-use Rattle.sets.specs.declared.answer.Answer.the-variants.{Done, NoTrace}
-use Rattle.sets.proofs.Tests.{true→T, false→F}
-use Rattle.calllog.specs.Layout.{activitiesIn, tracesIn, offsetAt, lengthAt, bodiesStart, eventsBefore}
-use Rattle.calllog.specs.Judged.{thenAsk, judgedHead, judgedContents, judgedLog}
-use Rattle.calllog.specs.Logs.{Log, startAt, traceAt, tracesFrom, logOf, judgedOf, noPart, wherePart, partOf, foundAs, findingOf, foundOf, askedOf}
+use Rattle.sets.specs.declared.answer.Answer.the-variants.{Done}
+use Rattle.calllog.specs.Layout.{activitiesIn, tracesIn, offsetAt, lengthAt, bodiesStart}
+use Rattle.calllog.specs.Judged.{judgedHead, judgedContents, judgedLog}
+use Rattle.calllog.specs.Logs.{Log, tracesFrom, logOf, judgedOf, noPart, wherePart, partOf}
 use Rattle.calllog.specs.declared.judge.Judged.{Judged}
 use Rattle.calllog.specs.declared.trace.Part.{Part}
-use Rattle.calllog.specs.declared.trace.Found.{Found}
-use Rattle.calllog.specs.declared.trace.Asked.{Asked}
-use Rattle.calllog.proofs.Order.{done-is, ask-on, ask-stop, both}
-use Rattle.calllog.proofs.Accepted.{Accepted, accepted, events-mono}
+use Rattle.calllog.proofs.Order.{done-is, ask-on, ask-stop}
 
 -- ---- the log as a whole
 

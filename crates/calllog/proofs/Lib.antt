@@ -9,4 +9,5 @@ pub mod Ends
 pub mod Finding
 pub mod Traces
 pub mod Writing
+pub mod Bytes
 pub mod Long

@@ -7,15 +7,15 @@ use native.Mathlib.Nat.{not-suc-le-zero, le-of-suc-le-suc}
 use native.Mathlib.Omega.{arith}
 use borrow.Author.Tests.{le-ltb, ltb-false}
 use lib.Dec.{eqb, ltb}
-use lib.ListN.{length, getD, take}
+use lib.ListN.{length, take}
 use lib.Seq.{getD-take, length-take-le}
 use Rattle.sets.specs.Tests.{_and_, non, when_then_else_}
 use Rattle.sets.specs.Answers.{isDone}
 use Rattle.sets.specs.declared.answer.Answer.{Answer}
-use Rattle.sets.specs.declared.answer.Answer.the-variants.{Done, TooShort, WrongLetters, AboveLimit, WrongOffset}
-use Rattle.calllog.specs.Layout.{letters, mostActivities, mostTraces, mostEvents, headSize, longestLog, opensWith, numberAt, activitiesIn, tracesIn, offsetAt, lengthAt, bodiesStart, eventsBefore}
+use Rattle.sets.specs.declared.answer.Answer.the-variants.{Done, TooShort, WrongLetters, AboveLimit}
+use Rattle.calllog.specs.Layout.{letters, mostActivities, mostTraces, headSize, longestLog, opensWith, numberAt, activitiesIn, tracesIn, offsetAt, lengthAt, bodiesStart, eventsBefore}
 use Rattle.calllog.specs.Judged.{thenAsk, firstRefusal, judgedHead, judgedEntry, entryOf, judgedBodies, judgedContents, judgedLog}
-use Rattle.calllog.proofs.Order.{done-is, ask-on, ask-stop, none-refuses, refusals-same}
+use Rattle.calllog.proofs.Order.{done-is, ask-stop, none-refuses, refusals-same}
 use Rattle.calllog.proofs.Verdicts.{bodies-more}
 use Rattle.calllog.proofs.Contents.{entry-good}
 use Rattle.calllog.proofs.Accepted.{head-good, events-most}

@@ -1,26 +1,27 @@
 -- The traces of a log: how many, how long, which members, and that the bodies laid end to end are the traces. Assumes nothing.
 use mathlib.Core.Path.{_≡_, refl, sym, ap, subst, _∙_}
 use mathlib.Core.Bool.{Bool, true, false}
-use mathlib.Core.List.{List, [], _∷_, _++_, append-assoc, append-nil}
+use mathlib.Core.List.{List, [], _++_, append-assoc, append-nil}
 use Prim.Native.Nat.{ℕ, zero, suc, _+_, _≤_, _<_}
 use native.Mathlib.Nat.{not-suc-le-zero, le-of-suc-le-suc, add-zero, zero-add, add-suc, suc-add, add-assoc}
 use native.Mathlib.Omega.{arith}
 use borrow.Author.Tests.{ltb-false}
 use lib.Dec.{ltb}
-use lib.ListN.{length, getD, take, drop, length-take, length-drop, take-append-drop}
+use lib.ListN.{length, getD, take, drop, length-drop, take-append-drop}
 use lib.Seq.{drop-length, drop-drop, length-take-le}
 use Rattle.sets.specs.Tests.{when_then_else_}
 use Rattle.sets.specs.Answers.{isDone}
 use Rattle.sets.specs.declared.answer.Answer.the-variants.{Done}
 use Rattle.calllog.specs.Layout.{activitiesIn, tracesIn, offsetAt, lengthAt, bodiesStart, eventsBefore}
 use Rattle.calllog.specs.Judged.{judgedLog, allBelow}
-use Rattle.calllog.specs.Logs.{Log, startAt, traceAt, tracesFrom, logOf, noPart, wherePart, partOf}
+use Rattle.calllog.specs.Logs.{Log, startAt, traceAt, tracesFrom, logOf, noPart, wherePart, partOf, foundOf}
 use Rattle.calllog.specs.Written.{endToEnd, WithinLimits}
 use Rattle.calllog.specs.declared.trace.Part.{Part}
+use Rattle.calllog.specs.declared.trace.Found.{Found}
 use Rattle.calllog.proofs.Order.{done-is}
 use Rattle.calllog.proofs.Accepted.{Accepted, accepted, events-most}
 use Rattle.calllog.proofs.Given.{log-accepted, log-refused, length-tracesFrom}
-use Rattle.calllog.proofs.Finding.{trace-within, part-there}
+use Rattle.calllog.proofs.Finding.{trace-within, part-there, found-part}
 use Rattle.calllog.proofs.Ends.{below-each}
 
 -- ---- trace by trace
@@ -56,25 +57,51 @@ module _ (bytes : List ℕ) (d : judgedLog bytes ≡ Done) where
       ap length (trace-is k l)
       ∙ length-take-le (lengthAt bytes k) (drop (startAt bytes k) bytes) (omega (arith, length-drop (startAt bytes k) bytes))
 
-  -- what a caller takes out of its slice by `trace_part` is trace k
-  pub part-trace : (k : ℕ) → k < tracesIn bytes → take (partOf bytes k .length) (drop (partOf bytes k .start) bytes) ≡ getD (logOf bytes .traces) k []
-  part-trace k l = ap (λ (p : Part). take (p .length) (drop (p .start) bytes)) (part-there bytes k d l) ∙ sym (trace-is k l)
+-- ---- for callers: no log has to be judged again, and none has to be accepted
 
--- a part is within the bytes, whatever they are: a caller may always take it out of its slice
+-- a part is within the bytes, whatever they are, so a caller may always take it out of its slice
 pub part-within : (bytes : List ℕ) (k : ℕ) → partOf bytes k .start + partOf bytes k .length ≤ length bytes
 unfolding partOf wherePart
 part-within bytes k = outer (ltb k (tracesIn bytes))
   where
+    fits : Part → Type 0
+    fits p = p .start + p .length ≤ length bytes
+
     inner : (t : Bool) → ltb (length bytes) (startAt bytes k + lengthAt bytes k) ≡ t
-        → (when t then noPart else record { start = startAt bytes k; length = lengthAt bytes k }) .start
-        + (when t then noPart else record { start = startAt bytes k; length = lengthAt bytes k }) .length
-        ≤ length bytes
+        → fits (when t then noPart else record { start = startAt bytes k; length = lengthAt bytes k })
     inner true e = omega arith
     inner false e = ltb-false (length bytes) (startAt bytes k + lengthAt bytes k) e
 
-    outer : (t : Bool) → (when t then wherePart bytes k else noPart) .start + (when t then wherePart bytes k else noPart) .length ≤ length bytes
+    outer : (t : Bool) → fits (when t then wherePart bytes k else noPart)
     outer true = inner (ltb (length bytes) (startAt bytes k + lengthAt bytes k)) refl
     outer false = omega arith
+
+-- a log with a trace is accepted
+pub trace-accepted : (bytes : List ℕ) (k : ℕ) → k < length (logOf bytes .traces) → judgedLog bytes ≡ Done
+trace-accepted bytes k l = go (isDone (judgedLog bytes)) refl
+  where
+    go : (t : Bool) → isDone (judgedLog bytes) ≡ t → judgedLog bytes ≡ Done
+    go true e = done-is (judgedLog bytes) e
+    go false e = absurd (not-suc-le-zero (subst (λ (x : Log). k < length (x .traces)) (log-refused bytes e) l))
+
+-- what `trace_part` gives of trace k is trace k
+pub part-trace : (bytes : List ℕ) (k : ℕ) (p : Part) → k < length (logOf bytes .traces) → p ≡ partOf bytes k
+    → take (p .length) (drop (p .start) bytes) ≡ getD (logOf bytes .traces) k []
+part-trace bytes k p l e =
+    let d = trace-accepted bytes k l in
+    let h : k < tracesIn bytes = omega (arith, traces-number bytes d) in
+    ap (λ (x : Part). take (x .length) (drop (x .start) bytes)) (e ∙ part-there bytes k d h) ∙ sym (trace-is bytes d k h)
+
+-- what `find_trace` finds is trace k, within the bytes
+pub found-trace : (bytes : List ℕ) (k : ℕ) (f : Found) → f ≡ foundOf bytes k → f .answer ≡ Done
+    → (f .start + f .length ≤ length bytes) × (take (f .length) (drop (f .start) bytes) ≡ getD (logOf bytes .traces) k [])
+found-trace bytes k f e y =
+    let r = found-part bytes k f e y in
+    let p = partOf bytes k in
+    let l : k < length (logOf bytes .traces) = omega (arith, traces-number bytes (r .0), r .1) in (
+      subst (λ (x : Found). x .start + x .length ≤ length bytes) (sym (r .2)) (part-within bytes k),
+      ap (λ (x : Found). take (x .length) (drop (x .start) bytes)) (r .2) ∙ part-trace bytes k p l refl,
+    )
 
 -- ---- end to end
 

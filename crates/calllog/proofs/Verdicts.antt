@@ -1,13 +1,11 @@
 -- The judgement of a log, test by test, as the code meets the tests. Assumes nothing.
-use mathlib.Core.Path.{_≡_, refl, sym, ap, _∙_}
+use mathlib.Core.Path.{_≡_}
 use mathlib.Core.Bool.{Bool, true, false, not}
 use mathlib.Core.List.{List}
 use Prim.Native.Nat.{ℕ, _+_, _≤_, _<_}
 use borrow.Author.Tests.{lt-ltb, le-ltb, eq-eqb, ne-eqb, not-true, not-false}
-use lib.Dec.{eqb, ltb}
 use lib.ListN.{length, drop}
-use Rattle.sets.specs.Tests.{non, when_then_else_}
-use Rattle.sets.specs.declared.answer.Answer.{Answer}
+use Rattle.sets.specs.Tests.{non}
 use Rattle.sets.specs.declared.answer.Answer.the-variants.{Done, TooShort, WrongLetters, AboveLimit, WrongOffset, Outside}
 use Rattle.calllog.specs.Layout.{letters, mostActivities, mostTraces, longestTrace, mostEvents, headSize, opensWith, activitiesIn, tracesIn, bodiesStart}
 use Rattle.calllog.specs.Judged.{allBelow, judgedHead, judgedEntry, judgedBodies}

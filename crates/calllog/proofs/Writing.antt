@@ -1,7 +1,7 @@
 -- A log written by the rules from A and traces within the limits is accepted, and gives that A and those traces. Assumes nothing.
 use mathlib.Core.Path.{_≡_, refl, sym, ap, ap₂, _∙_}
-use mathlib.Core.Bool.{Bool, true, false}
-use mathlib.Core.List.{List, [], _∷_, _++_, append-assoc, append-nil}
+use mathlib.Core.Bool.{true}
+use mathlib.Core.List.{List, [], _∷_, _++_, append-nil}
 use Prim.Native.Nat.{ℕ, zero, suc, _+_, _*_, _/_, _%_, _≤_, _<_}
 use native.Mathlib.Nat.{not-suc-le-zero, le-of-suc-le-suc, add-zero, zero-add, add-assoc, le-refl}
 use native.Mathlib.Omega.{arith}
@@ -11,9 +11,9 @@ use Rattle.sets.specs.Tests.{_and_}
 use Rattle.sets.specs.declared.answer.Answer.the-variants.{Done}
 use Rattle.calllog.specs.Layout.{letters, headSize, entrySize, opensWith, numberAt, activitiesIn, tracesIn, offsetAt, lengthAt, bodiesStart, eventsBefore}
 use Rattle.calllog.specs.Judged.{judgedLog, allBelow}
-use Rattle.calllog.specs.Logs.{Log, startAt, traceAt, tracesFrom, logOf}
+use Rattle.calllog.specs.Logs.{Log, traceAt, tracesFrom, logOf}
 use Rattle.calllog.specs.Written.{twoBytes, entriesOf, endToEnd, logBytes, WithinLimits}
-use Rattle.calllog.proofs.Accepted.{Accepted, accepts}
+use Rattle.calllog.proofs.Accepted.{accepts}
 use Rattle.calllog.proofs.Given.{log-accepted, length-tracesFrom}
 use Rattle.calllog.proofs.Ends.{below-all, end-append, cut}
 use Rattle.calllog.proofs.Traces.{at-tracesFrom}

@@ -1,5 +1,4 @@
 -- What a log file says: its answer, A and the traces; and what the public functions give of it (01, "Log" and "Numbers given back").
-use mathlib.Core.Bool.{Bool, true, false}
 use mathlib.Core.List.{List, [], _∷_}
 use Prim.Native.Nat.{ℕ, zero, suc, _+_}
 use lib.Dec.{ltb}

@@ -34,7 +34,7 @@ pub fn judge_log(bytes: &[u8]) -> Judged
 }
 
 // The answer alone.
-pub fn judge(bytes: &[u8]) -> Answer
+fn judge(bytes: &[u8]) -> Answer
     ensures { λ r. ⌜ r ≡ judgedLog (now (bytes .entry)) ⌝ }
 {
     let head = judge_head(bytes);
@@ -50,7 +50,7 @@ fn judge_head(bytes: &[u8]) -> Answer
     if bytes.len() < layout::HEAD_SIZE {
         return Answer::TooShort;
     }
-    if !layout::opens_with(b"BL\x01", bytes) {
+    if !layout::opens_with(&layout::LETTERS, bytes) {
         return Answer::WrongLetters;
     }
     if layout::MOST_ACTIVITIES < layout::activities(bytes) {

@@ -5,6 +5,9 @@ ghost use Rattle.calllog.specs.Layout.{opensWith, numberAt, activitiesIn
 use sets::Activity;
 use sets::Place;
 
+// The two letters and the edition that a log opens with.
+pub const LETTERS: [u8; 3] = *b"BL\x01";
+
 // The greatest A, T, length of a trace and number of events.
 pub const MOST_ACTIVITIES: u8 = Activity::LIMIT;
 

@@ -24,7 +24,7 @@ pub fn marking_within(events: Set, m: Marking) -> bool
 }
 
 // The row s of the activity a.
-pub fn row_within(events: Set, a: Activity, s: Set) -> bool
+fn row_within(events: Set, a: Activity, s: Set) -> bool
     ensures { λ r. ⌜ r ≡ rowWithin events (a .0) s ⌝ }
 {
     if !s.is_within(events) {
@@ -50,7 +50,7 @@ pub fn rows_within(events: Set, rows: &Rows) -> bool
     true
 }
 
-pub fn relations_within<'a>(
+fn relations_within<'a>(
     events: Set,
     conditions: &'a Rows,
     responses: &'a Rows,
@@ -71,7 +71,7 @@ pub fn relations_within<'a>(
     rows_within(events, excludes)
 }
 
-pub fn graph_within<'a>(
+fn graph_within<'a>(
     activities: u8,
     events: Set,
     opening: Marking,

@@ -21,7 +21,7 @@ pub struct Replayed {
     pub accepting: bool,
 }
 
-// A whole trace on lent rows, from the marking m: for callers whose graph is judged.
+// A whole trace on lent rows, from the opening marking: for callers that have judged the graph.
 pub fn run<'a>(
     events: Set,
     conditions: &'a Rows,

@@ -3,7 +3,7 @@ ghost use mathlib.Core.Path.{_≡_};
 ghost use Rattle.sets.specs.Tests.{_and_, _or_, non};
 ghost use Rattle.sets.specs.Members.{mem, those};
 ghost use Rattle.sets.specs.Rows.{noRows};
-ghost use Rattle.engine.specs.Relations.{inRows};
+ghost use Rattle.engine.specs.Relations.{graphOf, inRows};
 ghost use Rattle.engine.specs.Steps as rules;
 ghost use Rattle.engine.specs.Replay.{enabledOf, steppedOf, acceptingOf};
 use crate::graph::Graph;
@@ -28,7 +28,7 @@ pub struct Verdict {
 }
 
 // Whether some condition source is included and not executed.
-pub fn is_waiting(conditions: &Rows, m: Marking, a: Activity) -> bool
+fn is_waiting(conditions: &Rows, m: Marking, a: Activity) -> bool
     ensures { λ r. ⌜ r ≡ rules.waits (inRows (now (conditions .entry)) noRows noRows noRows) m (a .0) ⌝ }
 {
     let sources = rows::row(conditions, a);
@@ -54,7 +54,7 @@ pub fn ask(events: Set, conditions: &Rows, m: Marking, a: Activity) -> Answer
 }
 
 // What is left of a set that loses some members, then gains others.
-pub fn changed(s: Set, lost: Set, gained: Set) -> Set
+fn changed(s: Set, lost: Set, gained: Set) -> Set
     ensures { λ r. ⌜ r ≡ those (λ a. mem s a and non (mem lost a) or mem gained a) ⌝ }
 {
     s.difference(lost).union(gained)
@@ -84,10 +84,40 @@ pub fn is_accepting(m: Marking) -> bool
     m.pending.intersection(m.included).is_empty()
 }
 
+// A graph by its parts, with a marking beside it: 3 and 5, then 8, 9, 10.
+fn ask_judged<'a>(
+    activities: u8,
+    events: Set,
+    opening: Marking,
+    conditions: &'a Rows,
+    responses: &'a Rows,
+    includes: &'a Rows,
+    excludes: &'a Rows,
+    m: Marking,
+    a: Activity,
+) -> Answer
+    ensures { λ r. ⌜ r ≡ enabledOf (graphOf activities events opening (now (conditions .entry)) (now (responses .entry)) (now (includes .entry)) (now (excludes .entry))) m (a .0) ⌝ }
+{
+    let answer = judge::judge_beside(
+        activities,
+        events,
+        opening,
+        conditions,
+        responses,
+        includes,
+        excludes,
+        m,
+    );
+    if !answer.is_done() {
+        return answer;
+    }
+    ask(events, conditions, m, a)
+}
+
 pub fn enabled(g: Graph, m: Marking, a: Activity) -> Answer
     ensures { λ r. ⌜ r ≡ enabledOf g m (a .0) ⌝ }
 {
-    let answer = judge::judge_beside(
+    ask_judged(
         g.activities,
         g.events,
         g.opening,
@@ -96,17 +126,25 @@ pub fn enabled(g: Graph, m: Marking, a: Activity) -> Answer
         &g.includes,
         &g.excludes,
         m,
-    );
-    if !answer.is_done() {
-        return answer;
-    }
-    ask(g.events, &g.conditions, m, a)
+        a,
+    )
 }
 
+// `enabled(g, m, a)` would copy the rows, since they are used again after it.
 pub fn step(g: Graph, m: Marking, a: Activity) -> Stepped
     ensures { λ r. ⌜ r ≡ steppedOf g m (a .0) ⌝ }
 {
-    let answer = enabled(g, m, a);
+    let answer = ask_judged(
+        g.activities,
+        g.events,
+        g.opening,
+        &g.conditions,
+        &g.responses,
+        &g.includes,
+        &g.excludes,
+        m,
+        a,
+    );
     if !answer.is_done() {
         return Stepped { answer, marking: m };
     }

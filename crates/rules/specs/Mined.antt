@@ -11,8 +11,8 @@ use Rattle.rules.specs.Mining.{event, mined}
 
 -- a graph that has nothing executed or pending and all events included, with its relations put down in rows: a condition in the row of its
 -- target, any other pair in the row of its source
-unfoldable pub graphOf : ℕ → Set → Relations → Graph
-graphOf A events r =
+unfoldable pub graphFrom : ℕ → Set → Relations → Graph
+graphFrom A events r =
     record {
       activities = A;
       events = events;
@@ -25,4 +25,4 @@ graphOf A events r =
 
 -- A is the log's, and the events are the activities that occur
 unfoldable pub minedGraph : ℕ → Traces → Graph
-minedGraph A L = graphOf A (those (event L)) (mined L)
+minedGraph A L = graphFrom A (those (event L)) (mined L)

@@ -1,5 +1,8 @@
 -- 01, "Mining, in this order": first what the rules ask of the log, then the ten steps. A step is given the relations as they stood when it
--- began, and gives the relations after it; `s excludes t` is `g .excludes s t`, and so for the others: the source first, then the target.
+-- began, and gives the relations after it.
+-- To read it: `g .excludes s t` asks whether s excludes t in the relations g, source first, and so for the other three; `eqb s t` asks
+-- whether s is t; `λ s t. ..` is the relation of the pairs s, t that pass what follows; `λ past rest. ..` is a test of a place by what stands
+-- before and after it, nearest first.
 use mathlib.Core.Bool.{Bool, false}
 use mathlib.Core.List.{List, [], _∷_}
 use Prim.Native.Nat.{ℕ}
@@ -104,17 +107,17 @@ module _ (L : Traces) where
         excludes = g .excludes;
       }
 
-  -- 3. Where t only ever stands directly after s, s includes t and t excludes itself.
-  unfoldable pub directlyAfter : Relation
-  directlyAfter s t = non (eqb s t) and chained s t
+  -- 3. Where every t has another activity s directly before it, s includes t and t excludes itself.
+  unfoldable pub directlyBefore : Relation
+  directlyBefore s t = non (eqb s t) and chained s t
 
   unfoldable pub step3 : Relations → Relations
   step3 g =
       record {
         conditions = g .conditions;
         responses = g .responses;
-        includes = g .includes with directlyAfter;
-        excludes = g .excludes with (λ s t. eqb s t and someEvent (λ u. directlyAfter u t));
+        includes = g .includes with directlyBefore;
+        excludes = g .excludes with (λ s t. eqb s t and someEvent (λ u. directlyBefore u t));
       }
 
   -- 4. What never shares a trace: each target is excluded by the smallest source of this step's pairs.
@@ -130,10 +133,10 @@ module _ (L : Traces) where
         excludes = g .excludes with smallestSource neverTogether;
       }
 
-  -- 5. What is over once another has come: s is before t in some trace, after t in none, and does not exclude itself. Then t is the source
-  -- and s the target, and again each target is excluded by the smallest source of this step's pairs.
-  unfoldable pub overAfter : Relations → Relation
-  overAfter g t s = event s and event t and before s t and non (before t s) and non (g .excludes s s)
+  -- 5. Where s is before t in some trace, after t in none, and does not exclude itself, t closes s: here t is the source and s the target.
+  -- Again each target is excluded by the smallest source of this step's pairs.
+  unfoldable pub closes : Relations → Relation
+  closes g t s = event s and event t and before s t and non (before t s) and non (g .excludes s s)
 
   unfoldable pub step5 : Relations → Relations
   step5 g =
@@ -141,7 +144,7 @@ module _ (L : Traces) where
         conditions = g .conditions;
         responses = g .responses;
         includes = g .includes;
-        excludes = g .excludes with smallestSource (overAfter g);
+        excludes = g .excludes with smallestSource (closes g);
       }
 
   -- 6. Where no s is directly followed by t (s may be t), s excludes t, and whatever stands between an s and a later t includes t.

@@ -1,7 +1,7 @@
 use Rattle.calllog.specs.Judged.{allBelow}
 use lib.ListN.{drop}
 use Rattle.calllog.proofs.Scans.{scanning}
-use Prim.Native.Nat.{ℕ, _+_, _-_, _≤_, _<_}
+use Prim.Native.Nat.{_-_}
 use mathlib.Core.Path.{_≡_}
 use lib.ListN.{length}
 use borrow.Author.Needs.{needs}

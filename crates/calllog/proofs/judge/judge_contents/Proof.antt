@@ -2,9 +2,8 @@ use Rattle.sets.specs.declared.answer.Answer.the-variants.{Done}
 use Rattle.calllog.specs.Layout.{mostEvents, tracesIn, eventsBefore}
 use Rattle.calllog.specs.Judged.{firstRefusal, entryOf}
 use Rattle.calllog.proofs.Contents.{turns}
-use Prim.Native.Nat.{ℕ, _+_, _-_, _≤_, _<_}
+use Prim.Native.Nat.{_-_, _≤_}
 use mathlib.Core.Path.{_≡_}
-use lib.ListN.{length}
 use borrow.Author.Needs.{needs}
 use Rattle.calllog.proofs.judge.judge_contents.Statement.{statement}
 use Rattle.calllog.proofs.judge.judge_contents.Tie as tie

@@ -1,7 +1,7 @@
 use Rattle.calllog.specs.Layout.{opensWith}
 use lib.ListN.{drop}
 use Rattle.calllog.proofs.Scans.{opening}
-use Prim.Native.Nat.{ℕ, _+_, _-_, _≤_, _<_}
+use Prim.Native.Nat.{_-_, _≤_}
 use mathlib.Core.Path.{_≡_}
 use lib.ListN.{length}
 use borrow.Author.Needs.{needs}

@@ -2,8 +2,8 @@ use borrow.Author.Needs.{needs}
 use Rattle.engine.specs.Replay.{enabledOf}
 use Rattle.engine.proofs.Stepping.{asked}
 use Rattle.engine.proofs.Judging.{ask-stops, ask-goes}
-use Rattle.engine.proofs.step.enabled.Statement.{statement}
-use Rattle.engine.proofs.step.enabled.Tie as tie
+use Rattle.engine.proofs.step.ask_judged.Statement.{statement}
+use Rattle.engine.proofs.step.ask_judged.Tie as tie
 
 judge-beside-requires : tie.Need-judge-beside-requires
 judge-beside-requires c κs = search needs
@@ -22,6 +22,6 @@ returns-2 : tie.Need-returns-2
 unfolding enabledOf
 returns-2 c = search (ask-goes, asked, needs)
 
-pub enabled-spec : {M : Type 1} → statement M
-enabled-spec =
+pub ask-judged-spec : {M : Type 1} → statement M
+ask-judged-spec =
     tie.close (tie.spec judge-beside-requires is-done-requires returns ask-requires returns-2)
