@@ -1,3 +1,4 @@
 -- The modules of `proofs/` that belong to no one function.
 pub mod Turns
 pub mod StepLaws
+pub mod Passing
