@@ -2,3 +2,5 @@
 pub mod Turns
 pub mod StepLaws
 pub mod Passing
+pub mod Tautologies
+pub mod LogLaws
