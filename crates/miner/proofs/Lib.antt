@@ -4,3 +4,5 @@ pub mod StepLaws
 pub mod Passing
 pub mod Tautologies
 pub mod LogLaws
+pub mod RowReadings
+pub mod Readings
