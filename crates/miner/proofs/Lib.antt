@@ -6,3 +6,4 @@ pub mod Tautologies
 pub mod LogLaws
 pub mod RowReadings
 pub mod Readings
+pub mod Exclusions
