@@ -7,3 +7,4 @@ pub mod LogLaws
 pub mod RowReadings
 pub mod Readings
 pub mod Exclusions
+pub mod LaterSteps
