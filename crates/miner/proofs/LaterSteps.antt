@@ -1,11 +1,11 @@
 -- Steps 8 to 10 on rows, and the mined relations as they are put together from a tally and from what the second pass finds. Assumes nothing.
-use mathlib.Core.Path.{_≡_, refl, sym, ap, ap₂, _∙_}
+use mathlib.Core.Path.{_≡_, sym, ap, ap₂, _∙_}
 use mathlib.Core.Bool.{Bool}
 use mathlib.Core.List.{List}
 use Prim.Native.Nat.{ℕ}
 use lib.Dec.{eqb}
 use Rattle.sets.specs.Tests.{_and_, _or_, non}
-use Rattle.sets.specs.Members.{width, mem, those, someBelow}
+use Rattle.sets.specs.Members.{width, those, someBelow}
 use Rattle.sets.specs.Rows.{Relation, inRow, rowsOf}
 use Rattle.sets.proofs.Tests.{non-non}
 use Rattle.sets.proofs.Below.{some-ext}
@@ -13,7 +13,7 @@ use Rattle.sets.proofs.Members.{mem-those}
 use Rattle.sets.proofs.RowLaws.{in-rowsOf, rowsOf-ext}
 use Rattle.engine.specs.Relations.{Relations}
 use Rattle.rules.specs.Traces.{Traces}
-use Rattle.rules.specs.Mining.{event, someEvent, _with_, _without_, followed, between, beforeFirst, neverMissed, reduced, step1, step2, step3, step4, step5, step6, step7, step8, step9, step10, noRelations, afterFive, afterSeven, afterEight, mined}
+use Rattle.rules.specs.Mining.{event, someEvent, _with_, _without_, followed, between, beforeFirst, neverMissed, reduced, step2, step3, step4, step5, step6, step7, step8, step9, step10, afterFive, afterSeven, afterEight, mined}
 use Rattle.miner.specs.Tallies.{tallyOf}
 use Rattle.miner.specs.Reading.{turned, inEither, reducedOf, waited}
 use Rattle.miner.proofs.Tautologies.{by4, by5}

@@ -1,8 +1,9 @@
 -- The modules of `proofs/` that belong to no one function.
 pub mod Turns
+pub mod Tautologies
+pub mod MadeSets
 pub mod StepLaws
 pub mod Passing
-pub mod Tautologies
 pub mod LogLaws
 pub mod RowReadings
 pub mod Readings

@@ -1,5 +1,5 @@
 -- A loop that passes a set member by member, the least first, until none is left. Assumes nothing.
-use mathlib.Core.Path.{_≡_, refl, sym, ap, ap₂, _∙_, subst}
+use mathlib.Core.Path.{_≡_, refl, sym, ap, _∙_, subst}
 use mathlib.Core.Bool.{Bool, true, false, not}
 use mathlib.Core.Logic.{_⊎_, inl, inr}
 use mathlib.Core.List.{List}
@@ -10,27 +10,20 @@ use Rattle.sets.specs.Tests.{_and_, _or_, non}
 use Rattle.sets.specs.Members.{width, mem, those, someBelow, countBelow, leastBelow, isEmpty}
 use Rattle.sets.specs.Rows.{Relation, rowAt, withRow, inRow, rowsOf}
 use Rattle.sets.specs.declared.set.Set.{Set}
-use Rattle.sets.proofs.Tests.{and-l, and-r, and-i, or-e, or-l, or-r, non-i, non-e, T-ext, T-eq, true→T, F→false, false→F, false-and, or-false, non-false, eqb-of, split, either}
+use Rattle.sets.proofs.Tests.{and-l, and-r, and-i, or-e, or-l, or-r, non-i, non-e, T-ext, T-eq, true→T, F→false, false→F, false-and, or-false, non-false, split, either}
 use Rattle.sets.proofs.Below.{some-i, some-e, some-ext, least-is, least-lt}
 use Rattle.sets.proofs.Members.{those-ext, those-of, empty-e, empty-none, fewer}
 use Rattle.sets.proofs.RowLaws.{gain-rowsOf, rowsOf-ext}
-use Rattle.miner.proofs.StepLaws.{Is, is-those, is-row, joined, none}
+use Rattle.miner.proofs.Tautologies.{by3, by4}
+use Rattle.miner.proofs.MadeSets.{Is, is-those, is-row, joined, none}
 
 regroup : (q p e g : Bool) → (q or p and g or e and g) ≡ (q or (p or e) and g)
-unfolding _and_ _or_
-regroup true p e g = refl
-regroup false true e true = refl
-regroup false true true false = refl
-regroup false true false false = refl
-regroup false false e g = refl
+unfolding _and_ _or_ non
+regroup = by4 (λ q p e g. q or p and g or e and g) (λ q p e g. q or (p or e) and g) tt
 
 and-last : (p q r : Bool) → (p and q and r) ≡ (p and r and q)
-unfolding _and_
-and-last false q r = refl
-and-last true true true = refl
-and-last true true false = refl
-and-last true false true = refl
-and-last true false false = refl
+unfolding _and_ _or_ non
+and-last = by3 (λ p q r. p and q and r) (λ p q r. p and r and q) tt
 
 -- a is of the whole, and is left no more
 unfoldable pub passed : Set → Set → ℕ → Bool

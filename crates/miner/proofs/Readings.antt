@@ -1,27 +1,23 @@
 -- What is read from the tally of a log is what the rules make of the log, after steps 2, 3, 5, 6 and 7. Assumes nothing.
-use mathlib.Core.Path.{_≡_, refl, sym, ap, ap₂, _∙_}
-use mathlib.Core.Bool.{Bool, true, false}
+use mathlib.Core.Path.{_≡_, sym, ap, ap₂, _∙_}
+use mathlib.Core.Bool.{Bool, false}
 use mathlib.Core.List.{List}
-use Prim.Native.Nat.{ℕ, _<_}
-use borrow.Author.Tests.{eqb-true, eqb-false, eq-eqb, ne-eqb}
-use lib.Dec.{T, eqb, eqb→eq}
+use Prim.Native.Nat.{ℕ}
+use lib.Dec.{eqb, eqb→eq}
 use Rattle.sets.specs.Tests.{_and_, _or_, non}
-use Rattle.sets.specs.Members.{width, mem, those, someBelow}
+use Rattle.sets.specs.Members.{those}
 use Rattle.sets.specs.Rows.{Relation, inRow, rowsOf}
 use Rattle.sets.specs.declared.set.Set.{Set}
-use Rattle.sets.proofs.Tests.{and-l, and-r, T-ext, F→false, eqb-of, false-and, non-non}
-use Rattle.sets.proofs.Below.{some-ext}
-use Rattle.sets.proofs.Members.{mem-those, those-ext}
+use Rattle.sets.proofs.Tests.{T-ext, eqb-of, non-non}
+use Rattle.sets.proofs.Members.{mem-those}
 use Rattle.sets.proofs.RowLaws.{in-rowsOf, rowsOf-ext}
-use Rattle.engine.specs.Relations.{Relations}
 use Rattle.rules.specs.Traces.{Traces}
-use Rattle.rules.specs.Mining.{noPair, noRelations, smallestSource, event, someEvent, _with_, _without_, precedes, answers, chained, before, followed, alternates, atMostOnce, together, directlyAfter, neverTogether, overAfter, step1, step2, step3, step4, step5, step6, step7, afterFive, afterSeven}
+use Rattle.rules.specs.Mining.{noPair, noRelations, event, _with_, precedes, answers, chained, directlyAfter, step1, step2, step3, step4, step5, afterFive}
 use Rattle.miner.specs.declared.tally.Tally.{Tally}
 use Rattle.miner.specs.Tallies.{tallyOf}
 use Rattle.miner.specs.Reading.{unbroken, absent, excludesItself, diagonal, apart, smallestOf, turned, inEither, notRedundant, overAfter as overAfterRow}
-use Rattle.miner.proofs.Tautologies.{by3, by4, by5}
-use Rattle.miner.proofs.LogLaws.{once, together-before}
-use Rattle.miner.proofs.RowReadings.{turned-rows, united-rows, diagonal-rows, smallest-rows}
+use Rattle.miner.proofs.Tautologies.{by4}
+use Rattle.miner.proofs.RowReadings.{turned-rows}
 
 -- ---- what the code puts together from a tally
 
@@ -54,6 +50,17 @@ sixOf t = rowsOf (inEither (fiveOf t) (rowsOf (absent (t .events) (t .followed))
 abbrev pub sevenOf : Tally → List ℕ
 sevenOf t = rowsOf (notRedundant (t .events) (sixOf t) (t .unalternated))
 
+by-target : (a b c d : Bool) → (a and b and c and d) ≡ (b and a and (false or c and d))
+unfolding _and_ _or_ non
+by-target = by4 (λ a b c d. a and b and c and d) (λ a b c d. b and a and (false or c and d)) tt
+
+by-source : (a b c d : Bool) → (a and b and c and d) ≡ (a and b and (false or c and d))
+unfolding _and_ _or_ non
+by-source = by4 (λ a b c d. a and b and c and d) (λ a b c d. a and b and (false or c and d)) tt
+
+eqb-sym : (a b : ℕ) → eqb a b ≡ eqb b a
+eqb-sym a b = T-ext (eqb a b) (eqb b a) (λ t. eqb-of (sym (eqb→eq a b t))) (λ t. eqb-of (sym (eqb→eq b a t)))
+
 module _ (L : Traces) where
   -- ---- steps 2 and 3: pairs of two events that nothing broke
 
@@ -66,17 +73,6 @@ module _ (L : Traces) where
       ap₂ (λ (e f : Bool). e and f and non (eqb x a) and non (inRow (rowsOf (λ b y. non (R b y))) a x)) (mem-those (event L) a la) (mem-those (event L) x lx)
       ∙ ap (λ (b : Bool). event L a and event L x and non (eqb x a) and non b) (in-rowsOf (λ b y. non (R b y)) a x la lx)
       ∙ ap (λ (b : Bool). event L a and event L x and non (eqb x a) and b) (non-non (R a x)))
-
-  by-target : (a b c d : Bool) → (a and b and c and d) ≡ (b and a and (false or c and d))
-  unfolding _and_ _or_ non
-  by-target = by4 (λ a b c d. a and b and c and d) (λ a b c d. b and a and (false or c and d)) tt
-
-  by-source : (a b c d : Bool) → (a and b and c and d) ≡ (a and b and (false or c and d))
-  unfolding _and_ _or_ non
-  by-source = by4 (λ a b c d. a and b and c and d) (λ a b c d. a and b and (false or c and d)) tt
-
-  eqb-sym : (a b : ℕ) → eqb a b ≡ eqb b a
-  eqb-sym a b = T-ext (eqb a b) (eqb b a) (λ t. eqb-of (sym (eqb→eq a b t))) (λ t. eqb-of (sym (eqb→eq b a t)))
 
   pub conditions-read : conditionsOf (tallyOf L) ≡ rowsOf (λ t s. afterFive L .conditions s t)
   unfolding tallyOf afterFive step5 step4 step3 step2 step1 noRelations noPair _with_

@@ -1,15 +1,14 @@
 -- The readings of rows that are some relation's rows: each is again the rows of a relation. Assumes nothing.
-use mathlib.Core.Path.{_≡_, refl, sym, ap, ap₂, _∙_, subst}
-use mathlib.Core.Bool.{Bool, true, false}
-use mathlib.Core.Logic.{_⊎_}
+use mathlib.Core.Path.{_≡_, ap, ap₂, _∙_, subst}
+use mathlib.Core.Bool.{Bool}
 use Prim.Native.Nat.{ℕ, _<_, _≤_}
 use native.Mathlib.Omega.{arith}
 use borrow.Author.Tests.{ltb-true, ltb-false}
 use lib.Dec.{T, eqb, eqb→eq, ltb}
 use Rattle.sets.specs.Tests.{_and_, _or_, non}
-use Rattle.sets.specs.Members.{width, mem, those, someBelow, leastBelow}
+use Rattle.sets.specs.Members.{width, those, someBelow, leastBelow}
 use Rattle.sets.specs.Rows.{Relation, inRow, rowsOf}
-use Rattle.sets.proofs.Tests.{and-l, and-r, and-i, non-i, non-e, T-ext, T→true, F→false, true→T, false→F, eqb-of, split, either}
+use Rattle.sets.proofs.Tests.{and-l, and-r, and-i, non-i, non-e, T-ext, T→true, F→false, false→F, eqb-of, split, either}
 use Rattle.sets.proofs.Below.{some-i, some-e, some-ext, least-ext, least-is, least-before}
 use Rattle.sets.proofs.Members.{mem-those}
 use Rattle.sets.proofs.RowLaws.{in-rowsOf, rowsOf-ext}

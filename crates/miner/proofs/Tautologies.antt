@@ -32,3 +32,12 @@ by4 f g t a = by3 (f a) (g a) (all-e (λ x. all (λ b. all (λ c. all (λ d. sam
 pub by5 : (f g : Bool → Bool → Bool → Bool → Bool → Bool)
     → T (all (λ a. all (λ b. all (λ c. all (λ d. all (λ e. same (f a b c d e) (g a b c d e))))))) → (a b c d e : Bool) → f a b c d e ≡ g a b c d e
 by5 f g t a = by4 (f a) (g a) (all-e (λ x. all (λ b. all (λ c. all (λ d. all (λ e. same (f x b c d e) (g x b c d e)))))) t a)
+
+pub and-false : (a : Bool) → (a and false) ≡ false
+unfolding _and_
+and-false true = refl
+and-false false = refl
+
+pub false-or : (a : Bool) → (false or a) ≡ a
+unfolding _or_
+false-or a = refl

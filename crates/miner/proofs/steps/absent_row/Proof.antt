@@ -1,6 +1,6 @@
 use borrow.Author.Needs.{needs}
 use Rattle.miner.specs.Reading.{absent}
-use Rattle.miner.proofs.StepLaws.{less, is-those, is-row}
+use Rattle.miner.proofs.MadeSets.{less, is-those, is-row}
 use Rattle.miner.proofs.steps.absent_row.Statement.{statement}
 use Rattle.miner.proofs.steps.absent_row.Tie as tie
 

@@ -1,7 +1,7 @@
 use borrow.Author.Needs.{needs}
 use Rattle.sets.specs.Tests.{_or_}
 use Rattle.miner.specs.Reading.{apart}
-use Rattle.miner.proofs.StepLaws.{joined, less, is-those, is-row}
+use Rattle.miner.proofs.MadeSets.{joined, less, is-those, is-row}
 use Rattle.miner.proofs.steps.apart_row.Statement.{statement}
 use Rattle.miner.proofs.steps.apart_row.Tie as tie
 

@@ -1,5 +1,5 @@
 use borrow.Author.Needs.{needs}
-use Rattle.miner.proofs.StepLaws.{with-itself}
+use Rattle.miner.proofs.MadeSets.{with-itself}
 use Rattle.miner.proofs.steps.diagonal_row.Statement.{statement}
 use Rattle.miner.proofs.steps.diagonal_row.Tie as tie
 

@@ -1,5 +1,5 @@
 use borrow.Author.Needs.{needs}
-use Rattle.miner.proofs.StepLaws.{no-event, never-again, only-after}
+use Rattle.miner.proofs.MadeSets.{no-event, never-again, only-after}
 use Rattle.miner.proofs.steps.excludes_itself.Statement.{statement}
 use Rattle.miner.proofs.steps.excludes_itself.Tie as tie
 

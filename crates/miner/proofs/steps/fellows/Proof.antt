@@ -1,7 +1,7 @@
 use mathlib.Core.Path.{sym}
 use borrow.Author.Needs.{needs}
 use Rattle.sets.proofs.Members.{those-mem}
-use Rattle.miner.proofs.StepLaws.{where-true, where-false}
+use Rattle.miner.proofs.MadeSets.{where-true, where-false}
 use Rattle.miner.proofs.steps.fellows.Statement.{statement}
 use Rattle.miner.proofs.steps.fellows.Tie as tie
 

@@ -1,7 +1,7 @@
 use mathlib.Core.Path.{refl}
 use borrow.Author.Needs.{needs}
 use Rattle.miner.specs.Reading.{notRedundant}
-use Rattle.miner.proofs.StepLaws.{less, is-row}
+use Rattle.miner.proofs.MadeSets.{less, is-row}
 use Rattle.miner.proofs.Passing.{through}
 use Rattle.miner.proofs.steps.not_redundant_row.Statement.{statement}
 use Rattle.miner.proofs.steps.not_redundant_row.Tie as tie

@@ -1,6 +1,6 @@
 use borrow.Author.Needs.{needs}
 use mathlib.Core.Path.{refl}
-use Rattle.miner.proofs.StepLaws.{where-true, where-false}
+use Rattle.miner.proofs.MadeSets.{where-true, where-false}
 use Rattle.miner.proofs.steps.one_if.Statement.{statement}
 use Rattle.miner.proofs.steps.one_if.Tie as tie
 

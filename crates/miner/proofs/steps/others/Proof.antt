@@ -1,5 +1,5 @@
 use borrow.Author.Needs.{needs}
-use Rattle.miner.proofs.StepLaws.{less, is-those}
+use Rattle.miner.proofs.MadeSets.{less, is-those}
 use Rattle.miner.proofs.steps.others.Statement.{statement}
 use Rattle.miner.proofs.steps.others.Tie as tie
 

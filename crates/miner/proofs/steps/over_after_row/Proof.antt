@@ -1,7 +1,7 @@
 use borrow.Author.Needs.{needs}
 use Rattle.sets.specs.Tests.{_and_}
 use Rattle.miner.specs.Reading.{overAfter}
-use Rattle.miner.proofs.StepLaws.{joined, less, is-those, is-row, unless-true, unless-false}
+use Rattle.miner.proofs.MadeSets.{joined, less, is-those, is-row, unless-true, unless-false}
 use Rattle.miner.proofs.steps.over_after_row.Statement.{statement}
 use Rattle.miner.proofs.steps.over_after_row.Tie as tie
 

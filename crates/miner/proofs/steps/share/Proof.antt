@@ -1,6 +1,5 @@
-use mathlib.Core.Path.{_≡_}
 use borrow.Author.Needs.{needs}
-use Rattle.sets.specs.Members.{width, mem, those, countBelow}
+use Rattle.sets.specs.Members.{width, mem, countBelow}
 use Rattle.miner.proofs.Passing.{Part, Shared, share-turn, share-end, members}
 use Rattle.miner.proofs.steps.share.Statement.{statement}
 use Rattle.miner.proofs.steps.share.Tie as tie

@@ -1,7 +1,7 @@
 use borrow.Author.Needs.{needs}
 use Rattle.sets.specs.Tests.{_or_}
 use Rattle.miner.specs.Reading.{inEither}
-use Rattle.miner.proofs.StepLaws.{joined, is-row}
+use Rattle.miner.proofs.MadeSets.{joined, is-row}
 use Rattle.miner.proofs.steps.united_row.Statement.{statement}
 use Rattle.miner.proofs.steps.united_row.Tie as tie
 

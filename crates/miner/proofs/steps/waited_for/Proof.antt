@@ -1,6 +1,6 @@
 use borrow.Author.Needs.{needs}
 use Rattle.sets.specs.Tests.{_and_}
-use Rattle.miner.proofs.StepLaws.{without, joined, less, is-those, is-row}
+use Rattle.miner.proofs.MadeSets.{without, joined, less, is-those, is-row}
 use Rattle.miner.proofs.steps.waited_for.Statement.{statement}
 use Rattle.miner.proofs.steps.waited_for.Tie as tie
 

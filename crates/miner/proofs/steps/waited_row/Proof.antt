@@ -1,7 +1,7 @@
 use borrow.Author.Needs.{needs}
 use Rattle.sets.specs.Tests.{_and_, _or_}
 use Rattle.miner.specs.Reading.{waited}
-use Rattle.miner.proofs.StepLaws.{joined, is-those, is-row}
+use Rattle.miner.proofs.MadeSets.{joined, is-those, is-row}
 use Rattle.miner.proofs.steps.waited_row.Statement.{statement}
 use Rattle.miner.proofs.steps.waited_row.Tie as tie
 

@@ -3,7 +3,7 @@ use mathlib.Core.Path.{refl, ap, _∙_}
 use Prim.Native.Nat.{ℕ}
 use lib.Dec.{eqb}
 use Rattle.sets.specs.Members.{those}
-use Rattle.miner.proofs.StepLaws.{less, is-those}
+use Rattle.miner.proofs.MadeSets.{less, is-those}
 use Rattle.miner.proofs.steps.without_least.Statement.{statement}
 use Rattle.miner.proofs.steps.without_least.Tie as tie
 
