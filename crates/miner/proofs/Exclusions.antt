@@ -26,7 +26,7 @@ use Rattle.miner.proofs.Readings.{selvesOf, apartOf, overOf, fiveOf, si
 -- ---- tests alone
 
 -- a test that holds of two events only
-among : (x e f : Bool) → (T x → T e) → (T x → T f) → x ≡ (e and f and x)
+pub among : (x e f : Bool) → (T x → T e) → (T x → T f) → x ≡ (e and f and x)
 among x e f he hf = T-ext x (e and f and x) (λ t. and-i _ _ (and-i _ _ (he t) (hf t)) t) (λ t. and-r _ _ t)
 
 in-events : (e x : Bool) (ev d : ℕ → Bool) → (e and (x or someBelow width (λ u. ev u and e and (false or d u)))) ≡ (e and (x or someBelow width (λ u. ev u and d u)))

@@ -3,12 +3,12 @@ use mathlib.Core.Path.{_≡_, sym, ap, ap₂, _∙_}
 use mathlib.Core.Bool.{Bool}
 use mathlib.Core.List.{List}
 use Prim.Native.Nat.{ℕ}
-use lib.Dec.{eqb}
+use lib.Dec.{T, eqb}
 use Rattle.sets.specs.Tests.{_and_, _or_, non}
 use Rattle.sets.specs.Members.{width, those, someBelow}
 use Rattle.sets.specs.Rows.{Relation, inRow, rowsOf}
-use Rattle.sets.proofs.Tests.{non-non}
-use Rattle.sets.proofs.Below.{some-ext}
+use Rattle.sets.proofs.Tests.{and-r, non-non}
+use Rattle.sets.proofs.Below.{some-e, some-ext}
 use Rattle.sets.proofs.Members.{mem-those}
 use Rattle.sets.proofs.RowLaws.{in-rowsOf, rowsOf-ext}
 use Rattle.engine.specs.Relations.{Relations}
@@ -17,9 +17,10 @@ use Rattle.rules.specs.Mining.{event, someEvent, _with_, _without_, followed, b
 use Rattle.miner.specs.Tallies.{tallyOf}
 use Rattle.miner.specs.Reading.{turned, inEither, reducedOf, waited}
 use Rattle.miner.proofs.Tautologies.{by4, by5}
+use Rattle.miner.proofs.LogLaws.{middle-event, later-event}
 use Rattle.miner.proofs.RowReadings.{reduced-rows}
 use Rattle.miner.proofs.Readings.{conditionsOf, responsesOf, chainsOf, sevenOf, conditions-read, responses-read, includes-read}
-use Rattle.miner.proofs.Exclusions.{with-events, joined-rows, excludes-seven}
+use Rattle.miner.proofs.Exclusions.{among, with-events, joined-rows, excludes-seven}
 
 -- a pair of a relation is a pair of events
 abbrev pub Among : Traces → Relation → Type 0
@@ -109,13 +110,25 @@ module _ (L : Traces) where
       ∙ ap (λ (rows : List ℕ). rowsOf (reducedOf rows)) (waited-read (afterEight L))
       ∙ reduced-by-target (step9 L (afterEight L) .conditions) (with-events L _ _)
 
-  pub includes-mined : rowsOf (inEither (rowsOf (turned (chainsOf (tallyOf L))))
-      (rowsOf (λ u t. event L u and event L t and someEvent L (λ s. non (followed L s t) and between L s u t)))) ≡ rowsOf (mined L .includes)
-  unfolding mined step10 step9 afterEight step8 afterSeven step7 step6 afterFive step5 step4 step3
+  -- what step 6 adds: each u that stands between an s and a later t, where no s is directly followed by t
+  betweens : Relation
+  betweens u t = someEvent L (λ s. non (followed L s t) and between L s u t)
+
+  betweens-events : Among L betweens
+  unfolding someEvent betweens
+  betweens-events u t = among (betweens u t) (event L u) (event L t) (λ h. middle-event L _ u t (at h)) (λ h. later-event L _ u t (at h))
+    where
+      at : (h : T (someBelow width (λ s. event L s and (non (followed L s t) and between L s u t))))
+          → T (between L (some-e width (λ s. event L s and (non (followed L s t) and between L s u t)) h .0) u t)
+      at h = and-r _ _ (and-r _ _ (some-e width (λ s. event L s and (non (followed L s t) and between L s u t)) h .2))
+
+  pub includes-mined : rowsOf (inEither (rowsOf (turned (chainsOf (tallyOf L)))) (rowsOf (λ u t. someEvent L (λ s. non (followed L s t) and between L s u t))))
+      ≡ rowsOf (mined L .includes)
+  unfolding mined step10 step9 afterEight step8 afterSeven step7 step6 afterFive step5 step4 step3 betweens
   includes-mined =
-      ap (λ (rows : List ℕ). rowsOf (inEither rows (rowsOf (λ u t. event L u and event L t and someEvent L (λ s. non (followed L s t) and between L s u t)))))
-      (includes-read L)
-      ∙ joined-rows L _ _ (λ u t. someEvent L (λ s. non (followed L s t) and between L s u t))
+      ap₂ (λ (x y : List ℕ). rowsOf (inEither x y)) (includes-read L)
+      (rowsOf-ext betweens (λ u t. event L u and event L t and betweens u t) (λ u t lu lt. betweens-events u t))
+      ∙ joined-rows L _ _ betweens
 
   pub excludes-mined : sevenOf (tallyOf L) ≡ rowsOf (mined L .excludes)
   unfolding mined step10 step9 afterEight step8

@@ -4,11 +4,11 @@ use mathlib.Core.Path.{_≡_, refl, sym, ap, ap₂, _∙_}
 use mathlib.Core.Bool.{Bool, true, false}
 use mathlib.Core.List.{List, [], _∷_}
 use Prim.Native.Nat.{ℕ}
-use lib.Dec.{eqb, eqb→eq}
+use lib.Dec.{T, eqb, eqb→eq}
 use Rattle.sets.specs.Tests.{_and_, _or_, non}
-use Rattle.sets.proofs.Tests.{and-l, and-r, non-and, F→false, false→F, or-true}
+use Rattle.sets.proofs.Tests.{and-l, and-r, or-e, or-l, or-r, either, non-and, F→false, false→F, or-true}
 use Rattle.rules.specs.Traces.{Traces, _has_, atEachFrom, atSomeFrom, everyTrace, someTrace}
-use Rattle.rules.specs.Mining.{atMostOnce, before, together}
+use Rattle.rules.specs.Mining.{event, atMostOnce, before, together, between}
 use Rattle.miner.proofs.Tautologies.{by2, by4, by5}
 
 -- ---- every and some, of places and of traces
@@ -104,3 +104,32 @@ module _ (s t : ℕ) (d : s ≡ t → ⊥) where
   together-before L =
       some-ext L (λ σ. σ has s and σ has t) (λ σ. preceded s t [] σ or preceded t s [] σ) together-trace
       ∙ some-or L (preceded s t []) (preceded t s [])
+
+-- ---- step 6: what stands between two, and the later of the two, are events
+
+module _ (u : ℕ) (p : List ℕ → List ℕ → Bool) where
+  stands : (past σ : List ℕ) → T (atSomeFrom u p past σ) → T (σ has u)
+  unfolding atSomeFrom _has_
+  stands past [] h = h
+  stands past (x ∷ σ) h = either (or-e _ _ h) (λ k. or-l _ _ (and-l _ _ k)) (λ k. or-r _ _ (stands (x ∷ past) σ k))
+
+  follows : (t : ℕ) → ((past rest : List ℕ) → T (p past rest) → T (rest has t)) → (past σ : List ℕ) → T (atSomeFrom u p past σ) → T (σ has t)
+  unfolding atSomeFrom _has_
+  follows t f past [] h = h
+  follows t f past (x ∷ σ) h = either (or-e _ _ h) (λ k. or-r _ _ (f past σ (and-r _ _ k))) (λ k. or-r _ _ (follows t f (x ∷ past) σ k))
+
+some-more : (L : Traces) (p q : List ℕ → Bool) → ((σ : List ℕ) → T (p σ) → T (q σ)) → T (someTrace L p) → T (someTrace L q)
+unfolding someTrace
+some-more [] p q f h = h
+some-more (σ ∷ L) p q f h = either (or-e _ _ h) (λ k. or-l _ _ (f σ k)) (λ k. or-r _ _ (some-more L p q f k))
+
+module _ (L : Traces) (s u t : ℕ) (h : T (between L s u t)) where
+  pub middle-event : T (event L u)
+  unfolding between event
+  middle-event = some-more L (atSomeFrom u (λ past rest. past has s and rest has t) []) (λ σ. σ has u) (stands u (λ past rest. past has s and rest has t) []) h
+
+  pub later-event : T (event L t)
+  unfolding between event
+  later-event =
+      some-more L (atSomeFrom u (λ past rest. past has s and rest has t) []) (λ σ. σ has t)
+      (follows u (λ past rest. past has s and rest has t) t (λ past rest k. and-r _ _ k) []) h
