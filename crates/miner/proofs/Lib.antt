@@ -7,3 +7,12 @@ pub mod Walks
 pub mod Heard
 pub mod Tallying
 pub mod Reduction
+pub mod Tautologies
+pub mod MadeSets
+pub mod StepLaws
+pub mod Passing
+pub mod LogLaws
+pub mod RowReadings
+pub mod Readings
+pub mod Exclusions
+pub mod LaterSteps

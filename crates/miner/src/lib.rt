@@ -1,6 +1,7 @@
 // The miner: from the bytes of a log to its graph, in passes linear in the events.
 mod passes;
 mod reduce;
+mod steps;
 mod tally;
 
 pub use tally::Tally;
