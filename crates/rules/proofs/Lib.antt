@@ -1,1 +1,8 @@
 -- The modules of `proofs/` that belong to no one function.
+pub mod Places
+pub mod Why
+pub mod InTurn
+pub mod Acceptable
+pub mod Demand3
+pub mod Listed
+pub mod Cases

@@ -1,0 +1,183 @@
+-- Demand 3: every trace of an accepted log, and the empty trace, replays on the graph mined of the log: it is done, whole, and ends with no
+-- step pending. Here is the marking at each place, the step to the next place, and the theorem. Assumes nothing.
+use mathlib.Core.Path.{_≡_, refl, sym, ap, subst, _∙_}
+use mathlib.Core.Bool.{Bool, true, false}
+use mathlib.Core.Logic.{_⊎_, inl, inr}
+use mathlib.Core.List.{List, [], _∷_, reverseAux, List·Memᴰ}
+use Prim.Native.Nat.{ℕ, suc, _+_, _<_, _≤_}
+use native.Mathlib.Nat.{add-zero, zero-add, lt-of-lt-of-le}
+use native.Mathlib.Numerals.{add-one}
+use native.Mathlib.Omega.{arith}
+use lib.Dec.{T, eqb, eqb-refl}
+use lib.ListN.{length}
+use Rattle.sets.specs.Tests.{_and_, _or_, non, when_then_else_}
+use Rattle.sets.specs.Members.{width, bitsOf, mem, those}
+use Rattle.sets.specs.Rows.{inRow, rowsOf}
+use Rattle.sets.specs.Answers.{isDone}
+use Rattle.sets.specs.declared.set.Set.{Set}
+use Rattle.sets.specs.declared.answer.Answer.{Answer}
+use Rattle.sets.specs.declared.answer.Answer.the-variants.{Done}
+use Rattle.sets.proofs.Tests.{and-l, and-r, or-e, or-l, or-r, non-i, non-e, T-eq, T→true, F→false, T-ext, either}
+use Rattle.sets.proofs.Bits.{bit-zero}
+use Rattle.sets.proofs.Below.{some-e}
+use Rattle.sets.proofs.Members.{mem-those, those-i, those-ext}
+use Rattle.sets.proofs.RowLaws.{in-rowsOf}
+use Rattle.engine.specs.declared.marking.Marking.{Marking}
+use Rattle.engine.specs.declared.graph.Graph.{Graph}
+use Rattle.engine.specs.declared.replay.Replayed.{Replayed}
+use Rattle.engine.specs.Markings.{noSet, emptyMarking}
+use Rattle.engine.specs.Relations.{Relations, relationsOf}
+use Rattle.engine.specs.Steps.{waits, enabled, after, accepting}
+use Rattle.engine.specs.Judged.{longestTrace, judgedFor}
+use Rattle.engine.specs.Replay.{ending, replayFrom, replayOf}
+use Rattle.rules.specs.Traces.{Traces, _has_}
+use Rattle.rules.specs.Mining.{event, includedAfter, afterEight, mined, step9, step10}
+use Rattle.rules.specs.Mined.{graphOf, minedGraph}
+use Rattle.rules.specs.Replays.{Accepted, Replays}
+use Rattle.rules.proofs.Places.{has-first, has-rest}
+use Rattle.rules.proofs.InTurn.{Small, is-event, included-here, condition-here, response-here}
+use Rattle.rules.proofs.Acceptable.{passed, acceptable-for}
+
+-- the marking m between past and rest: executed is what stands in the past, included is what step 9 found, and what is pending stands in
+-- the rest
+pub record Marks (L : Traces) (past rest : List ℕ) (m : Marking) : Type 0 where
+  pub ran : (a : ℕ) → a < width → mem (m .executed) a ≡ past has a
+  pub open-now : (a : ℕ) → a < width → mem (m .included) a ≡ includedAfter L (afterEight L) past a
+  pub due : ℕ → Bool
+  pub pends : m .pending ≡ those due
+  pub later : (a : ℕ) → a < width → T (due a) → T (rest has a)
+
+-- a replay that ended at place n with nothing pending
+pub record Through (n : ℕ) (r : Replayed) : Type 0 where
+  pub done : r .answer ≡ Done
+  pub whole : r .place .0 ≡ n
+  pub settled : r .marking .pending ≡ noSet
+  pub accepted : r .accepting ≡ true
+
+or-swap : (a b : Bool) → (a or b) ≡ (b or a)
+or-swap a b = T-ext _ _ (λ t. either (or-e _ _ t) (λ x. or-r _ _ x) (λ x. or-l _ _ x)) (λ t. either (or-e _ _ t) (λ x. or-r _ _ x) (λ x. or-l _ _ x))
+
+none : those (λ a. false) ≡ noSet
+unfolding bitsOf
+none = refl
+
+-- nothing is pending where nothing is left to come
+settles : (L : Traces) (past : List ℕ) (m : Marking) → Marks L past [] m → m .pending ≡ noSet
+unfolding _has_
+settles L past m f = f .pends ∙ those-ext (f .due) (λ a. false) (λ a l. F→false _ (f .later a l)) ∙ none
+
+accepts : (m : Marking) → m .pending ≡ noSet → accepting m ≡ true
+unfolding accepting
+accepts m e =
+    T→true _ (non-i _ (λ t.
+    let r = some-e width _ t in
+    T-eq (ap (λ (s : Set). mem s (r .0)) e ∙ bit-zero (r .0)) (and-l _ _ (r .2))))
+
+module _ (A : ℕ) (L : Traces) where
+  abbrev G : Graph
+  G = minedGraph A L
+
+  opens : (σ : List ℕ) → Marks L [] σ (G .opening)
+  unfolding minedGraph graphOf includedAfter _has_
+  opens σ =
+      record {
+        ran = λ a l. bit-zero a;
+        open-now = λ a l. mem-those (event L) a l;
+        due = λ a. false;
+        pends = sym none;
+        later = λ a l t. absurd t;
+      }
+
+  -- ---- the event e, at its place
+
+  module _ (small : Small L) (e : ℕ) (past rest : List ℕ) (here : List·Memᴰ (reverseAux past (e ∷ rest)) L) (m : Marking) (f : Marks L past (e ∷ rest) m) where
+    low : e < width
+    low = small _ here e (has-rest e past (e ∷ rest) (has-first e rest))
+
+    an-event : T (mem (G .events) e)
+    unfolding minedGraph graphOf
+    an-event = those-i (event L) e low (is-event L e here (has-rest e past (e ∷ rest) (has-first e rest)))
+
+    is-included : T (mem (m .included) e)
+    is-included = T-eq (sym (f .open-now e low)) (included-here L small e past rest here)
+
+    not-waiting : T (waits (relationsOf G) m e) → ⊥
+    unfolding waits minedGraph graphOf
+    not-waiting w =
+        let r = some-e width _ w in
+        let s : ℕ = r .0 in
+        let condition = T-eq (in-rowsOf (λ t s. mined L .conditions s t) e s low (r .1)) (and-l _ _ (and-l _ _ (r .2))) in
+        let included = T-eq (f .open-now s (r .1)) (and-r _ _ (and-l _ _ (r .2))) in
+        non-e _ (and-r _ _ (r .2)) (T-eq (sym (f .ran s (r .1))) (condition-here L s e past rest here condition included))
+
+    turn : enabled (G .events) (relationsOf G) m e ≡ Done
+    unfolding enabled
+    turn = rw (passed (mem (G .events) e) an-event, passed (mem (m .included) e) is-included, F→false (waits (relationsOf G) m e) not-waiting)
+
+    pending-next : ℕ → Bool
+    pending-next a = mem (m .pending) a and non (eqb a e) or relationsOf G .responses e a
+
+    comes : (a : ℕ) → a < width → T (pending-next a) → T (rest has a)
+    unfolding pending-next minedGraph graphOf _has_
+    comes a l t =
+        either (or-e _ _ t)
+        (λ p. either (or-e _ _ (f .later a l (T-eq (ap (λ (s : Set). mem s a) (f .pends) ∙ mem-those (f .due) a l) (and-l _ _ p))))
+        (λ q. absurd (non-e _ (and-r _ _ p) q))
+        (λ q. q))
+        (λ q. response-here L e a past rest here (T-eq (in-rowsOf (mined L .responses) e a low l) q))
+
+    steps : Marks L (e ∷ past) rest (after (relationsOf G) m e)
+    unfolding after pending-next minedGraph graphOf includedAfter mined step10 step9 _has_
+    steps =
+        record {
+          ran = λ a l. mem-those _ a l ∙ or-swap _ _ ∙ ap (λ (b : Bool). eqb a e or b) (f .ran a l);
+          open-now = λ a l. mem-those _ a l
+              ∙ (λ i. f .open-now a l i and non (in-rowsOf (afterEight L .excludes) e a low l i) or in-rowsOf (afterEight L .includes) e a low l i);
+          due = pending-next;
+          pends = refl;
+          later = comes;
+        }
+
+  -- ---- from place to place
+
+  ends : (past : List ℕ) (i : ℕ) (m : Marking) → Marks L past [] m → Through i (replayFrom (G .events) (relationsOf G) m i [])
+  unfolding replayFrom
+  ends past i m f = let e = settles L past m f in record { done = refl; whole = refl; settled = e; accepted = accepts m e }
+
+  goes-on : (e : ℕ) (rest : List ℕ) (i : ℕ) (m : Marking) → enabled (G .events) (relationsOf G) m e ≡ Done
+      → replayFrom (G .events) (relationsOf G) m i (e ∷ rest) ≡ replayFrom (G .events) (relationsOf G) (after (relationsOf G) m e) (i + 1) rest
+  unfolding replayFrom
+  goes-on e rest i m h =
+      ap (λ (a : Answer). when isDone a then replayFrom (G .events) (relationsOf G) (after (relationsOf G) m e) (i + 1) rest else ending a i m false) h
+
+  through : Small L → (past rest : List ℕ) (i : ℕ) (m : Marking) → List·Memᴰ (reverseAux past rest) L → Marks L past rest m
+      → Through (i + length rest) (replayFrom (G .events) (relationsOf G) m i rest)
+  through small past [] i m here f = rw add-zero (ends past i m f)
+  through small past (e ∷ rest) i m here f =
+      let n : i + 1 + length rest ≡ i + suc (length rest) = omega arith in
+      rw (goes-on e rest i m (turn small e past rest here m f), ← n)
+      (through small (e ∷ past) rest (i + 1) (after (relationsOf G) m e) here (steps small e past rest here m f))
+
+  -- the engine takes the graph, and then replays
+  replays : Accepted A L → (σ : List ℕ) → length σ ≤ longestTrace → Through (length σ) (replayFrom (G .events) (relationsOf G) (G .opening) 0 σ) → Replays G σ
+  unfolding replayOf
+  replays ok σ l t =
+      let taken : replayOf G σ ≡ replayFrom (G .events) (relationsOf G) (G .opening) 0 σ =
+      ap (λ (a : Answer). when isDone a then replayFrom (G .events) (relationsOf G) (G .opening) 0 σ else ending a 0 emptyMarking false)
+      (acceptable-for A L ok (length σ) l) in
+      record {
+        done = ap (λ (r : Replayed). r .answer) taken ∙ t .done;
+        whole = ap (λ (r : Replayed). r .place .0) taken ∙ t .whole;
+        settled = ap (λ (r : Replayed). r .marking .pending) taken ∙ t .settled;
+        accepted = ap (λ (r : Replayed). r .accepting) taken ∙ t .accepted;
+      }
+
+-- THE THEOREM
+pub demand3 : (A : ℕ) (L : Traces) → Accepted A L → (σ : List ℕ) → List·Memᴰ σ L ⊎ (σ ≡ []) → Replays (minedGraph A L) σ
+demand3 A L ok σ (inl m) =
+    replays A L ok σ (ok .lengths σ m)
+    (rw (← zero-add (length σ))
+    (through A L (λ τ n a h. lt-of-lt-of-le (ok .members τ n a h) (ok .activities)) [] σ 0 (minedGraph A L .opening) m (opens A L σ)))
+demand3 A L ok σ (inr e) =
+    subst (λ (τ : List ℕ). Replays (minedGraph A L) τ) (sym e)
+    (replays A L ok [] (omega arith) (ends A L [] 0 (minedGraph A L .opening) (opens A L [])))

@@ -1,0 +1,85 @@
+-- Graphs, logs and results as 01 writes them down: a relation by its pairs, a set by its members. For the tables of worked cases.
+use mathlib.Core.Bool.{Bool, false}
+use mathlib.Core.List.{List, [], _∷_}
+use Prim.Native.Nat.{ℕ}
+use lib.Dec.{eqb}
+use lib.ListN.{getD}
+use Rattle.sets.specs.Tests.{_and_, _or_}
+use Rattle.sets.specs.Members.{width, those}
+use Rattle.sets.specs.Rows.{Relation, listFrom, rowsOf}
+use Rattle.sets.specs.Answers.{numberOf}
+use Rattle.sets.specs.declared.set.Set.{Set}
+use Rattle.engine.specs.declared.marking.Marking.{Marking}
+use Rattle.engine.specs.declared.graph.Graph.{Graph}
+use Rattle.engine.specs.declared.step.Stepped.{Stepped}
+use Rattle.engine.specs.declared.replay.Replayed.{Replayed}
+use Rattle.engine.specs.Markings.{markingOf}
+use Rattle.engine.specs.Replay.{replayOf, steppedOf}
+use Rattle.rules.specs.Traces.{Traces, _has_}
+use Rattle.rules.specs.Mined.{minedGraph}
+
+infix 80 _to_
+infix 75 _gives_
+-- a pair, source and target
+pub data Pair : Type 0 where
+  _to_ : ℕ → ℕ → Pair
+
+-- the relation that has the pairs
+abbrev pub oneOf : List Pair → Relation
+oneOf [] s t = false
+oneOf ((a to b) ∷ ps) s t = eqb a s and eqb b t or oneOf ps s t
+
+-- the set that has the members
+abbrev pub setOf : List ℕ → Set
+setOf xs = those (λ a. xs has a)
+
+-- A, the events, and the pairs of the four relations as in a listing: C, R, I, E
+abbrev pub listed : ℕ → List ℕ → List Pair → List Pair → List Pair → List Pair → Graph
+listed A events c r i e =
+    record {
+      activities = A;
+      events = setOf events;
+      opening = markingOf (setOf []) (setOf []) (setOf events);
+      conditions = rowsOf (λ t s. oneOf c s t);
+      responses = rowsOf (oneOf r);
+      includes = rowsOf (oneOf i);
+      excludes = rowsOf (oneOf e);
+    }
+
+-- the first rows, each as the number of its set; the others are empty
+abbrev pub rows : List ℕ → List ℕ
+rows xs = listFrom width 0 (λ a. getD xs a 0)
+
+-- ---- a table: what is asked, and what it gives
+
+pub data Asked : Type 0 where
+  mining : ℕ → Traces → Asked
+  replaying : Graph → List ℕ → Asked
+  stepping : Graph → Marking → ℕ → Asked
+
+pub data Given : Type 0 where
+  graph : Graph → Given
+  -- the number, the place, and accepting
+  ended : ℕ → ℕ → Bool → Given
+  -- the number, and the marking
+  stepped : ℕ → Marking → Given
+
+abbrev pub end : Replayed → Given
+end r = ended (numberOf (r .answer)) (r .place .0) (r .accepting)
+
+abbrev pub step : Stepped → Given
+step r = stepped (numberOf (r .answer)) (r .marking)
+
+abbrev pub answered : Asked → Given
+answered (mining A L) = graph (minedGraph A L)
+answered (replaying g σ) = end (replayOf g σ)
+answered (stepping g m e) = step (steppedOf g m e)
+
+pub data Case : Type 0 where
+  _gives_ : Asked → Given → Case
+
+abbrev pub asked : Case → Given
+asked (q gives a) = answered q
+
+abbrev pub wanted : Case → Given
+wanted (q gives a) = a
