@@ -2,20 +2,18 @@
 use mathlib.Core.Path.{_≡_, refl, sym, ap, _∙_}
 use mathlib.Core.Bool.{Bool, true, false}
 use mathlib.Core.List.{List, [], _∷_}
-use Prim.Native.Nat.{ℕ, _+_, _^_, _<_, _≤_}
-use borrow.Author.Tests.{ltb-true, ltb-false}
-use lib.Dec.{eqb, ltb}
+use Prim.Native.Nat.{ℕ, _+_, _^_, _<_}
 use lib.ListN.{length, getD, drop}
 use Rattle.sets.specs.Tests.{_and_, _or_, non}
 use Rattle.sets.specs.Members.{width, bitsOf, mem, those}
 use Rattle.sets.specs.Rows.{rowAt, withRow, inRow}
 use Rattle.sets.specs.declared.set.Set.{Set}
-use Rattle.sets.proofs.Tests.{T→true, F→false, split, either, and-true}
+use Rattle.sets.proofs.Tests.{and-true}
 use Rattle.sets.proofs.Members.{those-ext, those-of, those-mem, mem-those}
-use Rattle.sets.proofs.RowLaws.{put-out}
 use Rattle.rules.specs.Traces.{_has_}
-use Rattle.miner.specs.Passes.{Fact, gains, forward, beforeFirst, stillIncluded, missed}
-use Rattle.miner.proofs.Turns.{pastAt, past-next, seenIn, seen-more, gains-by, forward-next}
+use Rattle.miner.specs.Passes.{gains, forward, beforeFirst, stillIncluded, missed}
+use Rattle.miner.proofs.Turns.{pastAt, past-next, seenIn, forward-next}
+use Rattle.miner.proofs.Gains.{gains-below, seen-is}
 
 -- ---- the answers of the functions of a turn
 
@@ -36,11 +34,6 @@ module _ (seen : Set) (e : ℕ) (b : Bool) (h : b ≡ mem seen e) where
       sym (those-mem seen l)
       ∙ those-ext (mem seen) (λ x. mem seen x and non (mem seen e)) (λ x k. sym (and-true (mem seen x)) ∙ ap (λ (a : Bool). mem seen x and non a) (sym f ∙ h))
 
--- a row joined with a set of which the members are known
-pub gain-of : (rows : List ℕ) (e : ℕ) (s : Set) (p : ℕ → Bool) (rows′ : List ℕ) → s ≡ those p
-    → rows′ ≡ withRow rows e (those (λ b. mem (rowAt rows e) b or mem s b)) → rows′ ≡ withRow rows e (those (λ b. mem (rowAt rows e) b or p b))
-gain-of rows e s p rows′ hs h = h ∙ ap (withRow rows e) (those-of s p (λ b t. mem (rowAt rows e) b or t) hs)
-
 -- what e excludes goes, then what it includes comes
 pub included-by : (included kept r in-row out-row : Set) (includes excludes : List ℕ) (e : ℕ)
     → out-row ≡ rowAt excludes e → kept ≡ those (λ x. mem included x and non (mem out-row x))
@@ -52,33 +45,7 @@ included-by included kept r in-row out-row includes excludes e ho hk hi hr =
     ∙ ap (λ (s : Set). those (λ x. mem included x and non (mem s x) or mem in-row x)) ho
     ∙ ap (λ (s : Set). those (λ x. mem included x and non (mem (rowAt excludes e) x) or mem s x)) hi
 
-pub with-one : (seen one r : Set) (e : ℕ) → one ≡ those (λ b. eqb b e) → r ≡ those (λ a. mem seen a or mem one a) → r ≡ those (λ x. mem seen x or eqb x e)
-with-one seen one r e ho hr = hr ∙ those-of one (λ b. eqb b e) (λ a t. mem seen a or t) ho
-
 -- ---- the turn as the definitions say it
-
--- the row of the event gains a set that is the fact's, or there is no such row
-pub gains-below : (p : Fact) (rows : List ℕ) (e : ℕ) (past rest : List ℕ) (q : ℕ → Bool) (rows′ : List ℕ)
-    → (e < width → (x : ℕ) → x < width → q x ≡ p e past rest x)
-    → rows′ ≡ withRow rows e (those (λ b. mem (rowAt rows e) b or q b)) → rows′ ≡ gains p rows e past rest
-gains-below p rows e past rest q rows′ f h =
-    gains-by p rows e past rest (those (p e past rest)) rows′ refl
-    (h ∙ either (split (ltb e width)) (λ l. inside (ltb-true e width (T→true _ l))) (λ g. outside (ltb-false e width (F→false _ g))))
-  where
-    wanted : Set
-    wanted = those (λ b. mem (rowAt rows e) b or mem (those (p e past rest)) b)
-
-    inside : e < width → withRow rows e (those (λ b. mem (rowAt rows e) b or q b)) ≡ withRow rows e wanted
-    inside l =
-        ap (withRow rows e)
-        (those-ext (λ b. mem (rowAt rows e) b or q b) (λ b. mem (rowAt rows e) b or mem (those (p e past rest)) b)
-        (λ b k. ap (λ (t : Bool). mem (rowAt rows e) b or t) (f l b k ∙ sym (mem-those (p e past rest) b k))))
-
-    outside : width ≤ e → withRow rows e (those (λ b. mem (rowAt rows e) b or q b)) ≡ withRow rows e wanted
-    outside g = sym (put-out rows e (those (λ b. mem (rowAt rows e) b or q b)) g) ∙ put-out rows e wanted g
-
-seen-is : (past : List ℕ) (seen : Set) → seen ≡ seenIn past → (x : ℕ) → x < width → mem seen x ≡ past has x
-seen-is past seen hs x l = ap (λ (s : Set). mem s x) hs ∙ mem-those (λ x. past has x) x l
 
 pub first-turn : (past rest : List ℕ) (e : ℕ) (seen : Set) (rows rows′ : List ℕ) → seen ≡ seenIn past
     → rows′ ≡ withRow rows e (those (λ x. mem (rowAt rows e) x or mem seen x and non (mem seen e))) → rows′ ≡ gains beforeFirst rows e past rest
@@ -124,20 +91,9 @@ module _ (events : Set) (includes excludes : List ℕ) where
       ∙ and-comm (stillIncluded events includes excludes past x) (non (past has x)))
       h
 
--- ---- the loop's invariant: at the start, and one place further
-
--- before the first place nothing was seen
-pub seen-none : _≡_ {A = Set} (record { bits = 0 }) (seenIn [])
-unfolding bitsOf _has_
-seen-none = refl
+-- ---- the loop's invariant, one place further
 
 module _ (σ : List ℕ) (i : ℕ) (h : i < length σ) (seen : Set) (hs : seen ≡ seenIn (pastAt σ i)) where
-  pub seen-next : (r : Set) → r ≡ those (λ x. mem seen x or eqb x (getD σ i 0)) → r ≡ seenIn (pastAt σ (i + 1))
-  seen-next r hr =
-      seen-more (pastAt σ i) (getD σ i 0) seen (those (λ b. eqb b (getD σ i 0))) r hs refl
-      (hr ∙ sym (those-of (those (λ b. eqb b (getD σ i 0))) (λ b. eqb b (getD σ i 0)) (λ x t. mem seen x or t) refl))
-      ∙ ap seenIn (sym (past-next σ i h))
-
   pub first-next : (all rows rows′ : List ℕ) → forward beforeFirst rows (pastAt σ i) (drop i σ) ≡ all
       → rows′ ≡ withRow rows (getD σ i 0) (those (λ x. mem (rowAt rows (getD σ i 0)) x or mem seen x and non (mem seen (getD σ i 0))))
       → forward beforeFirst rows′ (pastAt σ (i + 1)) (drop (i + 1) σ) ≡ all

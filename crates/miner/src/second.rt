@@ -1,16 +1,106 @@
 // The passes over one trace that come after the tally: what step 6 lets in, and what step 9 asks of a replay. Each goes from the
 // first place to the last; `seen` is the set of what stands before the place.
 ghost use mathlib.Core.Path.{_≡_};
+ghost use mathlib.Core.Bool.{cond};
 ghost use mathlib.Core.List.{[]};
-ghost use lib.Dec.{eqb};
+ghost use Prim.Native.Nat.{ℕ, _+_, _<_};
+ghost use lib.Dec.{eqb, ltb};
+ghost use lib.ListN.{length, getD, set, drop};
 ghost use Rattle.sets.specs.Tests.{_and_, _or_, non};
-ghost use Rattle.sets.specs.Members.{mem, those};
+ghost use Rattle.sets.specs.Members.{width, mem, those};
 ghost use Rattle.sets.specs.Rows.{rowAt, withRow, inRow};
+ghost use Rattle.rules.specs.Traces.{_has_};
 ghost use Rattle.miner.specs.Passes.{forward, letIn, beforeFirst, missed};
 use sets::Activity;
 use sets::Rows;
 use sets::Set;
+use sets::activity::WIDTH;
 use sets::rows;
+
+// ---- step 6
+
+// A place of a trace for each activity.
+type Places = [usize; WIDTH];
+
+// Puts a place down as the activity's last so far; past the last activity nothing changes.
+fn put_place(last: &mut Places, e: Activity, i: usize)
+    ensures { λ _. ⌜ now (last .exit) ≡ cond (ltb (e .0) width) (set (now (last .entry)) (e .0) i) (now (last .entry)) ⌝ }
+{
+    let n = e.0 as usize;
+    if n < WIDTH {
+        last[n] = i;
+    }
+}
+
+// What stands in the trace. `last` then has the last place of each of them: a place is its activity's last where the activity does not
+// come again.
+fn last_places(trace: &[u8], last: &mut Places) -> Set
+    requires { ⌜ length (now last) ≡ width ⌝ }
+    ensures all { λ r. ⌜ r ≡ those (λ x. now (trace .entry) has x) ⌝ }
+    ensures places { λ _. ⌜ ((i : ℕ) → i < length (now (trace .entry)) → getD (now (trace .entry)) i 0 < width → eqb (getD (now (last .exit)) (getD (now (trace .entry)) i 0) 0) i ≡ non (drop (i + 1) (now (trace .entry)) has getD (now (trace .entry)) i 0)) ⌝ }
+{
+    let mut all = Set::EMPTY;
+    let mut i: usize = 0;
+    while i < trace.len() {
+        let e = Activity(trace[i]);
+        put_place(last, e, i);
+        all = and_then(all, e);
+        i += 1;
+    }
+    all
+}
+
+// What stands after place i, given what stands after the place before it: less the e of this place, where it is the last.
+fn left_after(after: Set, last: &Places, e: Activity, i: usize) -> Set
+    ensures { λ r. ⌜ r ≡ those (λ x. mem after x and non (eqb x (e .0) and eqb (getD (now (last .entry)) (e .0) 0) i)) ⌝ }
+{
+    let n = e.0 as usize;
+    if n < WIDTH {
+        if last[n] == i {
+            return after.difference(Set::one(e));
+        }
+    }
+    after
+}
+
+// One place of e: its row gains what comes later and is barred. Then what never directly follows e is barred too.
+fn let_in_here(e: Activity, after: Set, barred: Set, unfollowed: &Rows, out: &mut Rows) -> Set
+    ensures row { λ _. ⌜ now (out .exit) ≡ withRow (now (out .entry)) (e .0) (those (λ x. mem (rowAt (now (out .entry)) (e .0)) x or mem after x and mem barred x)) ⌝ }
+    ensures next { λ r. ⌜ r ≡ those (λ x. mem barred x or inRow (now (unfollowed .entry)) (e .0) x) ⌝ }
+{
+    let back = after.intersection(barred);
+    rows::join(out, e, back);
+    let never = rows::row(unfollowed, e);
+    barred.union(never)
+}
+
+// The forward pass, with the last places known. `barred` is what never directly follows something that was seen.
+fn let_in_by<'a>(trace: &'a [u8], unfollowed: &'a Rows, last: &'a Places, all: Set, out: &mut Rows)
+    requires { ⌜ all ≡ those (λ x. now trace has x) ⌝ }
+    requires { ⌜ ((i : ℕ) → i < length (now trace) → getD (now trace) i 0 < width → eqb (getD (now last) (getD (now trace) i 0) 0) i ≡ non (drop (i + 1) (now trace) has getD (now trace) i 0)) ⌝ }
+    ensures { λ _. ⌜ now (out .exit) ≡ forward (letIn (now (unfollowed .entry))) (now (out .entry)) [] (now (trace .entry)) ⌝ }
+{
+    let mut after = all;
+    let mut barred = Set::EMPTY;
+    let mut i: usize = 0;
+    while i < trace.len() {
+        let e = Activity(trace[i]);
+        let later = left_after(after, last, e, i);
+        barred = let_in_here(e, later, barred, unfollowed, out);
+        after = later;
+        i += 1;
+    }
+}
+
+// Step 6: the row of each event gains what comes later in the trace and never directly follows something that stands before the event;
+// row s of `unfollowed` has what never directly follows s.
+pub fn let_in<'a>(trace: &'a [u8], unfollowed: &'a Rows, out: &mut Rows)
+    ensures { λ _. ⌜ now (out .exit) ≡ forward (letIn (now (unfollowed .entry))) (now (out .entry)) [] (now (trace .entry)) ⌝ }
+{
+    let mut last = [0usize; WIDTH];
+    let all = last_places(trace, &mut last);
+    let_in_by(trace, unfollowed, &last, all, out);
+}
 
 // ---- step 9
 
@@ -68,8 +158,9 @@ pub fn replay_included<'a>(
     let mut i: usize = 0;
     while i < trace.len() {
         let e = Activity(trace[i]);
+        let then = included_after(included, includes, excludes, e);
         note_waiting(e, seen, included, first, unmet);
-        included = included_after(included, includes, excludes, e);
+        included = then;
         seen = and_then(seen, e);
         i += 1;
     }

@@ -1,5 +1,5 @@
 use borrow.Author.Needs.{needs}
-use Rattle.miner.proofs.Waiting.{with-one}
+use Rattle.miner.proofs.Gains.{with-one}
 use Rattle.miner.proofs.second.and_then.Statement.{statement}
 use Rattle.miner.proofs.second.and_then.Tie as tie
 

@@ -1,5 +1,5 @@
 use borrow.Author.Needs.{needs}
-use Rattle.miner.proofs.Waiting.{gain-of}
+use Rattle.miner.proofs.Gains.{gain-of}
 use Rattle.miner.proofs.second.note_waiting.Statement.{statement}
 use Rattle.miner.proofs.second.note_waiting.Tie as tie
 

@@ -5,7 +5,8 @@ use borrow.Author.Needs.{needs}
 use lib.ListN.{length, drop}
 use Rattle.miner.specs.Passes.{forward, beforeFirst, missed}
 use Rattle.miner.proofs.Turns.{pastAt, seenIn, forward-end}
-use Rattle.miner.proofs.Waiting.{openAfter, open-first, seen-none, seen-next, included-next, first-next, missed-next}
+use Rattle.miner.proofs.Gains.{seen-none, seen-next}
+use Rattle.miner.proofs.Waiting.{openAfter, open-first, included-next, first-next, missed-next}
 use Rattle.miner.proofs.second.replay_included.Statement.{statement}
 use Rattle.miner.proofs.second.replay_included.Tie as tie
 
@@ -21,14 +22,14 @@ abbrev μ-loop : tie.MeasureT-loop
 loop-holds : tie.Need-loop-holds Inv-loop μ-loop
 loop-holds c = (search needs, seen-none, open-first _ _ _ (search needs), refl, refl)
 
-shared-slice-read-t14 : tie.Need-shared-slice-read-t14 Inv-loop μ-loop
-shared-slice-read-t14 c = search needs
-
-note-waiting-requires : tie.Need-note-waiting-requires Inv-loop μ-loop
-note-waiting-requires c κs = search needs
+shared-slice-read-t15 : tie.Need-shared-slice-read-t15 Inv-loop μ-loop
+shared-slice-read-t15 c = search needs
 
 included-after-requires : tie.Need-included-after-requires Inv-loop μ-loop
 included-after-requires c κs = search needs
+
+note-waiting-requires : tie.Need-note-waiting-requires Inv-loop μ-loop
+note-waiting-requires c κs = search needs
 
 and-then-requires : tie.Need-and-then-requires Inv-loop μ-loop
 and-then-requires c κs = search needs
@@ -43,10 +44,10 @@ loop-again : tie.Need-loop-again Inv-loop μ-loop
 loop-again c =
     let t = c .before .before .before .before .before .before .loop-test .taken in
     let v = c .before .before .before .before .before .before .before .loop .inv in
-    let turn = c .before .before .note-waiting .ensures in (
+    let turn = c .before .note-waiting .ensures in (
       search needs,
       seen-next _ _ t _ (v .1) _ (c .and-then .ensures),
-      included-next _ _ t _ (v .1) _ _ _ _ (v .2) _ (c .before .included-after .ensures),
+      included-next _ _ t _ (v .1) _ _ _ _ (v .2) _ (c .before .before .before .before .included-after .ensures),
       first-next _ _ t _ (v .1) _ _ _ (v .3) (turn .0),
       missed-next _ _ t _ (v .1) _ _ _ _ (v .2) _ _ _ (v .4) (turn .1),
     )
@@ -63,9 +64,9 @@ replay-included-spec =
     Inv-loop
     μ-loop
     loop-holds
-    shared-slice-read-t14
-    note-waiting-requires
+    shared-slice-read-t15
     included-after-requires
+    note-waiting-requires
     and-then-requires
     add-i
     loop-less
