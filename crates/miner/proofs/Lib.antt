@@ -4,3 +4,4 @@ pub mod Gains
 pub mod After
 pub mod LetIn
 pub mod Waiting
+pub mod OverLog
