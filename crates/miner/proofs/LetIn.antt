@@ -1,12 +1,12 @@
 -- One turn of step 6's pass: what is barred, and what the row of the event gains. Assumes nothing.
-use mathlib.Core.Path.{_≡_, refl, sym, ap, ap₂, _∙_, subst}
-use mathlib.Core.Bool.{Bool, true, false}
+use mathlib.Core.Path.{_≡_, sym, ap, ap₂, _∙_, subst}
+use mathlib.Core.Bool.{Bool, false}
 use mathlib.Core.List.{List, [], _∷_}
-use Prim.Native.Nat.{ℕ, _+_, _≤_, _<_}
+use Prim.Native.Nat.{ℕ, _+_, _<_}
 use borrow.Author.Tests.{ltb-true, ltb-false}
-use lib.Dec.{T, eqb, ltb, eqb→eq, eqb-refl}
+use lib.Dec.{T, ltb, eqb→eq, eqb-refl}
 use lib.ListN.{length, getD, drop}
-use Rattle.sets.specs.Tests.{_and_, _or_, non}
+use Rattle.sets.specs.Tests.{_and_, _or_}
 use Rattle.sets.specs.Members.{width, bitsOf, mem, those, someBelow}
 use Rattle.sets.specs.Rows.{rowAt, withRow, inRow}
 use Rattle.sets.specs.declared.set.Set.{Set}
@@ -16,7 +16,7 @@ use Rattle.sets.proofs.Below.{some-i, some-e}
 use Rattle.sets.proofs.Members.{those-ext, those-of, mem-those}
 use Rattle.sets.proofs.RowLaws.{row-out}
 use Rattle.rules.specs.Traces.{_has_}
-use Rattle.miner.specs.Passes.{gains, forward, letIn}
+use Rattle.miner.specs.Passes.{forward, letIn}
 use Rattle.miner.proofs.Turns.{pastAt, past-next, seenIn, forward-next}
 use Rattle.miner.proofs.Gains.{gains-below, seen-is}
 

@@ -5,9 +5,8 @@ use mathlib.Core.List.{List, [], _∷_, reverseAux, List·Memᴰ}
 use Prim.Native.Nat.{ℕ, _<_}
 use lib.Dec.{T, eqb, eqb→eq, eqb-refl}
 use Rattle.sets.specs.Tests.{_and_, _or_, non}
-use Rattle.sets.specs.Members.{width, mem, those, someBelow}
+use Rattle.sets.specs.Members.{width, those, someBelow}
 use Rattle.sets.specs.Rows.{rowsOf, inRow}
-use Rattle.sets.specs.declared.set.Set.{Set}
 use Rattle.sets.proofs.Tests.{and-l, and-r, and-i, or-e, or-l, or-r, T-ext, T-eq, either, non-and, non-or, non-non}
 use Rattle.sets.proofs.Below.{some-i, some-e}
 use Rattle.sets.proofs.Members.{mem-those}

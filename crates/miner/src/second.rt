@@ -12,6 +12,7 @@ ghost use Rattle.sets.specs.Rows.{rowAt, withRow, inRow};
 ghost use Rattle.rules.specs.Traces.{_has_};
 ghost use Rattle.miner.specs.Passes.{forward, letIn, beforeFirst, missed};
 use sets::Activity;
+use sets::Place;
 use sets::Rows;
 use sets::Set;
 use sets::activity::WIDTH;
@@ -19,16 +20,16 @@ use sets::rows;
 
 // ---- step 6
 
-// A place of a trace for each activity.
+// A place of the trace for each activity, as a number.
 type Places = [usize; WIDTH];
 
 // Puts a place down as the activity's last so far; past the last activity nothing changes.
-fn put_place(last: &mut Places, e: Activity, i: usize)
-    ensures { λ _. ⌜ now (last .exit) ≡ cond (ltb (e .0) width) (set (now (last .entry)) (e .0) i) (now (last .entry)) ⌝ }
+fn put_place(last: &mut Places, e: Activity, at: Place)
+    ensures { λ _. ⌜ now (last .exit) ≡ cond (ltb (e .0) width) (set (now (last .entry)) (e .0) (at .0)) (now (last .entry)) ⌝ }
 {
     let n = e.0 as usize;
     if n < WIDTH {
-        last[n] = i;
+        last[n] = at.0;
     }
 }
 
@@ -43,20 +44,20 @@ fn last_places(trace: &[u8], last: &mut Places) -> Set
     let mut i: usize = 0;
     while i < trace.len() {
         let e = Activity(trace[i]);
-        put_place(last, e, i);
+        put_place(last, e, Place(i));
         all = and_then(all, e);
         i += 1;
     }
     all
 }
 
-// What stands after place i, given what stands after the place before it: less the e of this place, where it is the last.
-fn left_after(after: Set, last: &Places, e: Activity, i: usize) -> Set
-    ensures { λ r. ⌜ r ≡ those (λ x. mem after x and non (eqb x (e .0) and eqb (getD (now (last .entry)) (e .0) 0) i)) ⌝ }
+// What stands after a place of e, given what stands from it on: less e, where this is its last place.
+fn left_after(after: Set, last: &Places, e: Activity, at: Place) -> Set
+    ensures { λ r. ⌜ r ≡ those (λ x. mem after x and non (eqb x (e .0) and eqb (getD (now (last .entry)) (e .0) 0) (at .0))) ⌝ }
 {
     let n = e.0 as usize;
     if n < WIDTH {
-        if last[n] == i {
+        if last[n] == at.0 {
             return after.difference(Set::one(e));
         }
     }
@@ -85,7 +86,7 @@ fn let_in_by<'a>(trace: &'a [u8], unfollowed: &'a Rows, last: &'a Places, all: S
     let mut i: usize = 0;
     while i < trace.len() {
         let e = Activity(trace[i]);
-        let later = left_after(after, last, e, i);
+        let later = left_after(after, last, e, Place(i));
         barred = let_in_here(e, later, barred, unfollowed, out);
         after = later;
         i += 1;

@@ -20,18 +20,18 @@ difference-requires c κs = search needs
 
 returns : tie.Need-returns
 returns c =
-    let a = c .before .before .before .before .before .before .args in
-    left-last (a .after) (a .last .now) (a .e .0) (a .i) _ _ (c .before .before .if2 .taken) (c .before .one .ensures) (c .difference .ensures)
+    let a = c .before .before .before .before .before .before .before .args in
+    left-last (a .after) (a .last .now) (a .e .0) (a .at .0) _ _ (c .before .before .if2 .taken) (c .before .one .ensures) (c .difference .ensures)
 
 returns-2 : tie.Need-returns-2
 returns-2 c =
-    let a = c .before .before .before .before .args in
-    left-not (a .after) (a .last .now) (a .e .0) (a .i) (search needs) (c .if2 .left)
+    let a = c .before .before .before .before .before .args in
+    left-not (a .after) (a .last .now) (a .e .0) (a .at .0) (search needs) (c .if2 .left)
 
 returns-3 : tie.Need-returns-3
 returns-3 c =
     let a = c .before .before .args in
-    left-out (a .after) (a .last .now) (a .e .0) (a .i) (search needs) (search needs)
+    left-out (a .after) (a .last .now) (a .e .0) (a .at .0) (search needs) (search needs)
 
 pub left-after-spec : {M : Type 1} → statement M
 left-after-spec =
