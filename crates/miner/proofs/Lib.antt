@@ -16,3 +16,8 @@ pub mod RowReadings
 pub mod Readings
 pub mod Exclusions
 pub mod LaterSteps
+pub mod Gains
+pub mod After
+pub mod LetIn
+pub mod Waiting
+pub mod OverLog

@@ -2,6 +2,7 @@
 mod passes;
 mod reduce;
 mod steps;
+mod second;
 mod tally;
 
 pub use tally::Tally;
