@@ -15,13 +15,13 @@ use Rattle.sets.proofs.Members.{mem-those, those-ext}
 use Rattle.sets.proofs.RowLaws.{in-rowsOf, rowsOf-ext}
 use Rattle.engine.specs.Relations.{Relations}
 use Rattle.rules.specs.Traces.{Traces}
-use Rattle.rules.specs.Mining.{noPair, noRelations, smallestSource, event, someEvent, _with_, _without_, before, followed, alternates, atMostOnce, together, directlyAfter, neverTogether, overAfter, step1, step2, step3, step4, step5, step6, step7, afterFive, afterSeven}
+use Rattle.rules.specs.Mining.{noPair, noRelations, smallestSource, event, someEvent, _with_, _without_, before, followed, alternates, atMostOnce, together, directlyBefore, neverTogether, closes, step1, step2, step3, step4, step5, step6, step7, afterFive, afterSeven}
 use Rattle.miner.specs.Tallies.{tallyOf}
-use Rattle.miner.specs.Reading.{absent, excludesItself, diagonal, apart, smallestOf, inEither, notRedundant, overAfter as overAfterRow}
+use Rattle.miner.specs.Reading.{absent, excludesItself, diagonal, apart, smallestOf, inEither, notRedundant, closing}
 use Rattle.miner.proofs.Tautologies.{by2, by3, by4, by5}
 use Rattle.miner.proofs.LogLaws.{once, together-before}
 use Rattle.miner.proofs.RowReadings.{united-rows, diagonal-rows, smallest-rows}
-use Rattle.miner.proofs.Readings.{selvesOf, apartOf, overOf, fiveOf, sixOf, sevenOf, chains-read}
+use Rattle.miner.proofs.Readings.{selvesOf, apartOf, closedOf, fiveOf, sixOf, sevenOf, chains-read}
 
 -- ---- tests alone
 
@@ -75,7 +75,7 @@ and-assoc = by3 (λ a b c. a and b and c) (λ a b c. a and (b and c)) tt
 
 -- what excludes itself by step 1 or by step 3
 unfoldable pub selfExcluding : Traces → ℕ → Bool
-selfExcluding L s = event L s and (non (before L s s) or someEvent L (λ u. directlyAfter L u s))
+selfExcluding L s = event L s and (non (before L s s) or someEvent L (λ u. directlyBefore L u s))
 
 abbrev pub afterThree : Traces → Relations
 afterThree L = step3 L (step2 L (step1 L noRelations))
@@ -95,29 +95,29 @@ module _ (L : Traces) where
       ap₂ (λ (e b : Bool). e and (non b or someBelow width (λ u. inRow (rowsOf (λ t s. afterFive L .includes s t)) a u))) (mem-those (event L) a l)
       (in-rowsOf (λ t s. before L s t) a a l l)
       ∙ ap (λ (b : Bool). event L a and (non (before L a a) or b))
-      (some-ext width (λ u. inRow (rowsOf (λ t s. afterFive L .includes s t)) a u) (λ u. event L u and event L a and (false or directlyAfter L u a))
+      (some-ext width (λ u. inRow (rowsOf (λ t s. afterFive L .includes s t)) a u) (λ u. event L u and event L a and (false or directlyBefore L u a))
       (λ u lu. in-rowsOf (λ t s. afterFive L .includes s t) a u l lu))
-      ∙ in-events (event L a) (non (before L a a)) (event L) (λ u. directlyAfter L u a))
+      ∙ in-events (event L a) (non (before L a a)) (event L) (λ u. directlyBefore L u a))
 
   self-three : (s t : ℕ) → afterThree L .excludes s t ≡ (eqb s t and selfExcluding L s)
   unfolding step3 step2 step1 noRelations noPair _with_ selfExcluding _and_
   self-three s t =
-      twice (event L s) (event L t) (eqb s t) (atMostOnce L s) (someEvent L (λ u. directlyAfter L u t)) ∙ by (eqb s t) refl
+      twice (event L s) (event L t) (eqb s t) (atMostOnce L s) (someEvent L (λ u. directlyBefore L u t)) ∙ by (eqb s t) refl
     where
-      by : (q : Bool) → eqb s t ≡ q → (q and (event L s and event L t and (atMostOnce L s or someEvent L (λ u. directlyAfter L u t))))
-          ≡ (q and (event L s and (non (before L s s) or someEvent L (λ u. directlyAfter L u s))))
+      by : (q : Bool) → eqb s t ≡ q → (q and (event L s and event L t and (atMostOnce L s or someEvent L (λ u. directlyBefore L u t))))
+          ≡ (q and (event L s and (non (before L s s) or someEvent L (λ u. directlyBefore L u s))))
       by false e = refl
       by true e =
-          ap (λ (n : ℕ). event L s and event L n and (atMostOnce L s or someEvent L (λ u. directlyAfter L u n))) (sym (eqb-true s t e))
-          ∙ ap (λ (o : Bool). event L s and event L s and (o or someEvent L (λ u. directlyAfter L u s))) (once L s)
-          ∙ idem (event L s) (non (before L s s) or someEvent L (λ u. directlyAfter L u s))
+          ap (λ (n : ℕ). event L s and event L n and (atMostOnce L s or someEvent L (λ u. directlyBefore L u n))) (sym (eqb-true s t e))
+          ∙ ap (λ (o : Bool). event L s and event L s and (o or someEvent L (λ u. directlyBefore L u s))) (once L s)
+          ∙ idem (event L s) (non (before L s s) or someEvent L (λ u. directlyBefore L u s))
 
   self-four : (s : ℕ) → afterFour L .excludes s s ≡ selfExcluding L s
   unfolding step4 smallestSource neverTogether _with_ selfExcluding
   self-four s =
       ap₂ (λ (g c : Bool). event L s and event L s and (g or c)) (self-three s s ∙ ap (λ (q : Bool). q and selfExcluding L s) (T→true _ (eqb-refl s)))
       (F→false (smallestSource (neverTogether L) s s) (λ t. non-e (eqb s s) (and-r _ _ (and-l _ _ (and-l _ _ t))) (eqb-refl s)))
-      ∙ itself (event L s) (non (before L s s) or someEvent L (λ u. directlyAfter L u s))
+      ∙ itself (event L s) (non (before L s s) or someEvent L (λ u. directlyBefore L u s))
 
   -- ---- steps 4 and 5
 
@@ -134,19 +134,19 @@ module _ (L : Traces) where
       (λ e. ap non (sym (together-before s t (eqb-false s t e) L)))))
       ∙ smallest-rows (neverTogether L)
 
-  pub over-read : overOf (tallyOf L) ≡ rowsOf (smallestSource (overAfter L (afterFour L)))
-  unfolding tallyOf overAfterRow overAfter
-  over-read =
-      ap (λ (s : Set). rowsOf (smallestOf (rowsOf (overAfterRow (those (event L)) s (rowsOf (λ x y. before L y x)) (rowsOf (before L)))))) selves-read
+  pub closed-read : closedOf (tallyOf L) ≡ rowsOf (smallestSource (closes L (afterFour L)))
+  unfolding tallyOf closing closes
+  closed-read =
+      ap (λ (s : Set). rowsOf (smallestOf (rowsOf (closing (those (event L)) s (rowsOf (λ x y. before L y x)) (rowsOf (before L)))))) selves-read
       ∙ ap (λ (rows : List ℕ). rowsOf (smallestOf rows))
-      (rowsOf-ext (overAfterRow (those (event L)) (those (selfExcluding L)) (rowsOf (λ x y. before L y x)) (rowsOf (before L))) (λ s t. overAfter L (afterFour L) t s)
+      (rowsOf-ext (closing (those (event L)) (those (selfExcluding L)) (rowsOf (λ x y. before L y x)) (rowsOf (before L))) (λ s t. closes L (afterFour L) t s)
       (λ s t ls lt.
       ap₂ (λ (e f : Bool). e and f and inRow (rowsOf (before L)) s t and non (inRow (rowsOf (λ x y. before L y x)) s t) and non (mem (those (selfExcluding L)) s))
       (mem-those (event L) s ls) (mem-those (event L) t lt)
       ∙ ap₂ (λ (x y : Bool). event L s and event L t and x and non y and non (mem (those (selfExcluding L)) s)) (in-rowsOf (before L) s t ls lt)
       (in-rowsOf (λ x y. before L y x) s t ls lt)
       ∙ ap (λ (x : Bool). event L s and event L t and before L s t and non (before L t s) and non x) (mem-those (selfExcluding L) s ls ∙ sym (self-four s))))
-      ∙ smallest-rows (overAfter L (afterFour L))
+      ∙ smallest-rows (closes L (afterFour L))
 
   -- ---- the excludes after five steps, after six, after seven
 
@@ -156,18 +156,18 @@ module _ (L : Traces) where
   with-events r p s t = among _ (event L s) (event L t) (λ h. and-l _ _ (and-l _ _ h)) (λ h. and-r _ _ (and-l _ _ h))
 
   pub excludes-five : fiveOf (tallyOf L) ≡ rowsOf (afterFive L .excludes)
-  unfolding afterFive step5 step4 step3 _with_ smallestSource neverTogether overAfter
+  unfolding afterFive step5 step4 step3 _with_ smallestSource neverTogether closes
   excludes-five =
-      ap₂ (λ (x y : List ℕ). rowsOf (inEither (rowsOf (inEither x y)) (overOf (tallyOf L))))
+      ap₂ (λ (x y : List ℕ). rowsOf (inEither (rowsOf (inEither x y)) (closedOf (tallyOf L))))
       (ap (λ (s : Set). rowsOf (diagonal s)) selves-read ∙ diagonal-rows (selfExcluding L)) apart-read
-      ∙ ap₂ (λ (x y : List ℕ). rowsOf (inEither x y)) (united-rows (λ a x. eqb a x and selfExcluding L a) (smallestSource (neverTogether L))) over-read
-      ∙ united-rows (λ a x. eqb a x and selfExcluding L a or smallestSource (neverTogether L) a x) (smallestSource (overAfter L (afterFour L)))
-      ∙ rowsOf-ext (λ a x. eqb a x and selfExcluding L a or smallestSource (neverTogether L) a x or smallestSource (overAfter L (afterFour L)) a x) (afterFive L .excludes)
+      ∙ ap₂ (λ (x y : List ℕ). rowsOf (inEither x y)) (united-rows (λ a x. eqb a x and selfExcluding L a) (smallestSource (neverTogether L))) closed-read
+      ∙ united-rows (λ a x. eqb a x and selfExcluding L a or smallestSource (neverTogether L) a x) (smallestSource (closes L (afterFour L)))
+      ∙ rowsOf-ext (λ a x. eqb a x and selfExcluding L a or smallestSource (neverTogether L) a x or smallestSource (closes L (afterFour L)) a x) (afterFive L .excludes)
       (λ s t ls lt.
-      ap (λ (g : Bool). g or smallestSource (neverTogether L) s t or smallestSource (overAfter L (afterFour L)) s t) (sym (self-three s t))
+      ap (λ (g : Bool). g or smallestSource (neverTogether L) s t or smallestSource (closes L (afterFour L)) s t) (sym (self-three s t))
       ∙ sym
-      (all-among (event L s) (event L t) (afterThree L .excludes s t) (smallestSource (neverTogether L) s t) (smallestSource (overAfter L (afterFour L)) s t)
-      (with-events (step2 L (step1 L noRelations) .excludes) (λ x y. eqb x y and someEvent L (λ u. directlyAfter L u y)) s t)
+      (all-among (event L s) (event L t) (afterThree L .excludes s t) (smallestSource (neverTogether L) s t) (smallestSource (closes L (afterFour L)) s t)
+      (with-events (step2 L (step1 L noRelations) .excludes) (λ x y. eqb x y and someEvent L (λ u. directlyBefore L u y)) s t)
       (among _ _ _ (λ h. and-l _ _ (and-l _ _ (and-l _ _ (and-l _ _ h)))) (λ h. and-r _ _ (and-l _ _ (and-l _ _ (and-l _ _ h)))))
       (among _ _ _ (λ h. and-r _ _ (and-l _ _ (and-l _ _ (and-l _ _ (and-l _ _ h))))) (λ h. and-l _ _ (and-l _ _ (and-l _ _ (and-l _ _ (and-l _ _ h))))))))
 
@@ -191,7 +191,7 @@ module _ (L : Traces) where
   unfolding tallyOf afterFive step6 step5
   excludes-six =
       ap₂ (λ (x y : List ℕ). rowsOf (inEither x y)) excludes-five (absent-rows (followed L))
-      ∙ joined-rows (afterFour L .excludes) (smallestSource (overAfter L (afterFour L))) (λ s t. non (followed L s t))
+      ∙ joined-rows (afterFour L .excludes) (smallestSource (closes L (afterFour L))) (λ s t. non (followed L s t))
 
   pub excludes-seven : sevenOf (tallyOf L) ≡ rowsOf (afterSeven L .excludes)
   unfolding tallyOf afterSeven step7 _without_ notRedundant someEvent

@@ -12,10 +12,10 @@ use Rattle.sets.proofs.Tests.{T-ext, eqb-of, non-non}
 use Rattle.sets.proofs.Members.{mem-those}
 use Rattle.sets.proofs.RowLaws.{in-rowsOf, rowsOf-ext}
 use Rattle.rules.specs.Traces.{Traces}
-use Rattle.rules.specs.Mining.{noPair, noRelations, event, _with_, precedes, answers, chained, directlyAfter, step1, step2, step3, step4, step5, afterFive}
+use Rattle.rules.specs.Mining.{noPair, noRelations, event, _with_, precedes, answers, chained, directlyBefore, step1, step2, step3, step4, step5, afterFive}
 use Rattle.miner.specs.declared.tally.Tally.{Tally}
 use Rattle.miner.specs.Tallies.{tallyOf}
-use Rattle.miner.specs.Reading.{unbroken, absent, excludesItself, diagonal, apart, smallestOf, turned, inEither, notRedundant, overAfter as overAfterRow}
+use Rattle.miner.specs.Reading.{unbroken, absent, excludesItself, diagonal, apart, smallestOf, turned, inEither, notRedundant, closing}
 use Rattle.miner.proofs.Tautologies.{by4}
 use Rattle.miner.proofs.RowReadings.{turned-rows}
 
@@ -38,11 +38,11 @@ selvesOf t = those (excludesItself (t .events) (t .before) (chainsOf t))
 abbrev pub apartOf : Tally → List ℕ
 apartOf t = rowsOf (smallestOf (rowsOf (apart (t .events) (t .before) (t .later))))
 
-abbrev pub overOf : Tally → List ℕ
-overOf t = rowsOf (smallestOf (rowsOf (overAfterRow (t .events) (selvesOf t) (t .before) (t .later))))
+abbrev pub closedOf : Tally → List ℕ
+closedOf t = rowsOf (smallestOf (rowsOf (closing (t .events) (selvesOf t) (t .before) (t .later))))
 
 abbrev pub fiveOf : Tally → List ℕ
-fiveOf t = rowsOf (inEither (rowsOf (inEither (rowsOf (diagonal (selvesOf t))) (apartOf t))) (overOf t))
+fiveOf t = rowsOf (inEither (rowsOf (inEither (rowsOf (diagonal (selvesOf t))) (apartOf t))) (closedOf t))
 
 abbrev pub sixOf : Tally → List ℕ
 sixOf t = rowsOf (inEither (fiveOf t) (rowsOf (absent (t .events) (t .followed))))
@@ -91,7 +91,7 @@ module _ (L : Traces) where
       ∙ by-source (event L s) (event L t) (non (eqb s t)) (answers L s t))
 
   pub chains-read : chainsOf (tallyOf L) ≡ rowsOf (λ t s. afterFive L .includes s t)
-  unfolding tallyOf afterFive step5 step4 step3 step2 step1 noRelations noPair _with_ directlyAfter
+  unfolding tallyOf afterFive step5 step4 step3 step2 step1 noRelations noPair _with_ directlyBefore
   chains-read =
       unbroken-rows (λ t s. chained L s t)
       ∙ rowsOf-ext (λ t s. event L t and event L s and non (eqb s t) and chained L s t) (λ t s. afterFive L .includes s t)

@@ -30,8 +30,8 @@ unfoldable pub apart : Set → List ℕ → List ℕ → Relation
 apart events before later t s = mem events t and mem events s and non (eqb s t) and non (inRow before t s or inRow later t s)
 
 -- row s: the sources of step 5's pairs with the target s, where `selves` are those that exclude themselves
-unfoldable pub overAfter : Set → Set → List ℕ → List ℕ → Relation
-overAfter events selves before later s t = mem events s and mem events t and inRow later s t and non (inRow before s t) and non (mem selves s)
+unfoldable pub closing : Set → Set → List ℕ → List ℕ → Relation
+closing events selves before later s t = mem events s and mem events t and inRow later s t and non (inRow before s t) and non (mem selves s)
 
 -- a is the smallest of row x: from rows by target to pairs by source (steps 4 and 5)
 unfoldable pub smallestOf : List ℕ → Relation

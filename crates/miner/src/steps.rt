@@ -7,7 +7,7 @@ ghost use lib.Dec.{eqb};
 ghost use Rattle.sets.specs.Tests.{_and_, _or_, non};
 ghost use Rattle.sets.specs.Members.{width, mem, those, someBelow, leastBelow};
 ghost use Rattle.sets.specs.Rows.{Relation, rowAt, inRow, rowsOf};
-ghost use Rattle.miner.specs.Reading.{unbroken, absent, excludesItself, diagonal, apart, overAfter, smallestOf, turned, inEither, notRedundant, waited};
+ghost use Rattle.miner.specs.Reading.{unbroken, absent, excludesItself, diagonal, apart, closing, smallestOf, turned, inEither, notRedundant, waited};
 use sets::Activity;
 use sets::Rows;
 use sets::Set;
@@ -147,14 +147,14 @@ pub fn apart<'a>(events: Set, before: &'a Rows, later: &'a Rows) -> Rows
     out
 }
 
-fn over_after_row<'a>(
+fn closing_row<'a>(
     events: Set,
     selves: Set,
     before: &'a Rows,
     later: &'a Rows,
     a: Activity,
 ) -> Set
-    ensures { λ r. ⌜ r ≡ those (overAfter events selves (now (before .entry)) (now (later .entry)) (a .0)) ⌝ }
+    ensures { λ r. ⌜ r ≡ those (closing events selves (now (before .entry)) (now (later .entry)) (a .0)) ⌝ }
 {
     if selves.has(a) {
         return Set::EMPTY;
@@ -164,13 +164,13 @@ fn over_after_row<'a>(
 }
 
 // Step 5: for each target that does not exclude itself, what comes after it and never before.
-pub fn over_after<'a>(events: Set, selves: Set, before: &'a Rows, later: &'a Rows) -> Rows
-    ensures { λ r. ⌜ r ≡ rowsOf (overAfter events selves (now (before .entry)) (now (later .entry))) ⌝ }
+pub fn closing<'a>(events: Set, selves: Set, before: &'a Rows, later: &'a Rows) -> Rows
+    ensures { λ r. ⌜ r ≡ rowsOf (closing events selves (now (before .entry)) (now (later .entry))) ⌝ }
 {
     let mut out = rows::empty();
     let mut a = 0;
     while a < Activity::LIMIT {
-        let s = over_after_row(events, selves, before, later, Activity(a));
+        let s = closing_row(events, selves, before, later, Activity(a));
         rows::put(&mut out, Activity(a), s);
         a += 1;
     }

@@ -3,13 +3,13 @@ use Prim.Native.Nat.{_≤_, _-_}
 use borrow.Author.Needs.{needs}
 use Rattle.sets.specs.Members.{width}
 use Rattle.sets.specs.Rows.{rowsOf}
-use Rattle.miner.specs.Reading.{overAfter}
+use Rattle.miner.specs.Reading.{closing}
 use Rattle.miner.proofs.StepLaws.{upTo, filling}
-use Rattle.miner.proofs.steps.over_after.Statement.{statement}
-use Rattle.miner.proofs.steps.over_after.Tie as tie
+use Rattle.miner.proofs.steps.closing.Statement.{statement}
+use Rattle.miner.proofs.steps.closing.Tie as tie
 
 abbrev Inv-loop : tie.InvT-loop
-Inv-loop events selves before later out₀ a₀ out a = (a ≤ width) × (out ≡ rowsOf (upTo (overAfter events selves before later) a))
+Inv-loop events selves before later out₀ a₀ out a = (a ≤ width) × (out ≡ rowsOf (upTo (closing events selves before later) a))
 
 abbrev μ-loop : tie.MeasureT-loop
 μ-loop events selves before later out₀ a₀ out a = width - a
@@ -20,8 +20,8 @@ empty-requires c κs = search (filling, needs)
 loop-holds : tie.Need-loop-holds Inv-loop μ-loop
 loop-holds c = search (filling, needs)
 
-over-after-row-requires : tie.Need-over-after-row-requires Inv-loop μ-loop
-over-after-row-requires c κs = search (filling, needs)
+closing-row-requires : tie.Need-closing-row-requires Inv-loop μ-loop
+closing-row-requires c κs = search (filling, needs)
 
 put-requires : tie.Need-put-requires Inv-loop μ-loop
 put-requires c κs = search (filling, needs)
@@ -38,15 +38,15 @@ loop-again c = search (filling, needs)
 returns : tie.Need-returns Inv-loop μ-loop
 returns c = search (filling, needs)
 
-pub over-after-spec : {M : Type 1} → statement M
-over-after-spec =
+pub closing-spec : {M : Type 1} → statement M
+closing-spec =
     tie.close
     (tie.spec
     Inv-loop
     μ-loop
     empty-requires
     loop-holds
-    over-after-row-requires
+    closing-row-requires
     put-requires
     add-a
     loop-less
