@@ -17,11 +17,11 @@ use Rattle.engine.specs.Relations.{Relations}
 use Rattle.rules.specs.Traces.{Traces}
 use Rattle.rules.specs.Mining.{noPair, noRelations, smallestSource, event, someEvent, _with_, _without_, before, followed, alternates, atMostOnce, together, directlyBefore, neverTogether, closes, step1, step2, step3, step4, step5, step6, step7, afterFive, afterSeven}
 use Rattle.miner.specs.Tallies.{tallyOf}
-use Rattle.miner.specs.Reading.{absent, excludesItself, diagonal, apart, smallestOf, inEither, notRedundant, closing}
+use Rattle.miner.specs.Reading.{selvesOf, apartOf, closedOf, fiveOf, sixOf, sevenOf, absent, excludesItself, diagonal, apart, smallestOf, inEither, notRedundant, closing}
 use Rattle.miner.proofs.Tautologies.{by2, by3, by4, by5}
 use Rattle.miner.proofs.LogLaws.{once, together-before}
 use Rattle.miner.proofs.RowReadings.{united-rows, diagonal-rows, smallest-rows}
-use Rattle.miner.proofs.Readings.{selvesOf, apartOf, closedOf, fiveOf, sixOf, sevenOf, chains-read}
+use Rattle.miner.proofs.Readings.{chains-read}
 
 -- ---- tests alone
 

@@ -15,11 +15,11 @@ use Rattle.engine.specs.Relations.{Relations}
 use Rattle.rules.specs.Traces.{Traces}
 use Rattle.rules.specs.Mining.{event, someEvent, _with_, _without_, followed, between, beforeFirst, neverMissed, reduced, step2, step3, step4, step5, step6, step7, step8, step9, step10, afterFive, afterSeven, afterEight, mined}
 use Rattle.miner.specs.Tallies.{tallyOf}
-use Rattle.miner.specs.Reading.{turned, inEither, reducedOf, waited}
+use Rattle.miner.specs.Reading.{conditionsOf, responsesOf, chainsOf, sevenOf, turned, inEither, reducedOf, waited}
 use Rattle.miner.proofs.Tautologies.{by4, by5}
 use Rattle.miner.proofs.LogLaws.{middle-event, later-event}
 use Rattle.miner.proofs.RowReadings.{reduced-rows}
-use Rattle.miner.proofs.Readings.{conditionsOf, responsesOf, chainsOf, sevenOf, conditions-read, responses-read, includes-read}
+use Rattle.miner.proofs.Readings.{conditions-read, responses-read, includes-read}
 use Rattle.miner.proofs.Exclusions.{among, with-events, joined-rows, excludes-seven}
 
 -- a pair of a relation is a pair of events

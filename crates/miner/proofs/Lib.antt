@@ -21,3 +21,4 @@ pub mod After
 pub mod LetIn
 pub mod Waiting
 pub mod OverLog
+pub mod Composed

@@ -15,40 +15,9 @@ use Rattle.rules.specs.Traces.{Traces}
 use Rattle.rules.specs.Mining.{noPair, noRelations, event, _with_, precedes, answers, chained, directlyBefore, step1, step2, step3, step4, step5, afterFive}
 use Rattle.miner.specs.declared.tally.Tally.{Tally}
 use Rattle.miner.specs.Tallies.{tallyOf}
-use Rattle.miner.specs.Reading.{unbroken, absent, excludesItself, diagonal, apart, smallestOf, turned, inEither, notRedundant, closing}
+use Rattle.miner.specs.Reading.{conditionsOf, responsesOf, chainsOf, unbroken, absent, excludesItself, diagonal, apart, smallestOf, turned, inEither, notRedundant, closing}
 use Rattle.miner.proofs.Tautologies.{by4}
 use Rattle.miner.proofs.RowReadings.{turned-rows}
-
--- ---- what the code puts together from a tally
-
--- conditions and chains by target, responses by source
-abbrev pub conditionsOf : Tally → List ℕ
-conditionsOf t = rowsOf (unbroken (t .events) (t .unpreceded))
-
-abbrev pub responsesOf : Tally → List ℕ
-responsesOf t = rowsOf (unbroken (t .events) (t .unanswered))
-
-abbrev pub chainsOf : Tally → List ℕ
-chainsOf t = rowsOf (unbroken (t .events) (t .unchained))
-
--- the excludes after five steps, after six, after seven
-abbrev pub selvesOf : Tally → Set
-selvesOf t = those (excludesItself (t .events) (t .before) (chainsOf t))
-
-abbrev pub apartOf : Tally → List ℕ
-apartOf t = rowsOf (smallestOf (rowsOf (apart (t .events) (t .before) (t .later))))
-
-abbrev pub closedOf : Tally → List ℕ
-closedOf t = rowsOf (smallestOf (rowsOf (closing (t .events) (selvesOf t) (t .before) (t .later))))
-
-abbrev pub fiveOf : Tally → List ℕ
-fiveOf t = rowsOf (inEither (rowsOf (inEither (rowsOf (diagonal (selvesOf t))) (apartOf t))) (closedOf t))
-
-abbrev pub sixOf : Tally → List ℕ
-sixOf t = rowsOf (inEither (fiveOf t) (rowsOf (absent (t .events) (t .followed))))
-
-abbrev pub sevenOf : Tally → List ℕ
-sevenOf t = rowsOf (notRedundant (t .events) (sixOf t) (t .unalternated))
 
 by-target : (a b c d : Bool) → (a and b and c and d) ≡ (b and a and (false or c and d))
 unfolding _and_ _or_ non

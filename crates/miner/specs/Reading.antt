@@ -1,13 +1,15 @@
--- Steps 1 to 8 as they are read from sets and rows: each definition is what one function of src/steps.rt or src/reduce.rt gives. `inRow rows a x`
--- says that x stands in row a. That the relations so read are those of the rules is a theorem.
+-- The steps as they are read from sets and rows: each definition is what one function of src/steps.rt, src/reduce.rt or src/mine.rt gives.
+-- `inRow rows a x` says that x stands in row a. That the relations so read are those of the rules is a theorem, so a reader of `mine` need
+-- not believe this file.
 use mathlib.Core.Bool.{Bool}
 use mathlib.Core.List.{List}
 use Prim.Native.Nat.{ℕ}
 use lib.Dec.{eqb}
 use Rattle.sets.specs.Tests.{_and_, _or_, non}
-use Rattle.sets.specs.Members.{width, mem, someBelow, leastBelow}
-use Rattle.sets.specs.Rows.{Relation, inRow}
+use Rattle.sets.specs.Members.{width, mem, those, someBelow, leastBelow}
+use Rattle.sets.specs.Rows.{Relation, inRow, rowsOf}
 use Rattle.sets.specs.declared.set.Set.{Set}
+use Rattle.miner.specs.declared.tally.Tally.{Tally}
 
 -- a and x are two events, and x stands not in row a (steps 2 and 3, of rows that hold what breaks the rule)
 unfoldable pub unbroken : Set → List ℕ → Relation
@@ -58,3 +60,34 @@ reducedOf rows a x = inRow rows a x and non (someBelow width (λ u. inRow rows a
 unfoldable pub waited : Set → List ℕ → List ℕ → List ℕ → Relation
 waited events conditions beforeFirst missed a x =
     mem events a and mem events x and (inRow conditions a x or non (eqb x a) and inRow beforeFirst a x and non (inRow missed a x))
+
+-- ---- what is put together from a tally
+
+-- conditions and chains by target, responses by source
+abbrev pub conditionsOf : Tally → List ℕ
+conditionsOf t = rowsOf (unbroken (t .events) (t .unpreceded))
+
+abbrev pub responsesOf : Tally → List ℕ
+responsesOf t = rowsOf (unbroken (t .events) (t .unanswered))
+
+abbrev pub chainsOf : Tally → List ℕ
+chainsOf t = rowsOf (unbroken (t .events) (t .unchained))
+
+-- the excludes after five steps, after six, after seven
+abbrev pub selvesOf : Tally → Set
+selvesOf t = those (excludesItself (t .events) (t .before) (chainsOf t))
+
+abbrev pub apartOf : Tally → List ℕ
+apartOf t = rowsOf (smallestOf (rowsOf (apart (t .events) (t .before) (t .later))))
+
+abbrev pub closedOf : Tally → List ℕ
+closedOf t = rowsOf (smallestOf (rowsOf (closing (t .events) (selvesOf t) (t .before) (t .later))))
+
+abbrev pub fiveOf : Tally → List ℕ
+fiveOf t = rowsOf (inEither (rowsOf (inEither (rowsOf (diagonal (selvesOf t))) (apartOf t))) (closedOf t))
+
+abbrev pub sixOf : Tally → List ℕ
+sixOf t = rowsOf (inEither (fiveOf t) (rowsOf (absent (t .events) (t .followed))))
+
+abbrev pub sevenOf : Tally → List ℕ
+sevenOf t = rowsOf (notRedundant (t .events) (sixOf t) (t .unalternated))

@@ -147,13 +147,7 @@ pub fn apart<'a>(events: Set, before: &'a Rows, later: &'a Rows) -> Rows
     out
 }
 
-fn closing_row<'a>(
-    events: Set,
-    selves: Set,
-    before: &'a Rows,
-    later: &'a Rows,
-    a: Activity,
-) -> Set
+fn closing_row<'a>(events: Set, selves: Set, before: &'a Rows, later: &'a Rows, a: Activity) -> Set
     ensures { λ r. ⌜ r ≡ those (closing events selves (now (before .entry)) (now (later .entry)) (a .0)) ⌝ }
 {
     if selves.has(a) {

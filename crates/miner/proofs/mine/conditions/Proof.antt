@@ -1,0 +1,33 @@
+use borrow.Author.Needs.{needs}
+use Rattle.miner.proofs.Composed.{conditions-by}
+use Rattle.miner.proofs.mine.conditions.Statement.{statement}
+use Rattle.miner.proofs.mine.conditions.Tie as tie
+
+empty-requires : tie.Need-empty-requires
+empty-requires c κs = search needs
+
+empty-requires-2 : tie.Need-empty-requires-2
+empty-requires-2 c κs = search needs
+
+replay-included-requires : tie.Need-replay-included-requires
+replay-included-requires c κs = search needs
+
+waited-requires : tie.Need-waited-requires
+waited-requires c κs = search needs
+
+reduced-requires : tie.Need-reduced-requires
+reduced-requires c κs = search needs
+
+returns : tie.Need-returns
+returns c = search (conditions-by, needs)
+
+pub conditions-spec : {M : Type 1} → statement M
+conditions-spec =
+    tie.close
+    (tie.spec
+    empty-requires
+    empty-requires-2
+    replay-included-requires
+    waited-requires
+    reduced-requires
+    returns)

@@ -1,0 +1,33 @@
+use borrow.Author.Needs.{needs}
+use Rattle.miner.proofs.Composed.{includes-by}
+use Rattle.miner.proofs.mine.includes.Statement.{statement}
+use Rattle.miner.proofs.mine.includes.Tie as tie
+
+unbroken-requires : tie.Need-unbroken-requires
+unbroken-requires c κs = search needs
+
+turned-requires : tie.Need-turned-requires
+turned-requires c κs = search needs
+
+absent-requires : tie.Need-absent-requires
+absent-requires c κs = search needs
+
+let-in-requires : tie.Need-let-in-requires
+let-in-requires c κs = search needs
+
+united-requires : tie.Need-united-requires
+united-requires c κs = search needs
+
+returns : tie.Need-returns
+returns c = search (includes-by, needs)
+
+pub includes-spec : {M : Type 1} → statement M
+includes-spec =
+    tie.close
+    (tie.spec
+    unbroken-requires
+    turned-requires
+    absent-requires
+    let-in-requires
+    united-requires
+    returns)
