@@ -17,6 +17,7 @@ use Rattle.sets.proofs.Tests.{T→true, F→false, split, either, and-true, or-
 use Rattle.sets.proofs.Members.{those-ext, those-of, those-mem}
 use Rattle.rules.specs.Traces.{_has_}
 use Rattle.miner.proofs.Turns.{rest-next, seenIn}
+use Rattle.miner.proofs.Tautologies.{and-false}
 
 -- ---- a table in which a place is put down
 
@@ -50,11 +51,6 @@ module _ (last : List ℕ) (e i : ℕ) where
 
 abbrev pub LastOf : List ℕ → List ℕ → Type 0
 LastOf last τ = (i : ℕ) → i < length τ → getD τ i 0 < width → eqb (getD last (getD τ i 0) 0) i ≡ non (drop (i + 1) τ has getD τ i 0)
-
-and-false : (a : Bool) → (a and false) ≡ false
-unfolding _and_
-and-false true = refl
-and-false false = refl
 
 or-assoc : (a b c : Bool) → (a or (b or c)) ≡ (a or b or c)
 unfolding _or_
@@ -115,12 +111,6 @@ module _ (σ : List ℕ) (i : ℕ) (h : i < length σ) where
   so-far : take (i + 1) σ ≡ take i σ ++ getD σ i 0 ∷ []
   so-far = ap (λ (n : ℕ). take n σ) (add-one i) ∙ take-suc σ i 0 h
 
-  pub all-next : (all r : Set) → all ≡ seenIn (take i σ) → r ≡ those (λ x. mem all x or eqb x (getD σ i 0)) → r ≡ seenIn (take (i + 1) σ)
-  all-next all r ha hr =
-      hr ∙ those-of all (λ x. take i σ has x) (λ x t. t or eqb x (getD σ i 0)) ha
-      ∙ those-ext (λ x. take i σ has x or eqb x (getD σ i 0)) (λ x. take (i + 1) σ has x)
-      (λ x l. sym (has-snoc (take i σ) (getD σ i 0) x) ∙ ap (λ (τ : List ℕ). τ has x) (sym so-far))
-
   pub length-next : (last last′ : List ℕ) → length last ≡ width → last′ ≡ putPlace last (getD σ i 0) i → length last′ ≡ width
   length-next last last′ len hp = ap length hp ∙ length-place last (getD σ i 0) i ∙ len
 
@@ -131,11 +121,8 @@ module _ (σ : List ℕ) (i : ℕ) (h : i < length σ) where
       (ap (putPlace last (getD σ i 0)) (length-take-le i σ (omega arith)) ∙ sym hp)
       (last-snoc last (take i σ) (getD σ i 0) len inv))
 
-pub last-none : (last : List ℕ) → LastOf last []
-last-none last i h = absurd (not-suc-le-zero h)
-
-pub all-end : (σ : List ℕ) (i : ℕ) (all : Set) → length σ ≤ i → all ≡ seenIn (take i σ) → all ≡ seenIn σ
-all-end σ i all h e = e ∙ ap seenIn (take-all i σ h)
+pub table-none : (last : List ℕ) → LastOf last []
+table-none last i h = absurd (not-suc-le-zero h)
 
 pub last-end : (σ last : List ℕ) (i : ℕ) → length σ ≤ i → LastOf last (take i σ) → LastOf last σ
 last-end σ last i h l = subst (λ (τ : List ℕ). LastOf last τ) (take-all i σ h) l

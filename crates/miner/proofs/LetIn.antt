@@ -1,24 +1,25 @@
 -- One turn of step 6's pass: what is barred, and what the row of the event gains. Assumes nothing.
 use mathlib.Core.Path.{_≡_, sym, ap, ap₂, _∙_, subst}
-use mathlib.Core.Bool.{Bool, false}
+use mathlib.Core.Bool.{Bool}
 use mathlib.Core.List.{List, [], _∷_}
 use Prim.Native.Nat.{ℕ, _+_, _<_}
 use borrow.Author.Tests.{ltb-true, ltb-false}
 use lib.Dec.{T, ltb, eqb→eq, eqb-refl}
 use lib.ListN.{length, getD, drop}
 use Rattle.sets.specs.Tests.{_and_, _or_}
-use Rattle.sets.specs.Members.{width, bitsOf, mem, those, someBelow}
-use Rattle.sets.specs.Rows.{rowAt, withRow, inRow}
+use Rattle.sets.specs.Members.{width, mem, those, someBelow}
+use Rattle.sets.specs.Rows.{rowAt, inRow}
 use Rattle.sets.specs.declared.set.Set.{Set}
 use Rattle.sets.proofs.Tests.{and-l, and-r, and-i, or-e, or-l, or-r, T-ext, T→true, F→false, false→F, split, either}
 use Rattle.sets.proofs.Bits.{bit-zero}
 use Rattle.sets.proofs.Below.{some-i, some-e}
-use Rattle.sets.proofs.Members.{those-ext, those-of, mem-those}
+use Rattle.sets.proofs.Members.{those-ext, those-of}
 use Rattle.sets.proofs.RowLaws.{row-out}
 use Rattle.rules.specs.Traces.{_has_}
-use Rattle.miner.specs.Passes.{forward, letIn}
+use Rattle.miner.specs.Passes.{gained, forward, letIn}
 use Rattle.miner.proofs.Turns.{pastAt, past-next, seenIn, forward-next}
-use Rattle.miner.proofs.Gains.{gains-below, seen-is}
+use Rattle.miner.proofs.Gains.{gains-below}
+use Rattle.miner.proofs.MadeSets.{is-those, none}
 
 -- a row that has a member is one of the rows
 row-below : (rows : List ℕ) (s x : ℕ) → T (inRow rows s x) → s < width
@@ -36,10 +37,8 @@ module _ (unfollowed : List ℕ) where
   barredIn past = those (barredAt past)
 
   pub barred-none : _≡_ {A = Set} (record { bits = 0 }) (barredIn [])
-  unfolding bitsOf _has_
-  barred-none =
-      those-ext (λ x. false) (barredAt [])
-      (λ x l. sym (F→false (barredAt [] x) (λ t. let r = some-e width (λ s. [] has s and inRow unfollowed s x) t in and-l _ _ (r .2))))
+  unfolding _has_
+  barred-none = none (barredAt []) (λ x l. F→false (barredAt [] x) (λ t. let r = some-e width (λ s. [] has s and inRow unfollowed s x) t in and-l _ _ (r .2)))
 
   barred-more : (past : List ℕ) (e x : ℕ) → (barredAt past x or inRow unfollowed e x) ≡ barredAt (e ∷ past) x
   unfolding _has_
@@ -76,13 +75,13 @@ module _ (unfollowed : List ℕ) where
 
     pub let-in-next : (after : Set) (all rows rows′ : List ℕ) → after ≡ seenIn (drop (i + 1) σ)
         → forward (letIn unfollowed) rows (pastAt σ i) (drop i σ) ≡ all
-        → rows′ ≡ withRow rows (getD σ i 0) (those (λ x. mem (rowAt rows (getD σ i 0)) x or mem after x and mem barred x))
+        → rows′ ≡ gained rows (getD σ i 0) (λ x. mem after x and mem barred x)
         → forward (letIn unfollowed) rows′ (pastAt σ (i + 1)) (drop (i + 1) σ) ≡ all
     unfolding letIn
     let-in-next after all rows rows′ ha inv hr =
         forward-next (letIn unfollowed) σ all i rows rows′ h
         (gains-below (letIn unfollowed) rows (getD σ i 0) (pastAt σ i) (drop (i + 1) σ) (λ x. mem after x and mem barred x) rows′
         (λ l x k.
-        ap₂ _and_ (seen-is (drop (i + 1) σ) after ha x k) (ap (λ (s : Set). mem s x) hb ∙ mem-those (barredAt (pastAt σ i)) x k))
+        ap₂ _and_ (is-those after (λ y. drop (i + 1) σ has y) ha x k) (is-those barred (barredAt (pastAt σ i)) hb x k))
         hr)
         inv

@@ -1,37 +1,27 @@
 -- What the facts of steps 6 and 9 say of a whole log, in the words of the rules. What is assumed stands with each.
 use mathlib.Core.Path.{_≡_, refl, sym, ap, ap₂, _∙_, subst}
-use mathlib.Core.Bool.{Bool, true, false}
+use mathlib.Core.Bool.{Bool}
 use mathlib.Core.List.{List, [], _∷_, reverseAux, List·Memᴰ}
 use Prim.Native.Nat.{ℕ, _<_}
-use lib.Dec.{T, eqb, eqb→eq, eqb-refl}
+use lib.Dec.{T, eqb→eq, eqb-refl}
 use Rattle.sets.specs.Tests.{_and_, _or_, non}
 use Rattle.sets.specs.Members.{width, those, someBelow}
 use Rattle.sets.specs.Rows.{rowsOf, inRow}
-use Rattle.sets.proofs.Tests.{and-l, and-r, and-i, or-e, or-l, or-r, T-ext, T-eq, either, non-and, non-or, non-non}
+use Rattle.sets.proofs.Tests.{and-l, and-r, and-i, or-e, or-l, or-r, T-ext, T-eq, either}
 use Rattle.sets.proofs.Below.{some-i, some-e}
 use Rattle.sets.proofs.Members.{mem-those}
 use Rattle.sets.proofs.RowLaws.{in-rowsOf}
 use Rattle.engine.specs.Relations.{Relations}
-use Rattle.rules.specs.Traces.{Traces, _has_, atEachFrom, atEach, atSomeFrom, atSome, everyTrace, someTrace}
+use Rattle.rules.specs.Traces.{Traces, _has_, atSomeFrom, atSome, someTrace}
 use Rattle.rules.specs.Mining.{event, someEvent, followed, between, includedAfter, neverMissed}
 use Rattle.rules.specs.Mining.{beforeFirst as rule-beforeFirst}
-use Rattle.rules.proofs.Places.{some-at, has-rest, has-past, some-of, some-trace}
-use Rattle.rules.proofs.InTurn.{Small, is-event}
+use Rattle.rules.proofs.Places.{some-at, has-past, some-of, some-trace}
+use Rattle.rules.proofs.InTurn.{Small}
 use Rattle.miner.specs.Passes.{letIn, beforeFirst, stillIncluded, missed}
-
--- ---- not at every place is at some place not
-
-non-each : (t : ℕ) (p : List ℕ → List ℕ → Bool) (past rest : List ℕ) → non (atEachFrom t p past rest) ≡ atSomeFrom t (λ q s. non (p q s)) past rest
-unfolding atEachFrom atSomeFrom non
-non-each t p past [] = refl
-non-each t p past (x ∷ rest) =
-    non-and (non (eqb t x) or p past rest) (atEachFrom t p (x ∷ past) rest)
-    ∙ ap₂ _or_ (non-or (eqb t x) (p past rest)) (non-each t p (x ∷ past) rest)
-
-pub non-every : (L : Traces) (t : ℕ) (p : List ℕ → List ℕ → Bool) → non (everyTrace L (atEach t p)) ≡ someTrace L (atSome t (λ q s. non (p q s)))
-unfolding everyTrace someTrace non
-non-every [] t p = refl
-non-every (σ ∷ L) t p = non-and (atEach t p σ) (everyTrace L (atEach t p)) ∙ ap₂ _or_ (non-each t p [] σ) (non-every L t p)
+use Rattle.miner.proofs.Folds.{heard}
+use Rattle.miner.proofs.Heard.{non-every}
+use Rattle.miner.proofs.LogLaws.{later-event}
+use Rattle.miner.proofs.Tautologies.{by2}
 
 -- ---- the places of a log where an activity stands
 
@@ -73,7 +63,7 @@ module _ (L : Traces) where
 
   -- what u lets in are the includes that the step adds
   pub let-in-is : (u t : ℕ) → t < width
-      → someTrace L (atSome u (λ past rest. letIn neverFollowing u past rest t)) ≡ someEvent L (λ s. non (followed L s t) and between L s u t)
+      → heard (letIn neverFollowing) L u t ≡ someEvent L (λ s. non (followed L s t) and between L s u t)
   unfolding letIn someEvent between _has_
   let-in-is u t lt = T-ext _ _ there back
     where
@@ -92,14 +82,14 @@ module _ (L : Traces) where
       back h =
           let r = some-e width (λ s. event L s and (non (followed L s t) and between L s u t)) h in
           let k = some-place u (λ past rest. past has r .0 and rest has t) L (and-r _ _ (and-r _ _ (r .2))) in
-          let e = is-event L t (k .2) (has-rest t (k .0) (u ∷ k .1) (or-r _ _ (and-r _ _ (k .3)))) in
+          let e = later-event L (r .0) u t (and-r _ _ (and-r _ _ (r .2))) in
           let w = T-eq (sym (in-rowsOf (λ s t. event L s and event L t and non (followed L s t)) (r .0) t (r .1) lt))
           (and-i _ _ (and-i _ _ (and-l _ _ (r .2)) e) (and-l _ _ (and-r _ _ (r .2)))) in
           at-place u here L (k .0) (k .1) (k .2) (and-i _ _ (and-r _ _ (k .3)) (some-i width _ (r .0) (r .1) (and-i _ _ (and-l _ _ (k .3)) w)))
 
   -- ---- step 9
 
-  pub before-first-is : (s t : ℕ) → someTrace L (atSome t (λ past rest. beforeFirst t past rest s)) ≡ rule-beforeFirst L s t
+  pub before-first-is : (s t : ℕ) → heard beforeFirst L t s ≡ rule-beforeFirst L s t
   unfolding beforeFirst rule-beforeFirst
   before-first-is s t = refl
 
@@ -117,16 +107,15 @@ module _ (L : Traces) where
 
     waits : (a b : Bool) → (non a and b) ≡ non (a or non b)
     unfolding _and_ _or_ non
-    waits true b = refl
-    waits false b = sym (non-non b)
+    waits = by2 (λ a b. non a and b) (λ a b. non (a or non b)) tt
 
     -- what is missed at some t is what the step's test says no to
     pub missed-is : Small L → (t : ℕ)
-        → someTrace L (atSome t (λ past rest. missed (those (event L)) (rowsOf (g .includes)) (rowsOf (g .excludes)) t past rest s)) ≡ non (neverMissed L g s t)
+        → heard (missed (those (event L)) (rowsOf (g .includes)) (rowsOf (g .excludes))) L t s ≡ non (neverMissed L g s t)
     unfolding missed neverMissed
     missed-is small t =
         places-ext L t (λ past rest. missed (those (event L)) (rowsOf (g .includes)) (rowsOf (g .excludes)) t past rest s) (λ past rest. non (past has s or non (includedAfter L g past s)))
         (λ past rest m.
         ap (λ (b : Bool). non (past has s) and b) (still-is past (λ a h. small (reverseAux past (t ∷ rest)) m a (has-past a past (t ∷ rest) h)))
         ∙ waits (past has s) (includedAfter L g past s))
-        ∙ sym (non-every L t (λ past rest. past has s or non (includedAfter L g past s)))
+        ∙ sym (non-every t (λ past rest. past has s or non (includedAfter L g past s)) L)

@@ -1,39 +1,22 @@
 -- One turn of the pass of step 9: the sets that it keeps, and what the rows of the event gain. Assumes nothing.
-use mathlib.Core.Path.{_≡_, refl, sym, ap, _∙_}
-use mathlib.Core.Bool.{Bool, true, false}
+use mathlib.Core.Path.{_≡_, sym, ap, _∙_}
+use mathlib.Core.Bool.{Bool}
 use mathlib.Core.List.{List, [], _∷_}
 use Prim.Native.Nat.{ℕ, _+_, _^_, _<_}
 use lib.ListN.{length, getD, drop}
 use Rattle.sets.specs.Tests.{_and_, _or_, non}
-use Rattle.sets.specs.Members.{width, bitsOf, mem, those}
-use Rattle.sets.specs.Rows.{rowAt, withRow, inRow}
+use Rattle.sets.specs.Members.{width, mem, those}
+use Rattle.sets.specs.Rows.{rowAt, inRow}
 use Rattle.sets.specs.declared.set.Set.{Set}
-use Rattle.sets.proofs.Tests.{and-true}
-use Rattle.sets.proofs.Members.{those-ext, those-of, those-mem, mem-those}
+use Rattle.sets.proofs.Members.{those-of, those-mem}
 use Rattle.rules.specs.Traces.{_has_}
-use Rattle.miner.specs.Passes.{gains, forward, beforeFirst, stillIncluded, missed}
+use Rattle.miner.specs.Passes.{gained, gains, forward, beforeFirst, stillIncluded, missed}
 use Rattle.miner.proofs.Turns.{pastAt, past-next, seenIn, forward-next}
-use Rattle.miner.proofs.Gains.{gains-below, seen-is}
+use Rattle.miner.proofs.Gains.{gains-below}
+use Rattle.miner.proofs.MadeSets.{is-those}
+use Rattle.miner.proofs.Tautologies.{by2}
 
--- ---- the answers of the functions of a turn
-
-nothing : (a : Bool) → (a and non true) ≡ false
-unfolding _and_ non
-nothing true = refl
-nothing false = refl
-
--- at a repeat, nothing; at the first place, what was seen
-module _ (seen : Set) (e : ℕ) (b : Bool) (h : b ≡ mem seen e) where
-  pub at-repeat : b ≡ true → _≡_ {A = Set} (record { bits = 0 }) (those (λ x. mem seen x and non (mem seen e)))
-  unfolding bitsOf
-  at-repeat t = those-ext (λ x. false) (λ x. mem seen x and non (mem seen e)) (λ x l. sym (nothing (mem seen x)) ∙ ap (λ (a : Bool). mem seen x and non a) (sym t ∙ h))
-
-  pub at-new : b ≡ false → seen .bits < 2 ^ width → seen ≡ those (λ x. mem seen x and non (mem seen e))
-  unfolding non
-  at-new f l =
-      sym (those-mem seen l)
-      ∙ those-ext (mem seen) (λ x. mem seen x and non (mem seen e)) (λ x k. sym (and-true (mem seen x)) ∙ ap (λ (a : Bool). mem seen x and non a) (sym f ∙ h))
-
+-- ---- what a turn's functions give
 -- what e excludes goes, then what it includes comes
 pub included-by : (included kept r in-row out-row : Set) (includes excludes : List ℕ) (e : ℕ)
     → out-row ≡ rowAt excludes e → kept ≡ those (λ x. mem included x and non (mem out-row x))
@@ -48,20 +31,17 @@ included-by included kept r in-row out-row includes excludes e ho hk hi hr =
 -- ---- the turn as the definitions say it
 
 pub first-turn : (past rest : List ℕ) (e : ℕ) (seen : Set) (rows rows′ : List ℕ) → seen ≡ seenIn past
-    → rows′ ≡ withRow rows e (those (λ x. mem (rowAt rows e) x or mem seen x and non (mem seen e))) → rows′ ≡ gains beforeFirst rows e past rest
+    → rows′ ≡ gained rows e (λ x. mem seen x and non (mem seen e)) → rows′ ≡ gains beforeFirst rows e past rest
 unfolding beforeFirst
 first-turn past rest e seen rows rows′ hs h =
     gains-below beforeFirst rows e past rest (λ x. mem seen x and non (mem seen e)) rows′
     (λ l x k.
-    ap (λ (t : Bool). t and non (mem seen e)) (seen-is past seen hs x k) ∙ ap (λ (t : Bool). past has x and non t) (seen-is past seen hs e l))
+    ap (λ (t : Bool). t and non (mem seen e)) (is-those seen (λ y. past has y) hs x k) ∙ ap (λ (t : Bool). past has x and non t) (is-those seen (λ y. past has y) hs e l))
     h
 
 and-comm : (a b : Bool) → (a and b) ≡ (b and a)
-unfolding _and_
-and-comm true true = refl
-and-comm true false = refl
-and-comm false true = refl
-and-comm false false = refl
+unfolding _and_ _or_ non
+and-comm = by2 _and_ (λ a b. b and a) tt
 
 -- the replay by these includes and excludes
 module _ (events : Set) (includes excludes : List ℕ) where
@@ -80,14 +60,14 @@ module _ (events : Set) (includes excludes : List ℕ) where
       hr ∙ those-of included (stillIncluded events includes excludes past) (λ x t. t and non (inRow excludes e x) or inRow includes e x) hi
 
   pub missed-turn : (past rest : List ℕ) (e : ℕ) (seen included : Set) (rows rows′ : List ℕ) → seen ≡ seenIn past → included ≡ openAfter past
-      → rows′ ≡ withRow rows e (those (λ x. mem (rowAt rows e) x or mem included x and non (mem seen x)))
+      → rows′ ≡ gained rows e (λ x. mem included x and non (mem seen x))
       → rows′ ≡ gains (missed events includes excludes) rows e past rest
   unfolding missed
   missed-turn past rest e seen included rows rows′ hs hi h =
       gains-below (missed events includes excludes) rows e past rest (λ x. mem included x and non (mem seen x)) rows′
       (λ l x k.
-      ap (λ (t : Bool). mem included x and non t) (seen-is past seen hs x k)
-      ∙ ap (λ (t : Bool). t and non (past has x)) (ap (λ (s : Set). mem s x) hi ∙ mem-those (stillIncluded events includes excludes past) x k)
+      ap (λ (t : Bool). mem included x and non t) (is-those seen (λ y. past has y) hs x k)
+      ∙ ap (λ (t : Bool). t and non (past has x)) (is-those included (stillIncluded events includes excludes past) hi x k)
       ∙ and-comm (stillIncluded events includes excludes past x) (non (past has x)))
       h
 
@@ -95,7 +75,7 @@ module _ (events : Set) (includes excludes : List ℕ) where
 
 module _ (σ : List ℕ) (i : ℕ) (h : i < length σ) (seen : Set) (hs : seen ≡ seenIn (pastAt σ i)) where
   pub first-next : (all rows rows′ : List ℕ) → forward beforeFirst rows (pastAt σ i) (drop i σ) ≡ all
-      → rows′ ≡ withRow rows (getD σ i 0) (those (λ x. mem (rowAt rows (getD σ i 0)) x or mem seen x and non (mem seen (getD σ i 0))))
+      → rows′ ≡ gained rows (getD σ i 0) (λ x. mem seen x and non (mem seen (getD σ i 0)))
       → forward beforeFirst rows′ (pastAt σ (i + 1)) (drop (i + 1) σ) ≡ all
   first-next all rows rows′ inv hr = forward-next beforeFirst σ all i rows rows′ h (first-turn (pastAt σ i) _ (getD σ i 0) seen rows rows′ hs hr) inv
 
@@ -106,7 +86,7 @@ module _ (σ : List ℕ) (i : ℕ) (h : i < length σ) (seen : Set) (hs : seen �
         open-next events includes excludes (pastAt σ i) (getD σ i 0) included r hi hr ∙ ap (openAfter events includes excludes) (sym (past-next σ i h))
 
     pub missed-next : (all rows rows′ : List ℕ) → forward (missed events includes excludes) rows (pastAt σ i) (drop i σ) ≡ all
-        → rows′ ≡ withRow rows (getD σ i 0) (those (λ x. mem (rowAt rows (getD σ i 0)) x or mem included x and non (mem seen x)))
+        → rows′ ≡ gained rows (getD σ i 0) (λ x. mem included x and non (mem seen x))
         → forward (missed events includes excludes) rows′ (pastAt σ (i + 1)) (drop (i + 1) σ) ≡ all
     missed-next all rows rows′ inv hr =
         forward-next (missed events includes excludes) σ all i rows rows′ h

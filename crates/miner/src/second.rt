@@ -8,9 +8,9 @@ ghost use lib.Dec.{eqb, ltb};
 ghost use lib.ListN.{length, getD, set, drop};
 ghost use Rattle.sets.specs.Tests.{_and_, _or_, non};
 ghost use Rattle.sets.specs.Members.{width, mem, those};
-ghost use Rattle.sets.specs.Rows.{rowAt, withRow, inRow};
+ghost use Rattle.sets.specs.Rows.{inRow};
 ghost use Rattle.rules.specs.Traces.{_has_};
-ghost use Rattle.miner.specs.Passes.{forward, letIn, beforeFirst, missed};
+ghost use Rattle.miner.specs.Passes.{gained, forward, letIn, beforeFirst, missed};
 use sets::Activity;
 use sets::Place;
 use sets::Rows;
@@ -66,7 +66,7 @@ fn left_after(after: Set, last: &Places, e: Activity, at: Place) -> Set
 
 // One place of e: its row gains what comes later and is barred. Then what never directly follows e is barred too.
 fn let_in_here(e: Activity, after: Set, barred: Set, unfollowed: &Rows, out: &mut Rows) -> Set
-    ensures row { λ _. ⌜ now (out .exit) ≡ withRow (now (out .entry)) (e .0) (those (λ x. mem (rowAt (now (out .entry)) (e .0)) x or mem after x and mem barred x)) ⌝ }
+    ensures row { λ _. ⌜ now (out .exit) ≡ gained (now (out .entry)) (e .0) (λ x. mem after x and mem barred x) ⌝ }
     ensures next { λ r. ⌜ r ≡ those (λ x. mem barred x or inRow (now (unfollowed .entry)) (e .0) x) ⌝ }
 {
     let back = after.intersection(barred);
@@ -117,8 +117,8 @@ fn at_first(seen: Set, e: Activity) -> Set
 
 // One place of e: its row of `first` gains what stands before its first place, its row of `unmet` what is included and not executed.
 fn note_waiting(e: Activity, seen: Set, included: Set, first: &mut Rows, unmet: &mut Rows)
-    ensures before { λ _. ⌜ now (first .exit) ≡ withRow (now (first .entry)) (e .0) (those (λ x. mem (rowAt (now (first .entry)) (e .0)) x or mem seen x and non (mem seen (e .0)))) ⌝ }
-    ensures left { λ _. ⌜ now (unmet .exit) ≡ withRow (now (unmet .entry)) (e .0) (those (λ x. mem (rowAt (now (unmet .entry)) (e .0)) x or mem included x and non (mem seen x))) ⌝ }
+    ensures before { λ _. ⌜ now (first .exit) ≡ gained (now (first .entry)) (e .0) (λ x. mem seen x and non (mem seen (e .0))) ⌝ }
+    ensures left { λ _. ⌜ now (unmet .exit) ≡ gained (now (unmet .entry)) (e .0) (λ x. mem included x and non (mem seen x)) ⌝ }
 {
     let early = at_first(seen, e);
     rows::join(first, e, early);

@@ -1,5 +1,5 @@
 use borrow.Author.Needs.{needs}
-use Rattle.miner.proofs.Gains.{gain-of}
+use Rattle.miner.proofs.Turns.{joined-by}
 use Rattle.miner.proofs.LetIn.{barred-by}
 use Rattle.miner.proofs.second.let_in_here.Statement.{statement}
 use Rattle.miner.proofs.second.let_in_here.Tie as tie
@@ -18,7 +18,7 @@ union-requires c κs = search needs
 
 returns : tie.Need-returns
 returns c = (
-  gain-of _ _ _ _ _ (c .before .before .before .before .intersection .ensures) (c .before .before .join .ensures),
+  joined-by _ _ _ _ _ (c .before .before .before .before .intersection .ensures) (c .before .before .join .ensures),
   barred-by _ _ _ _ _ (c .before .row .ensures) (c .union .ensures),
 )
 

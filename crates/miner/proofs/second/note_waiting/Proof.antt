@@ -1,5 +1,5 @@
 use borrow.Author.Needs.{needs}
-use Rattle.miner.proofs.Gains.{gain-of}
+use Rattle.miner.proofs.Turns.{joined-by}
 use Rattle.miner.proofs.second.note_waiting.Statement.{statement}
 use Rattle.miner.proofs.second.note_waiting.Tie as tie
 
@@ -17,8 +17,8 @@ join-requires-2 c κs = search needs
 
 returns : tie.Need-returns
 returns c = (
-  gain-of _ _ _ _ _ (c .before .before .before .before .before .at-first .ensures) (c .before .before .before .join .ensures),
-  gain-of _ _ _ _ _ (c .before .before .difference .ensures) (c .join2 .ensures),
+  joined-by _ _ _ _ _ (c .before .before .before .before .before .at-first .ensures) (c .before .before .before .join .ensures),
+  joined-by _ _ _ _ _ (c .before .before .difference .ensures) (c .join2 .ensures),
 )
 
 pub note-waiting-spec : {M : Type 1} → statement M

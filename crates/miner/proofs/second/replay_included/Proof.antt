@@ -4,8 +4,8 @@ use Prim.Native.Nat.{_≤_, _-_}
 use borrow.Author.Needs.{needs}
 use lib.ListN.{length, drop}
 use Rattle.miner.specs.Passes.{forward, beforeFirst, missed}
-use Rattle.miner.proofs.Turns.{pastAt, seenIn, forward-end}
-use Rattle.miner.proofs.Gains.{seen-none, seen-next}
+use Rattle.miner.proofs.Turns.{pastAt, seenIn, seen-none, forward-end}
+use Rattle.miner.proofs.Gains.{seen-next}
 use Rattle.miner.proofs.Waiting.{openAfter, open-first, included-next, first-next, missed-next}
 use Rattle.miner.proofs.second.replay_included.Statement.{statement}
 use Rattle.miner.proofs.second.replay_included.Tie as tie
