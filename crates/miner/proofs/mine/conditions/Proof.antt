@@ -19,7 +19,12 @@ reduced-requires : tie.Need-reduced-requires
 reduced-requires c κs = search needs
 
 returns : tie.Need-returns
-returns c = search (conditions-by, needs)
+returns c =
+    let waited = c .before .before in
+    let replayed = waited .before .before .before in
+    let empty2 = replayed .before .before .before in
+    conditions-by _ _ _ _ _ _ _ _ _ _ _ (empty2 .before .empty .ensures) (empty2 .empty2 .ensures) (replayed .replay-included .ensures .0) (replayed .replay-included .ensures .1)
+    (waited .waited .ensures) (c .reduced .ensures)
 
 pub conditions-spec : {M : Type 1} → statement M
 conditions-spec =

@@ -19,7 +19,11 @@ united-requires : tie.Need-united-requires
 united-requires c κs = search needs
 
 returns : tie.Need-returns
-returns c = search (includes-by, needs)
+returns c =
+    let six = c .before .before .before in
+    let absent = six .before .before in
+    let three = absent .before .before .before in
+    includes-by _ _ _ _ _ _ _ _ (three .before .before .unbroken .ensures) (three .turned .ensures) (absent .absent .ensures) (six .let-in .ensures) (c .united .ensures)
 
 pub includes-spec : {M : Type 1} → statement M
 includes-spec =
