@@ -6,7 +6,12 @@ use Rattle.sets.specs.Rows.{noRows, rowsOf}
 use Rattle.sets.specs.declared.set.Set.{Set}
 use Rattle.rules.specs.Traces.{Traces}
 use Rattle.miner.specs.Passes.{forward, through, letIn, beforeFirst, missed}
-use Rattle.miner.specs.Reading.{turned, inEither, reducedOf, waited}
+use Rattle.engine.specs.Markings.{openingOf}
+use Rattle.engine.specs.Relations.{graphOf}
+use Rattle.engine.specs.declared.marking.Marking.{Marking}
+use Rattle.miner.specs.declared.tally.Tally.{Tally}
+use Rattle.miner.specs.Tallies.{tallyOf}
+use Rattle.miner.specs.Reading.{turned, inEither, reducedOf, waited, conditionsOf, responsesOf, sevenOf, includesOf, waitedOf, graphRead}
 
 -- steps 3 and 6, of the includes
 pub includes-by : (L : Traces) (chains′ never′ chains three never six r : List ℕ)
@@ -33,3 +38,12 @@ conditions-by L events eight includes excludes first₀ unmet₀ first unmet nin
     ∙ ap₂ (λ (x y : List ℕ). rowsOf (waited events eight x y))
     (hf ∙ ap (λ (x : List ℕ). through (λ r σ. forward beforeFirst r [] σ) x L) h₀)
     (hu ∙ ap (λ (x : List ℕ). through (λ r σ. forward (missed events includes excludes) r [] σ) x L) k₀))
+
+-- the graph, from its tally
+pub read-by : (A : ℕ) (L : Traces) (t : Tally) (opening : Marking) (excludes includes eight conditions responses : List ℕ)
+    → t ≡ tallyOf L → excludes ≡ sevenOf t → includes ≡ includesOf t L → eight ≡ rowsOf (reducedOf (conditionsOf t))
+    → conditions ≡ waitedOf (t .events) eight includes excludes L → responses ≡ rowsOf (reducedOf (responsesOf t)) → opening ≡ openingOf (t .events)
+    → graphOf A (t .events) opening conditions responses includes excludes ≡ graphRead A L (tallyOf L)
+unfolding graphRead
+read-by A L t opening excludes includes eight conditions responses ht hx hi he hc hr ho =
+    (λ i. graphOf A (t .events) (ho i) ((hc ∙ (λ j. waitedOf (t .events) (he j) (hi j) (hx j) L)) i) (hr i) (hi i) (hx i)) ∙ ap (graphRead A L) ht

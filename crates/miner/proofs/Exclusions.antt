@@ -179,7 +179,7 @@ module _ (L : Traces) where
       ∙ rowsOf-ext (λ s t. (_with_ L r p) s t or event L s and event L t and q s t) (_with_ L (_with_ L r p) q)
       (λ s t ls lt. one-more (event L s) (event L t) ((_with_ L r p) s t) (q s t) (with-events r p s t))
 
-  absent-rows : (r : Relation) → rowsOf (absent (those (event L)) (rowsOf r)) ≡ rowsOf (λ s t. event L s and event L t and non (r s t))
+  pub absent-rows : (r : Relation) → rowsOf (absent (those (event L)) (rowsOf r)) ≡ rowsOf (λ s t. event L s and event L t and non (r s t))
   unfolding absent
   absent-rows r =
       rowsOf-ext (absent (those (event L)) (rowsOf r)) (λ s t. event L s and event L t and non (r s t))

@@ -22,3 +22,5 @@ pub mod LetIn
 pub mod Waiting
 pub mod OverLog
 pub mod Composed
+pub mod PairForPair
+pub mod FromLog

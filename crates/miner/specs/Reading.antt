@@ -2,14 +2,19 @@
 -- `inRow rows a x` says that x stands in row a. That the relations so read are those of the rules is a theorem, so a reader of `mine` need
 -- not believe this file.
 use mathlib.Core.Bool.{Bool}
-use mathlib.Core.List.{List}
+use mathlib.Core.List.{List, []}
 use Prim.Native.Nat.{ℕ}
 use lib.Dec.{eqb}
 use Rattle.sets.specs.Tests.{_and_, _or_, non}
 use Rattle.sets.specs.Members.{width, mem, those, someBelow, leastBelow}
-use Rattle.sets.specs.Rows.{Relation, inRow, rowsOf}
+use Rattle.sets.specs.Rows.{Relation, noRows, inRow, rowsOf}
 use Rattle.sets.specs.declared.set.Set.{Set}
+use Rattle.engine.specs.Markings.{openingOf}
+use Rattle.engine.specs.Relations.{graphOf}
+use Rattle.engine.specs.declared.graph.Graph.{Graph}
+use Rattle.rules.specs.Traces.{Traces}
 use Rattle.miner.specs.declared.tally.Tally.{Tally}
+use Rattle.miner.specs.Passes.{forward, through, letIn, beforeFirst, missed}
 
 -- a and x are two events, and x stands not in row a (steps 2 and 3, of rows that hold what breaks the rule)
 unfoldable pub unbroken : Set → List ℕ → Relation
@@ -91,3 +96,29 @@ sixOf t = rowsOf (inEither (fiveOf t) (rowsOf (absent (t .events) (t .followed))
 
 abbrev pub sevenOf : Tally → List ℕ
 sevenOf t = rowsOf (notRedundant (t .events) (sixOf t) (t .unalternated))
+
+-- ---- what is put together from a tally and the traces
+
+-- the includes, of steps 3 and 6
+abbrev pub includesOf : Tally → Traces → List ℕ
+includesOf t L =
+    rowsOf
+    (inEither (rowsOf (turned (chainsOf t))) (through (λ r σ. forward (letIn (rowsOf (absent (t .events) (t .followed)))) r [] σ) noRows L))
+
+-- the conditions, of steps 9 and 10, from those after step 8
+abbrev pub waitedOf : Set → List ℕ → List ℕ → List ℕ → Traces → List ℕ
+waitedOf events eight includes excludes L =
+    rowsOf
+    (reducedOf
+    (rowsOf
+    (waited events eight (through (λ r σ. forward beforeFirst r [] σ) noRows L)
+    (through (λ r σ. forward (missed events includes excludes) r [] σ) noRows L))))
+
+-- the graph
+unfoldable pub graphRead : ℕ → Traces → Tally → Graph
+graphRead A L t =
+    graphOf A (t .events) (openingOf (t .events))
+    (waitedOf (t .events) (rowsOf (reducedOf (conditionsOf t))) (includesOf t L) (sevenOf t) L)
+    (rowsOf (reducedOf (responsesOf t)))
+    (includesOf t L)
+    (sevenOf t)

@@ -6,8 +6,8 @@ use borrow.Author.Needs.{needs}
 use Rattle.sets.specs.declared.set.Set.{Set}
 use Rattle.miner.specs.Passes.{forward, through, walked, beforeFirst, missed}
 use Rattle.miner.proofs.Walks.{Left, through-start, through-next, through-end, part-fits}
-use Rattle.miner.proofs.mine.replay_included.Statement.{statement}
-use Rattle.miner.proofs.mine.replay_included.Tie as tie
+use Rattle.miner.proofs.mining.replay_included.Statement.{statement}
+use Rattle.miner.proofs.mining.replay_included.Tie as tie
 
 abbrev ahead : List ℕ → List ℕ → List ℕ
 ahead r σ = forward beforeFirst r [] σ

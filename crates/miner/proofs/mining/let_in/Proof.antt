@@ -6,8 +6,8 @@ use borrow.Author.Needs.{needs}
 use Rattle.sets.specs.Rows.{noRows}
 use Rattle.miner.specs.Passes.{forward, through, walked, letIn}
 use Rattle.miner.proofs.Walks.{Left, through-start, through-next, through-end, part-fits}
-use Rattle.miner.proofs.mine.let_in.Statement.{statement}
-use Rattle.miner.proofs.mine.let_in.Tie as tie
+use Rattle.miner.proofs.mining.let_in.Statement.{statement}
+use Rattle.miner.proofs.mining.let_in.Tie as tie
 
 abbrev pass : List ℕ → List ℕ → List ℕ → List ℕ
 pass unfollowed r σ = forward (letIn unfollowed) r [] σ

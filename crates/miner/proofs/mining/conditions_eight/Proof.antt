@@ -1,6 +1,6 @@
 use borrow.Author.Needs.{needs}
-use Rattle.miner.proofs.mine.conditions_eight.Statement.{statement}
-use Rattle.miner.proofs.mine.conditions_eight.Tie as tie
+use Rattle.miner.proofs.mining.conditions_eight.Statement.{statement}
+use Rattle.miner.proofs.mining.conditions_eight.Tie as tie
 
 unbroken-requires : tie.Need-unbroken-requires
 unbroken-requires c κs = search needs

@@ -1,7 +1,7 @@
 use borrow.Author.Needs.{needs}
 use Rattle.miner.proofs.Composed.{conditions-by}
-use Rattle.miner.proofs.mine.conditions.Statement.{statement}
-use Rattle.miner.proofs.mine.conditions.Tie as tie
+use Rattle.miner.proofs.mining.conditions_ten.Statement.{statement}
+use Rattle.miner.proofs.mining.conditions_ten.Tie as tie
 
 empty-requires : tie.Need-empty-requires
 empty-requires c κs = search needs
@@ -26,8 +26,8 @@ returns c =
     conditions-by _ _ _ _ _ _ _ _ _ _ _ (empty2 .before .empty .ensures) (empty2 .empty2 .ensures) (replayed .replay-included .ensures .0) (replayed .replay-included .ensures .1)
     (waited .waited .ensures) (c .reduced .ensures)
 
-pub conditions-spec : {M : Type 1} → statement M
-conditions-spec =
+pub conditions-ten-spec : {M : Type 1} → statement M
+conditions-ten-spec =
     tie.close
     (tie.spec
     empty-requires

@@ -1,7 +1,7 @@
 use borrow.Author.Needs.{needs}
 use Rattle.miner.proofs.Composed.{includes-by}
-use Rattle.miner.proofs.mine.includes.Statement.{statement}
-use Rattle.miner.proofs.mine.includes.Tie as tie
+use Rattle.miner.proofs.mining.includes_six.Statement.{statement}
+use Rattle.miner.proofs.mining.includes_six.Tie as tie
 
 unbroken-requires : tie.Need-unbroken-requires
 unbroken-requires c κs = search needs
@@ -25,8 +25,8 @@ returns c =
     let three = absent .before .before .before in
     includes-by _ _ _ _ _ _ _ _ (three .before .before .unbroken .ensures) (three .turned .ensures) (absent .absent .ensures) (six .let-in .ensures) (c .united .ensures)
 
-pub includes-spec : {M : Type 1} → statement M
-includes-spec =
+pub includes-six-spec : {M : Type 1} → statement M
+includes-six-spec =
     tie.close
     (tie.spec
     unbroken-requires

@@ -1,6 +1,6 @@
 use borrow.Author.Needs.{needs}
-use Rattle.miner.proofs.mine.excludes_seven.Statement.{statement}
-use Rattle.miner.proofs.mine.excludes_seven.Tie as tie
+use Rattle.miner.proofs.mining.excludes_seven.Statement.{statement}
+use Rattle.miner.proofs.mining.excludes_seven.Tie as tie
 
 excludes-five-requires : tie.Need-excludes-five-requires
 excludes-five-requires c κs = search needs

@@ -2,10 +2,10 @@
 ghost use mathlib.Core.Path.{_≡_};
 ghost use mathlib.Core.List.{[]};
 ghost use Rattle.sets.specs.Rows.{noRows, rowsOf};
-ghost use Rattle.rules.specs.Mined.{minedGraph};
 ghost use Rattle.miner.specs.Passes.{forward, through, walked, letIn, beforeFirst, missed};
-ghost use Rattle.miner.specs.Reading.{absent, turned, inEither, reducedOf, waited, conditionsOf, responsesOf, chainsOf, fiveOf, sevenOf};
-ghost use Rattle.miner.specs.Mine.{emptyGraph, minedOf};
+ghost use Rattle.miner.specs.Reading.{reducedOf, conditionsOf, responsesOf, fiveOf, sevenOf, includesOf, waitedOf, graphRead};
+ghost use Rattle.miner.specs.Mine.{minedOf};
+ghost use Rattle.miner.specs.Tallies.{tallyOf};
 use crate::reduce;
 use crate::second;
 use crate::steps;
@@ -59,7 +59,7 @@ fn conditions_eight(t: Tally) -> Rows
 }
 
 // The responses after step 8.
-fn responses(t: Tally) -> Rows
+fn responses_eight(t: Tally) -> Rows
     ensures { λ r. ⌜ r ≡ rowsOf (reducedOf (responsesOf t)) ⌝ }
 {
     let events = t.events;
@@ -84,8 +84,8 @@ fn let_in<'a>(log: &'a [u8], traces: usize, unfollowed: &'a Rows) -> Rows
 }
 
 // The includes, of steps 3 and 6.
-fn includes(log: &[u8], traces: usize, t: Tally) -> Rows
-    ensures { λ r. ⌜ r ≡ rowsOf (inEither (rowsOf (turned (chainsOf t))) (through (λ r σ. forward (letIn (rowsOf (absent (t .events) (t .followed)))) r [] σ) noRows (walked (now (log .entry)) traces 0))) ⌝ }
+fn includes_six(log: &[u8], traces: usize, t: Tally) -> Rows
+    ensures { λ r. ⌜ r ≡ includesOf t (walked (now (log .entry)) traces 0) ⌝ }
 {
     let events = t.events;
     let chains = steps::unbroken(events, &t.unchained);
@@ -119,7 +119,7 @@ fn replay_included<'a>(
 }
 
 // The conditions, by target: steps 9 and 10 on those of step 8.
-fn conditions<'a>(
+fn conditions_ten<'a>(
     log: &'a [u8],
     traces: usize,
     events: Set,
@@ -127,7 +127,7 @@ fn conditions<'a>(
     includes: &'a Rows,
     excludes: &'a Rows,
 ) -> Rows
-    ensures { λ r. ⌜ r ≡ rowsOf (reducedOf (rowsOf (waited events (now (eight .entry)) (through (λ r σ. forward beforeFirst r [] σ) noRows (walked (now (log .entry)) traces 0)) (through (λ r σ. forward (missed events (now (includes .entry)) (now (excludes .entry))) r [] σ) noRows (walked (now (log .entry)) traces 0))))) ⌝ }
+    ensures { λ r. ⌜ r ≡ waitedOf events (now (eight .entry)) (now (includes .entry)) (now (excludes .entry)) (walked (now (log .entry)) traces 0) ⌝ }
 {
     let mut first = rows::empty();
     let mut unmet = rows::empty();
@@ -142,4 +142,42 @@ fn conditions<'a>(
     );
     let nine = steps::waited(events, eight, &first, &unmet);
     reduce::reduced(&nine)
+}
+
+// The graph of a log's first traces.
+fn graph_read(log: &[u8], activities: u8, traces: usize) -> Graph
+    ensures { λ r. ⌜ r ≡ graphRead activities (walked (now (log .entry)) traces 0) (tallyOf (walked (now (log .entry)) traces 0)) ⌝ }
+{
+    let t = tally::counted(log, traces);
+    let events = t.events;
+    let excludes = excludes_seven(t);
+    let includes = includes_six(log, traces, t);
+    let eight = conditions_eight(t);
+    let conditions = conditions_ten(log, traces, events, &eight, &includes, &excludes);
+    let responses = responses_eight(t);
+    Graph {
+        activities,
+        events,
+        opening: Marking::opening(events),
+        conditions,
+        responses,
+        includes,
+        excludes,
+    }
+}
+
+// The graph of a log.
+pub fn mine(log: &[u8]) -> Mined
+    ensures { λ r. ⌜ r ≡ minedOf (now (log .entry)) ⌝ }
+{
+    let judged = calllog::judge::judge_log(log);
+    let answer = judged.answer;
+    if !answer.is_done() {
+        return Mined {
+            answer,
+            graph: Graph::empty(),
+        };
+    }
+    let graph = graph_read(log, judged.activities, judged.traces);
+    Mined { answer, graph }
 }

@@ -1,6 +1,6 @@
 use borrow.Author.Needs.{needs}
-use Rattle.miner.proofs.mine.excludes_five.Statement.{statement}
-use Rattle.miner.proofs.mine.excludes_five.Tie as tie
+use Rattle.miner.proofs.mining.excludes_five.Statement.{statement}
+use Rattle.miner.proofs.mining.excludes_five.Tie as tie
 
 unbroken-requires : tie.Need-unbroken-requires
 unbroken-requires c κs = search needs
