@@ -1,10 +1,11 @@
 -- The four relations of a DCR graph, each a test of a source and a target. The step rules and the mining rules speak of these, not of rows.
 use mathlib.Core.List.{List}
 use Prim.Native.Nat.{ℕ}
-use Rattle.sets.specs.Rows.{Relation, inRow}
+use Rattle.sets.specs.Rows.{Relation, noRows, inRow}
 use Rattle.sets.specs.declared.set.Set.{Set}
 use Rattle.engine.specs.declared.marking.Marking.{Marking}
 use Rattle.engine.specs.declared.graph.Graph.{Graph}
+use Rattle.engine.specs.Markings.{noSet, emptyMarking}
 
 -- a graph by its parts: conditions, responses, includes and excludes come in this order
 abbrev pub graphOf : ℕ → Set → Marking → List ℕ → List ℕ → List ℕ → List ℕ → Graph
@@ -18,6 +19,10 @@ graphOf activities events opening c r i x =
       includes = i;
       excludes = x;
     }
+
+-- no activity, no event, no pair
+abbrev pub emptyGraph : Graph
+emptyGraph = graphOf 0 noSet emptyMarking noRows noRows noRows noRows
 
 pub record Relations : Type 0 where
   pub conditions : Relation

@@ -139,3 +139,7 @@ true-and a = refl
 pub false-and : (a : Bool) → (false and a) ≡ false
 unfolding _and_
 false-and a = refl
+
+pub false-or : (a : Bool) → (false or a) ≡ a
+unfolding _or_
+false-or a = refl

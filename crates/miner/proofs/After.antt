@@ -1,0 +1,179 @@
+-- The table of last places, and what it tells of what stands after a place. Assumes nothing.
+use mathlib.Core.Path.{_≡_, refl, sym, ap, _∙_, subst}
+use mathlib.Core.Bool.{Bool, true, false, cond}
+use mathlib.Core.List.{List, [], _∷_, _++_}
+use Prim.Native.Nat.{ℕ, _+_, _^_, _≤_, _<_}
+use native.Mathlib.Nat.{not-suc-le-zero}
+use native.Mathlib.Numerals.{add-one}
+use native.Mathlib.Omega.{arith}
+use borrow.Author.Tests.{lt-ltb, le-ltb, ltb-true, ltb-false, eq-eqb, ne-eqb, eqb-true, eqb-false}
+use lib.Dec.{eqb, ltb}
+use lib.ListN.{length, getD, set, take, drop, length-set, length-append, List·getD-append, drop-of-length-le}
+use lib.Seq.{take-suc, take-all, length-take-le, drop-append-le, getD-at, getD-set-same, getD-set-other}
+use Rattle.sets.specs.Tests.{_and_, _or_, non}
+use Rattle.sets.specs.Members.{width, mem, those}
+use Rattle.sets.specs.declared.set.Set.{Set}
+use Rattle.sets.proofs.Tests.{T→true, F→false, split, either, and-true, or-true, or-false, false-and, non-non}
+use Rattle.sets.proofs.Members.{those-ext, those-of, those-mem}
+use Rattle.rules.specs.Traces.{_has_}
+use Rattle.miner.proofs.Turns.{rest-next, seenIn}
+use Rattle.miner.proofs.Tautologies.{and-false}
+
+-- ---- a table in which a place is put down
+
+abbrev pub putPlace : List ℕ → ℕ → ℕ → List ℕ
+putPlace last e i = cond (ltb e width) (set last e i) last
+
+module _ (last : List ℕ) (e i : ℕ) where
+  pub place-in : e < width → set last e i ≡ putPlace last e i
+  place-in l = rw (lt-ltb e width l)
+
+  pub place-out : width ≤ e → last ≡ putPlace last e i
+  place-out l = rw (le-ltb e width l)
+
+  by-row : (P : List ℕ → Type 0) → P (set last e i) → P last → P (putPlace last e i)
+  by-row P s l =
+      either (split (ltb e width))
+      (λ t. subst P (place-in (ltb-true e width (T→true _ t))) s)
+      (λ g. subst P (place-out (ltb-false e width (F→false _ g))) l)
+
+  length-place : length (putPlace last e i) ≡ length last
+  length-place = by-row (λ l. length l ≡ length last) (length-set last e i) refl
+
+  place-other : (x : ℕ) → eqb x e ≡ false → getD (putPlace last e i) x 0 ≡ getD last x 0
+  place-other x n = by-row (λ l. getD l x 0 ≡ getD last x 0) (getD-set-other last e x i 0 (eqb-false x e n)) refl
+
+  place-same : length last ≡ width → e < width → getD (putPlace last e i) e 0 ≡ i
+  place-same len l =
+      ap (λ (r : List ℕ). getD r e 0) (sym (place-in l)) ∙ getD-set-same last e i 0 (subst (λ (n : ℕ). e < n) (sym len) l)
+
+-- ---- the table has the last place of every activity of the list: a place is the last where its activity does not come again
+
+abbrev pub LastOf : List ℕ → List ℕ → Type 0
+LastOf last τ = (i : ℕ) → i < length τ → getD τ i 0 < width → eqb (getD last (getD τ i 0) 0) i ≡ non (drop (i + 1) τ has getD τ i 0)
+
+or-assoc : (a b c : Bool) → (a or (b or c)) ≡ (a or b or c)
+unfolding _or_
+or-assoc true b c = refl
+or-assoc false b c = refl
+
+has-snoc : (xs : List ℕ) (y x : ℕ) → (xs ++ y ∷ []) has x ≡ (xs has x or eqb x y)
+unfolding _has_ _or_
+has-snoc [] y x = or-false (eqb x y)
+has-snoc (z ∷ xs) y x = ap (λ (b : Bool). eqb x z or b) (has-snoc xs y x) ∙ or-assoc (eqb x z) (xs has x) (eqb x y)
+
+-- what the list says of a place that was there before an event came to its end
+module _ (last τ : List ℕ) (e : ℕ) (len : length last ≡ width) (h : LastOf last τ) where
+  abbrev table : List ℕ
+  table = putPlace last e (length τ)
+
+  earlier-place : (i : ℕ) → i < length τ → getD τ i 0 < width → eqb (getD table (getD τ i 0) 0) i ≡ non (drop (i + 1) τ has getD τ i 0 or eqb (getD τ i 0) e)
+  unfolding non
+  earlier-place i l k = pick (eqb (getD τ i 0) e) refl
+    where
+      pick : (b : Bool) → eqb (getD τ i 0) e ≡ b → eqb (getD table (getD τ i 0) 0) i ≡ non (drop (i + 1) τ has getD τ i 0 or eqb (getD τ i 0) e)
+      pick true t =
+          let same : getD τ i 0 ≡ e = eqb-true (getD τ i 0) e t in
+          ap (λ (x : ℕ). eqb (getD table x 0) i) same
+          ∙ ap (λ (n : ℕ). eqb n i) (place-same last e (length τ) len (subst (λ (x : ℕ). x < width) same k))
+          ∙ ne-eqb (length τ) i (λ q. omega arith)
+          ∙ sym (ap non (ap (λ (c : Bool). drop (i + 1) τ has getD τ i 0 or c) t ∙ or-true (drop (i + 1) τ has getD τ i 0)))
+      pick false f =
+          ap (λ (n : ℕ). eqb n i) (place-other last e (length τ) (getD τ i 0) f)
+          ∙ h i l k
+          ∙ sym (ap non (ap (λ (c : Bool). drop (i + 1) τ has getD τ i 0 or c) f ∙ or-false (drop (i + 1) τ has getD τ i 0)))
+
+  last-snoc : LastOf table (τ ++ e ∷ [])
+  unfolding non _has_
+  last-snoc i l k =
+      either (split (ltb i (length τ))) (λ t. before (ltb-true i (length τ) (T→true _ t))) (λ g. here (ltb-false i (length τ) (F→false _ g)))
+    where
+      before : i < length τ → eqb (getD table (getD (τ ++ e ∷ []) i 0) 0) i ≡ non (drop (i + 1) (τ ++ e ∷ []) has getD (τ ++ e ∷ []) i 0)
+      before b =
+          let q : getD (τ ++ e ∷ []) i 0 ≡ getD τ i 0 = List·getD-append τ (e ∷ []) 0 i b in
+          ap (λ (x : ℕ). eqb (getD table x 0) i) q
+          ∙ earlier-place i b (subst (λ (x : ℕ). x < width) q k)
+          ∙ ap non (sym (has-snoc (drop (i + 1) τ) e (getD τ i 0)))
+          ∙ ap (λ (r : List ℕ). non (r has getD τ i 0)) (sym (drop-append-le (i + 1) τ (e ∷ []) (omega arith)))
+          ∙ ap (λ (x : ℕ). non (drop (i + 1) (τ ++ e ∷ []) has x)) (sym q)
+
+      here : length τ ≤ i → eqb (getD table (getD (τ ++ e ∷ []) i 0) 0) i ≡ non (drop (i + 1) (τ ++ e ∷ []) has getD (τ ++ e ∷ []) i 0)
+      here g =
+          let end : length τ ≡ i = omega (arith, length-append τ (e ∷ [])) in
+          let q : getD (τ ++ e ∷ []) i 0 ≡ e = getD-at τ e [] 0 i end in
+          ap (λ (x : ℕ). eqb (getD table x 0) i) q
+          ∙ eq-eqb (getD table e 0) i (place-same last e (length τ) len (subst (λ (x : ℕ). x < width) q k) ∙ end)
+          ∙ sym (ap (λ (r : List ℕ). non (r has getD (τ ++ e ∷ []) i 0)) (drop-of-length-le (τ ++ e ∷ []) {i = i + 1} (omega (arith, length-append τ (e ∷ [])))))
+
+-- ---- the pass that fills the table, one place further and at the end
+
+module _ (σ : List ℕ) (i : ℕ) (h : i < length σ) where
+  so-far : take (i + 1) σ ≡ take i σ ++ getD σ i 0 ∷ []
+  so-far = ap (λ (n : ℕ). take n σ) (add-one i) ∙ take-suc σ i 0 h
+
+  pub length-next : (last last′ : List ℕ) → length last ≡ width → last′ ≡ putPlace last (getD σ i 0) i → length last′ ≡ width
+  length-next last last′ len hp = ap length hp ∙ length-place last (getD σ i 0) i ∙ len
+
+  pub last-next : (last last′ : List ℕ) → length last ≡ width → LastOf last (take i σ) → last′ ≡ putPlace last (getD σ i 0) i → LastOf last′ (take (i + 1) σ)
+  last-next last last′ len inv hp =
+      subst (λ (τ : List ℕ). LastOf last′ τ) (sym so-far)
+      (subst (λ (r : List ℕ). LastOf r (take i σ ++ getD σ i 0 ∷ []))
+      (ap (putPlace last (getD σ i 0)) (length-take-le i σ (omega arith)) ∙ sym hp)
+      (last-snoc last (take i σ) (getD σ i 0) len inv))
+
+pub table-none : (last : List ℕ) → LastOf last []
+table-none last i h = absurd (not-suc-le-zero h)
+
+pub last-end : (σ last : List ℕ) (i : ℕ) → length σ ≤ i → LastOf last (take i σ) → LastOf last σ
+last-end σ last i h l = subst (λ (τ : List ℕ). LastOf last τ) (take-all i σ h) l
+
+-- ---- what stands after a place, from what stands from it on
+
+-- the answers of `left_after`: by the table it is the last, or it is not, or there is no row for it
+module _ (after : Set) (last : List ℕ) (e i : ℕ) where
+  abbrev leaving : ℕ → Bool
+  leaving x = mem after x and non (eqb x e and eqb (getD last e 0) i)
+
+  pub left-last : (one r : Set) → getD last e 0 ≡ i → one ≡ those (λ b. eqb b e) → r ≡ those (λ x. mem after x and non (mem one x)) → r ≡ those leaving
+  left-last one r t ho hr =
+      hr ∙ those-of one (λ b. eqb b e) (λ x c. mem after x and non c) ho
+      ∙ those-ext (λ x. mem after x and non (eqb x e)) leaving
+      (λ x l. ap (λ (c : Bool). mem after x and non c) (sym (and-true (eqb x e)) ∙ ap (λ (c : Bool). eqb x e and c) (sym (eq-eqb (getD last e 0) i t))))
+
+  stays : (x : ℕ) → (eqb x e and eqb (getD last e 0) i) ≡ false → mem after x ≡ leaving x
+  unfolding non
+  stays x f = sym (and-true (mem after x)) ∙ ap (λ (c : Bool). mem after x and non c) (sym f)
+
+  pub left-not : after .bits < 2 ^ width → (getD last e 0 ≡ i → ⊥) → after ≡ those leaving
+  left-not s f =
+      sym (those-mem after s)
+      ∙ those-ext (mem after) leaving (λ x l. stays x (ap (λ (c : Bool). eqb x e and c) (ne-eqb (getD last e 0) i f) ∙ and-false (eqb x e)))
+
+  pub left-out : after .bits < 2 ^ width → width ≤ e → after ≡ those leaving
+  left-out s g =
+      sym (those-mem after s)
+      ∙ those-ext (mem after) leaving
+      (λ x l. stays x (ap (λ (c : Bool). c and eqb (getD last e 0) i) (ne-eqb x e (λ q. omega arith)) ∙ false-and (eqb (getD last e 0) i)))
+
+pub after-next : (σ : List ℕ) (i : ℕ) → i < length σ → (last : List ℕ) → LastOf last σ → (after r : Set) → after ≡ seenIn (drop i σ)
+    → r ≡ those (λ x. mem after x and non (eqb x (getD σ i 0) and eqb (getD last (getD σ i 0) 0) i)) → r ≡ seenIn (drop (i + 1) σ)
+unfolding _has_ _or_ _and_ non
+after-next σ i h last hl after r ha hr =
+    hr ∙ those-of after (λ x. drop i σ has x) (λ x c. c and non (eqb x e and eqb (getD last e 0) i)) ha
+    ∙ those-ext (λ x. drop i σ has x and non (eqb x e and eqb (getD last e 0) i)) (λ x. drop (i + 1) σ has x)
+    (λ x l. ap (λ (τ : List ℕ). τ has x and non (eqb x e and eqb (getD last e 0) i)) (rest-next σ i h) ∙ pick x l (eqb x e) refl)
+  where
+    e : ℕ
+    e = getD σ i 0
+
+    pick : (x : ℕ) → x < width → (b : Bool) → eqb x e ≡ b
+        → ((eqb x e or drop (i + 1) σ has x) and non (eqb x e and eqb (getD last e 0) i)) ≡ drop (i + 1) σ has x
+    pick x l true t =
+        let same : x ≡ e = eqb-true x e t in
+        ap (λ (c : Bool). (c or drop (i + 1) σ has x) and non (c and eqb (getD last e 0) i)) t
+        ∙ ap non (hl i h (subst (λ (n : ℕ). n < width) same l))
+        ∙ non-non (drop (i + 1) σ has e)
+        ∙ ap (λ (n : ℕ). drop (i + 1) σ has n) (sym same)
+    pick x l false f =
+        ap (λ (c : Bool). (c or drop (i + 1) σ has x) and non (c and eqb (getD last e 0) i)) f
+        ∙ and-true (drop (i + 1) σ has x)

@@ -1,0 +1,77 @@
+-- The miner over the bytes of a log: its walk passes the log's traces, and what it gives is what the rules give. Assumes nothing.
+use mathlib.Core.Path.{_≡_, refl, sym, ap, ap₂, subst, _∙_}
+use mathlib.Core.Bool.{Bool, true, false, not}
+use mathlib.Core.List.{List, [], _∷_, List·Memᴰ}
+use Prim.Native.Nat.{ℕ, zero, suc, _+_, _≤_, _<_}
+use native.Mathlib.Omega.{arith}
+use native.Mathlib.Nat.{add-zero, add-suc, suc-add}
+use borrow.Author.Tests.{not-true, not-false}
+use lib.Dec.{T}
+use lib.ListN.{length, getD, take, drop, drop-of-length-le}
+use lib.Seq.{drop-cons}
+use Rattle.sets.specs.Tests.{when_then_else_}
+use Rattle.sets.specs.Members.{width}
+use Rattle.sets.specs.Answers.{isDone}
+use Rattle.engine.specs.Relations.{emptyGraph}
+use Rattle.engine.specs.declared.graph.Graph.{Graph}
+use Rattle.calllog.specs.declared.judge.Judged.{Judged}
+use Rattle.calllog.specs.Logs.{logOf, judgedOf}
+use Rattle.calllog.proofs.Traces.{part-trace}
+use Rattle.rules.specs.Traces.{Traces, _has_}
+use Rattle.rules.specs.Mined.{minedGraph}
+use Rattle.rules.proofs.FromFile.{file-accepted}
+use Rattle.rules.proofs.InTurn.{Small}
+use Rattle.miner.specs.Passes.{walked}
+use Rattle.miner.specs.Tallies.{tallyOf}
+use Rattle.miner.specs.Reading.{graphRead}
+use Rattle.miner.specs.Mine.{minedOf}
+use Rattle.miner.specs.declared.mining.Mined.{Mined}
+use Rattle.miner.proofs.PairForPair.{pair-for-pair}
+
+module _ (bytes : List ℕ) where
+  abbrev L : Traces
+  L = logOf bytes .traces
+
+  -- the activities of a log are below the width
+  pub small : Small L
+  small σ m a h = let w = file-accepted bytes in omega (arith, w .members σ m a h, w .activities)
+
+  -- a walk passes the traces
+  walk-from : (n k : ℕ) → k + n ≡ length L → walked bytes n k ≡ drop k L
+  unfolding walked
+  walk-from zero k e = let all : length L ≤ k = omega arith in sym (drop-of-length-le L all)
+  walk-from (suc n) k e =
+      let here : k < length L = omega (arith, add-suc k n) in
+      ap₂ _∷_ (part-trace bytes k _ here refl) (walk-from n (suc k) (suc-add k n ∙ sym (add-suc k n) ∙ e)) ∙ sym (drop-cons L k [] here)
+
+  pub walk-all : walked bytes (length L) 0 ≡ L
+  walk-all = walk-from (length L) 0 (omega arith)
+
+-- the two ways of the code
+module _ (bytes : List ℕ) (j : Judged) (r : Bool) (hj : j ≡ judgedOf bytes) (hr : r ≡ isDone (j .answer)) where
+  the-answer : j .answer ≡ logOf bytes .answer
+  the-answer = ap (λ (x : Judged). x .answer) hj
+
+  pub mine-refused : (g : Graph) → not r ≡ true → g ≡ emptyGraph → _≡_ {A = Mined} (record { answer = j .answer; graph = g }) (minedOf bytes)
+  unfolding minedOf
+  mine-refused g n hg =
+      let no-graph : isDone (logOf bytes .answer) ≡ false = ap isDone (sym the-answer) ∙ sym hr ∙ not-true r n in
+      λ i. record {
+        answer = the-answer i;
+        graph = (hg ∙ sym (ap (λ (t : Bool). when t then minedGraph (logOf bytes .activities) (logOf bytes .traces) else emptyGraph) no-graph)) i;
+      }
+
+  pub mine-done : (g : Graph) → not r ≡ false → g ≡ graphRead (j .activities) (walked bytes (j .traces) 0) (tallyOf (walked bytes (j .traces) 0))
+      → _≡_ {A = Mined} (record { answer = j .answer; graph = g }) (minedOf bytes)
+  unfolding minedOf
+  mine-done g n hg =
+      let some-graph : isDone (logOf bytes .answer) ≡ true = ap isDone (sym the-answer) ∙ sym hr ∙ not-false r n in
+      let read =
+      hg
+      ∙ ap (λ (x : Judged). graphRead (x .activities) (walked bytes (x .traces) 0) (tallyOf (walked bytes (x .traces) 0))) hj
+      ∙ ap (λ (K : Traces). graphRead (logOf bytes .activities) K (tallyOf K)) (walk-all bytes)
+      ∙ pair-for-pair (logOf bytes .traces) (small bytes) (logOf bytes .activities) in
+      λ i. record {
+        answer = the-answer i;
+        graph = (read ∙ sym (ap (λ (t : Bool). when t then minedGraph (logOf bytes .activities) (logOf bytes .traces) else emptyGraph) some-graph)) i;
+      }

@@ -1,0 +1,110 @@
+-- What the passes hear of a log is what the rules ask of it: a rule of every place is broken at some place, and before and after are the
+-- same seen from either end. Assumes nothing.
+use mathlib.Core.Path.{_≡_, refl, sym, ap, ap₂, _∙_}
+use mathlib.Core.Bool.{Bool, true, false}
+use mathlib.Core.List.{List, [], _∷_}
+use Prim.Native.Nat.{ℕ}
+use lib.Dec.{eqb}
+use Rattle.sets.specs.Tests.{_and_, _or_, non}
+use Rattle.sets.proofs.Tests.{non-or, non-and}
+use Rattle.rules.specs.Traces.{Traces, _has_, _beginsWith_, atEachFrom, atEach, atSomeFrom, atSome, everyTrace, someTrace}
+use Rattle.rules.specs.Mining.{precedes, answers, chained, before, followed, alternates}
+use Rattle.miner.specs.Passes.{Fact, isEarlier, notEarlier, notDirectly, notSince, isLater, notLater, isNext}
+use Rattle.miner.proofs.Folds.{heard}
+
+-- ---- not at each place is at some place not
+
+pub non-each : (t : ℕ) (p : List ℕ → List ℕ → Bool) (past rest : List ℕ) → non (atEachFrom t p past rest) ≡ atSomeFrom t (λ q s. non (p q s)) past rest
+unfolding atEachFrom atSomeFrom non
+non-each t p past [] = refl
+non-each t p past (x ∷ rest) =
+    non-and (non (eqb t x) or p past rest) (atEachFrom t p (x ∷ past) rest) ∙ ap₂ _or_ (non-or (eqb t x) (p past rest)) (non-each t p (x ∷ past) rest)
+
+pub non-every : (t : ℕ) (p : List ℕ → List ℕ → Bool) (L : Traces) → non (everyTrace L (atEach t p)) ≡ someTrace L (atSome t (λ q s. non (p q s)))
+unfolding everyTrace someTrace non
+non-every t p [] = refl
+non-every t p (σ ∷ L) = non-and (atEach t p σ) (everyTrace L (atEach t p)) ∙ ap₂ _or_ (non-each t p [] σ) (non-every t p L)
+
+some-ext : (L : Traces) (p q : List ℕ → Bool) → ((σ : List ℕ) → p σ ≡ q σ) → someTrace L p ≡ someTrace L q
+unfolding someTrace
+some-ext [] p q e = refl
+some-ext (σ ∷ L) p q e = ap₂ _or_ (e σ) (some-ext L p q e)
+
+-- ---- before and after
+
+-- a pair is met at its second place with the first behind it, or it was open before, or it is met from its first place on
+module _ (s t : ℕ) where
+  swap : (e p m r a : Bool) → (e and p or ((m or p) and r or a)) ≡ (p and (e or r) or (m and r or a))
+  unfolding _and_ _or_
+  swap true true m r a = refl
+  swap false true m true a = or-true-l m a
+    where
+      or-true-l : (m a : Bool) → ((m or true) and true or a) ≡ true
+      or-true-l true a = refl
+      or-true-l false a = refl
+  swap false true true false a = refl
+  swap false true false false a = refl
+  swap true false true r a = refl
+  swap true false false r a = refl
+  swap false false true r a = refl
+  swap false false false r a = refl
+
+  later-from : (past rest : List ℕ)
+      → atSomeFrom t (λ q r. q has s) past rest ≡ (past has s and rest has t or atSomeFrom s (λ q r. r has t) past rest)
+  unfolding atSomeFrom _has_
+  later-from past [] = sym (none (past has s))
+    where
+      none : (a : Bool) → (a and false or false) ≡ false
+      none true = unfold _and_ _or_ in refl
+      none false = unfold _and_ _or_ in refl
+  later-from past (x ∷ rest) =
+      ap (λ (b : Bool). eqb t x and past has s or b) (later-from (x ∷ past) rest)
+      ∙ swap (eqb t x) (past has s) (eqb s x) (rest has t) (atSomeFrom s (λ q r. r has t) (x ∷ past) rest)
+
+  next-from : (past rest : List ℕ)
+      → atSomeFrom t (λ q r. q beginsWith s) past rest ≡ (past beginsWith s and rest beginsWith t or atSomeFrom s (λ q r. r beginsWith t) past rest)
+  unfolding atSomeFrom _beginsWith_
+  next-from past [] = sym (none (past beginsWith s))
+    where
+      none : (a : Bool) → (a and false or false) ≡ false
+      none true = unfold _and_ _or_ in refl
+      none false = unfold _and_ _or_ in refl
+  next-from past (x ∷ rest) =
+      ap₂ _or_ (and-comm (eqb t x) (past beginsWith s)) (next-from (x ∷ past) rest)
+    where
+      and-comm : (a b : Bool) → (a and b) ≡ (b and a)
+      and-comm true true = refl
+      and-comm true false = unfold _and_ in refl
+      and-comm false true = unfold _and_ in refl
+      and-comm false false = refl
+
+-- ---- the facts of the tally
+
+module _ (L : Traces) (a x : ℕ) where
+  pub heard-before : heard isEarlier L a x ≡ before L x a
+  unfolding isEarlier before
+  heard-before = refl
+
+  pub heard-later : heard isLater L a x ≡ before L a x
+  unfolding isLater before _and_ _or_ _has_
+  heard-later = some-ext L (atSome a (λ q r. r has x)) (atSome x (λ q r. q has a)) (λ σ. sym (later-from a x [] σ))
+
+  pub heard-unpreceded : heard notEarlier L a x ≡ non (precedes L x a)
+  unfolding notEarlier precedes
+  heard-unpreceded = sym (non-every a (λ q r. q has x) L)
+
+  pub heard-unanswered : heard notLater L a x ≡ non (answers L a x)
+  unfolding notLater answers
+  heard-unanswered = sym (non-every a (λ q r. r has x) L)
+
+  pub heard-unchained : heard notDirectly L a x ≡ non (chained L x a)
+  unfolding notDirectly chained
+  heard-unchained = sym (non-every a (λ q r. q beginsWith x) L)
+
+  pub heard-unalternated : heard notSince L a x ≡ non (alternates L x a)
+  unfolding notSince alternates
+  heard-unalternated = sym (non-every a (λ q r. atSome x (λ nearer farther. non (nearer has a)) q) L)
+
+  pub heard-followed : heard isNext L a x ≡ followed L a x
+  unfolding isNext followed _and_ _or_ _beginsWith_
+  heard-followed = some-ext L (atSome a (λ q r. r beginsWith x)) (atSome x (λ q r. q beginsWith a)) (λ σ. sym (next-from a x [] σ))

@@ -1,0 +1,97 @@
+-- Sets made of sets: what has the members that are known of the parts. The rows of src/steps.rt are made so. Assumes nothing.
+use mathlib.Core.Path.{_≡_, refl, sym, ap, ap₂, _∙_, subst}
+use mathlib.Core.Bool.{Bool, true, false, not}
+use mathlib.Core.List.{List}
+use Prim.Native.Nat.{ℕ, _<_}
+use native.Mathlib.Omega.{arith}
+use borrow.Author.Tests.{not-true, not-false}
+use lib.Dec.{T, eqb, eqb→eq}
+use Rattle.sets.specs.Tests.{_and_, _or_, non}
+use Rattle.sets.specs.Members.{width, mem, those, someBelow, isEmpty}
+use Rattle.sets.specs.Rows.{rowAt, inRow}
+use Rattle.sets.specs.declared.set.Set.{Set}
+use Rattle.sets.proofs.Tests.{T-ext, and-l, and-r, and-i, eqb-of, true-and, false-and, and-true, not-non, non-non}
+use Rattle.sets.proofs.Bits.{bit-zero}
+use Rattle.sets.proofs.Members.{those-ext, mem-those, empty-none, is-those as only}
+use Rattle.miner.specs.Reading.{excludesItself, diagonal}
+use Rattle.miner.proofs.Tautologies.{and-false}
+
+-- the members of s are those that pass
+abbrev pub Is : Set → (ℕ → Bool) → Type 0
+Is s p = (a : ℕ) → a < width → mem s a ≡ p a
+
+pub is-those : (s : Set) (p : ℕ → Bool) → s ≡ those p → Is s p
+is-those s p e a l = ap (λ (u : Set). mem u a) e ∙ mem-those p a l
+
+pub is-row : (s : Set) (rows : List ℕ) (k : ℕ) → s ≡ rowAt rows k → Is s (inRow rows k)
+unfolding inRow
+is-row s rows k e a l = ap (λ (u : Set). mem u a) e
+
+pub joined : (op : Bool → Bool → Bool) (s t u : Set) (p q : ℕ → Bool) → Is s p → Is t q → u ≡ those (λ a. op (mem s a) (mem t a))
+    → u ≡ those (λ a. op (p a) (q a))
+joined op s t u p q hs ht hu = hu ∙ those-ext (λ a. op (mem s a) (mem t a)) (λ a. op (p a) (q a)) (λ a l. ap₂ op (hs a l) (ht a l))
+
+-- a set of nothing
+pub none : (p : ℕ → Bool) → ((a : ℕ) → a < width → p a ≡ false) → _≡_ {A = Set} (record { bits = 0 }) (those p)
+none p e = only 0 p (omega arith) (λ a l. bit-zero a ∙ sym (e a l))
+
+pub without : (s u : Set) (p : ℕ → Bool) → Is s p → u ≡ those (λ a. non (mem s a)) → u ≡ those (λ a. non (p a))
+without s u p hs hu = hu ∙ those-ext (λ a. non (mem s a)) (λ a. non (p a)) (λ a l. ap non (hs a l))
+
+-- s without t
+pub less : (s t u : Set) (p q : ℕ → Bool) → Is s p → Is t q → u ≡ those (λ a. mem s a and non (mem t a)) → u ≡ those (λ a. p a and non (q a))
+less = joined (λ x y. x and non y)
+
+-- a set where a test was true, and none where it was false; and the other way round
+module _ (r t : Bool) (e : r ≡ t) (p : ℕ → Bool) where
+  pub where-true : (s : Set) → s ≡ those p → r ≡ true → s ≡ those (λ x. t and p x)
+  where-true s h y = h ∙ those-ext p (λ x. t and p x) (λ x l. sym (true-and (p x)) ∙ ap (λ (b : Bool). b and p x) (sym y ∙ e))
+
+  pub where-false : r ≡ false → _≡_ {A = Set} (record { bits = 0 }) (those (λ x. t and p x))
+  where-false n = none (λ x. t and p x) (λ x l. ap (λ (b : Bool). b and p x) (sym e ∙ n) ∙ false-and (p x))
+
+  pub unless-true : r ≡ true → _≡_ {A = Set} (record { bits = 0 }) (those (λ x. p x and non t))
+  unfolding non
+  unless-true y = none (λ x. p x and non t) (λ x l. ap (λ (b : Bool). p x and non b) (sym e ∙ y) ∙ and-false (p x))
+
+  pub unless-false : (s : Set) → s ≡ those p → r ≡ false → s ≡ those (λ x. p x and non t)
+  unfolding non
+  unless-false s h n = h ∙ those-ext p (λ x. p x and non t) (λ x l. sym (and-true (p x)) ∙ ap (λ (b : Bool). p x and non b) (sym n ∙ e))
+
+-- the one member of a set, with itself
+pub with-itself : (s one u : Set) (a : ℕ) → one ≡ those (λ b. eqb b a) → u ≡ those (λ x. mem one x and mem s x) → u ≡ those (diagonal s a)
+unfolding diagonal
+with-itself s one u a ho hu =
+    joined _and_ one s u (λ b. eqb b a) (mem s) (is-those one (λ b. eqb b a) ho) (λ x l. refl) hu
+    ∙ those-ext (λ x. eqb x a and mem s x) (λ x. eqb a x and mem s a)
+    (λ x l. T-ext (eqb x a and mem s x) (eqb a x and mem s a) (λ h. turn x a h) (λ h. turn a x h))
+  where
+    turn : (x y : ℕ) → T (eqb x y and mem s x) → T (eqb y x and mem s y)
+    turn x y h =
+        let same : x ≡ y = eqb→eq x y (and-l (eqb x y) (mem s x) h) in
+        and-i (eqb y x) (mem s y) (eqb-of (sym same)) (subst (λ (n : ℕ). T (mem s n)) same (and-r (eqb x y) (mem s x) h))
+
+-- the three ways out of the test whether an activity excludes itself
+module _ (events : Set) (before chains : List ℕ) (a : ℕ) (r : Bool) (hr : r ≡ mem events a) where
+  pub no-event : not r ≡ true → false ≡ excludesItself events before chains a
+  unfolding excludesItself
+  no-event n = sym (ap (λ (t : Bool). t and rest) (sym hr ∙ not-true r n) ∙ false-and rest)
+    where
+      rest : Bool
+      rest = non (inRow before a a) or someBelow width (λ u. inRow chains a u)
+
+  pub never-again : (row : Set) (q : Bool) → not r ≡ false → row ≡ rowAt before a → q ≡ mem row a → not q ≡ true → true ≡ excludesItself events before chains a
+  unfolding excludesItself inRow _and_ _or_ non
+  never-again row q y hw hq n =
+      sym
+      (ap₂ (λ (t s : Bool). t and (non s or someBelow width (λ u. inRow chains a u))) (sym hr ∙ not-false r y)
+      (ap (λ (s : Set). mem s a) (sym hw) ∙ sym hq ∙ not-true q n))
+
+  pub only-after : (row row′ : Set) (q e : Bool) → not r ≡ false → row ≡ rowAt before a → q ≡ mem row a → not q ≡ false
+      → row′ ≡ rowAt chains a → e ≡ isEmpty row′ → not e ≡ excludesItself events before chains a
+  unfolding excludesItself inRow _and_ _or_ non
+  only-after row row′ q e y hw hq z hc he =
+      not-non e ∙ ap non (he ∙ empty-none row′) ∙ non-non (someBelow width (mem row′)) ∙ ap (λ (s : Set). someBelow width (mem s)) hc
+      ∙ sym
+      (ap₂ (λ (t s : Bool). t and (non s or someBelow width (λ u. inRow chains a u))) (sym hr ∙ not-false r y)
+      (ap (λ (s : Set). mem s a) (sym hw) ∙ sym hq ∙ not-false q z))

@@ -1,0 +1,15 @@
+use borrow.Author.Needs.{needs}
+use Rattle.miner.proofs.mining.responses_eight.Statement.{statement}
+use Rattle.miner.proofs.mining.responses_eight.Tie as tie
+
+unbroken-requires : tie.Need-unbroken-requires
+unbroken-requires c κs = search needs
+
+reduced-requires : tie.Need-reduced-requires
+reduced-requires c κs = search needs
+
+returns : tie.Need-returns
+returns c = cc
+
+pub responses-eight-spec : {M : Type 1} → statement M
+responses-eight-spec = tie.close (tie.spec unbroken-requires reduced-requires returns)

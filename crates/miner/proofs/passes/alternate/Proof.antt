@@ -1,0 +1,99 @@
+use mathlib.Core.Path.{_≡_, refl, sym, ap, _∙_}
+use mathlib.Core.List.{List, [], reverseAux}
+use Prim.Native.Nat.{ℕ, _+_, _-_, _≤_, _<_}
+use native.Mathlib.Omega.{arith}
+use borrow.Author.Needs.{needs}
+use lib.Dec.{eqb}
+use lib.ListN.{length, getD, take, drop}
+use Rattle.sets.specs.Tests.{_or_, non, when_then_else_}
+use Rattle.sets.specs.Members.{mem, those}
+use Rattle.sets.specs.declared.set.Set.{Set}
+use Rattle.miner.specs.Passes.{gained, gains, forward, notSince}
+use Rattle.miner.proofs.Turns.{pastAt, past-next, seenIn, seen-more, seen-none, forward-next, forward-end}
+use Rattle.miner.proofs.Alternate.{since-gains}
+use Rattle.miner.proofs.passes.alternate.Statement.{statement}
+use Rattle.miner.proofs.passes.alternate.Tie as tie
+
+record Passed (σ u₀ u : List ℕ) (seen : Set) (i : ℕ) : Type 0 where
+  reached : i ≤ length σ
+  seen-is : seen ≡ seenIn (pastAt σ i)
+  whole : forward notSince u (pastAt σ i) (drop i σ) ≡ forward notSince u₀ [] σ
+
+-- the part of the trace before the place, read backward
+part-past : (σ : List ℕ) (i : ℕ) → reverseAux (take (i - 0) (drop 0 σ)) [] ≡ pastAt σ i
+part-past σ i = let same : i - 0 ≡ i = omega arith in ap (λ (n : ℕ). reverseAux (take n σ) []) same
+
+module _ {σ u₀ u : List ℕ} {seen : Set} {i : ℕ} (inv : Passed σ u₀ u seen i) (h : i < length σ) where
+  turn : (u′ : List ℕ) (one seen′ : Set)
+      → u′ ≡ gained u (getD σ i 0) (λ x. when mem seen (getD σ i 0) then notSince (getD σ i 0) (reverseAux (take (i - 0) (drop 0 σ)) []) [] x else non (mem seen x))
+      → one ≡ those (λ b. eqb b (getD σ i 0)) → seen′ ≡ those (λ a. mem seen a or mem one a)
+      → Passed σ u₀ u′ seen′ (i + 1)
+  turn u′ one seen′ hu ho hs =
+      let place =
+      hu ∙ ap (λ (l : List ℕ). gained u (getD σ i 0) (λ x. when mem seen (getD σ i 0) then notSince (getD σ i 0) l [] x else non (mem seen x))) (part-past σ i) in
+      record {
+        reached = omega arith;
+        seen-is = seen-more _ _ seen one seen′ (inv .seen-is) ho hs ∙ ap seenIn (sym (past-next σ i h));
+        whole = forward-next notSince σ _ i u u′ h (since-gains u (getD σ i 0) (pastAt σ i) (drop (i + 1) σ) seen u′ (inv .seen-is) place) (inv .whole);
+      }
+
+abbrev Inv-loop : tie.InvT-loop
+Inv-loop trace unalternated₀ seen₀ i₀ unalternated seen i = Passed trace unalternated₀ unalternated seen i
+
+abbrev μ-loop : tie.MeasureT-loop
+μ-loop trace unalternated₀ seen₀ i₀ unalternated seen i = length trace - i
+
+loop-holds : tie.Need-loop-holds Inv-loop μ-loop
+loop-holds c = record { reached = search needs; seen-is = seen-none; whole = refl }
+
+shared-slice-read-t9 : tie.Need-shared-slice-read-t9 Inv-loop μ-loop
+shared-slice-read-t9 c = search needs
+
+sub-note-since : tie.Need-sub-note-since Inv-loop μ-loop
+sub-note-since c = search needs
+
+part-note-since-start : tie.Need-part-note-since-start Inv-loop μ-loop
+part-note-since-start c = search needs
+
+part-note-since-end : tie.Need-part-note-since-end Inv-loop μ-loop
+part-note-since-end c = search needs
+
+note-since-requires : tie.Need-note-since-requires Inv-loop μ-loop
+note-since-requires c κs = search needs
+
+one-requires : tie.Need-one-requires Inv-loop μ-loop
+one-requires c κs = search needs
+
+union-requires : tie.Need-union-requires Inv-loop μ-loop
+union-requires c κs = search needs
+
+add-i : tie.Need-add-i Inv-loop μ-loop
+add-i c = search needs
+
+loop-less : tie.Need-loop-less Inv-loop μ-loop
+loop-less c = search needs
+
+loop-again : tie.Need-loop-again Inv-loop μ-loop
+loop-again c = search (turn, needs)
+
+returns : tie.Need-returns Inv-loop μ-loop
+returns c = forward-end notSince _ _ _ _ (c .loop-test .left) (c .before .loop .inv .whole)
+
+pub alternate-spec : {M : Type 1} → statement M
+alternate-spec =
+    tie.close
+    (tie.spec
+    Inv-loop
+    μ-loop
+    loop-holds
+    shared-slice-read-t9
+    sub-note-since
+    part-note-since-start
+    part-note-since-end
+    note-since-requires
+    one-requires
+    union-requires
+    add-i
+    loop-less
+    loop-again
+    returns)

@@ -1,0 +1,51 @@
+use borrow.Author.Needs.{needs}
+use Rattle.miner.proofs.Alternate.{note-repeat, note-first}
+use Rattle.miner.proofs.passes.note_since.Statement.{statement}
+use Rattle.miner.proofs.passes.note_since.Tie as tie
+
+has-requires : tie.Need-has-requires
+has-requires c κs = search needs
+
+row-requires : tie.Need-row-requires
+row-requires c κs = search needs
+
+complement-requires : tie.Need-complement-requires
+complement-requires c κs = search needs
+
+unmet-requires : tie.Need-unmet-requires
+unmet-requires c κs = search needs
+
+join-requires : tie.Need-join-requires
+join-requires c κs = search needs
+
+complement-requires-2 : tie.Need-complement-requires-2
+complement-requires-2 c κs = search needs
+
+join-requires-2 : tie.Need-join-requires-2
+join-requires-2 c κs = search needs
+
+returns : tie.Need-returns
+returns c =
+    let met = c .before .before in
+    let row = met .before .before in
+    let then = row .before .before in
+    note-repeat _ _ _ _ _ (then .before .has .ensures) _ _ _ _ (then .if1 .taken) (row .row .ensures) (met .before .complement .ensures) (met .unmet .ensures) (c .join .ensures)
+
+returns-2 : tie.Need-returns-2
+returns-2 c =
+    let else = c .before .before .before in
+    note-first _ _ _ _ _ (else .before .has .ensures) _ _ (else .if1 .left) (c .before .complement2 .ensures) (c .join2 .ensures)
+
+pub note-since-spec : {M : Type 1} → statement M
+note-since-spec =
+    tie.close
+    (tie.spec
+    has-requires
+    row-requires
+    complement-requires
+    unmet-requires
+    join-requires
+    complement-requires-2
+    join-requires-2
+    returns
+    returns-2)

@@ -1,0 +1,27 @@
+use borrow.Author.Needs.{needs}
+use Rattle.miner.proofs.Turns.{joined-by}
+use Rattle.miner.proofs.LetIn.{barred-by}
+use Rattle.miner.proofs.second.let_in_here.Statement.{statement}
+use Rattle.miner.proofs.second.let_in_here.Tie as tie
+
+intersection-requires : tie.Need-intersection-requires
+intersection-requires c κs = search needs
+
+join-requires : tie.Need-join-requires
+join-requires c κs = search needs
+
+row-requires : tie.Need-row-requires
+row-requires c κs = search needs
+
+union-requires : tie.Need-union-requires
+union-requires c κs = search needs
+
+returns : tie.Need-returns
+returns c = (
+  joined-by _ _ _ _ _ (c .before .before .before .before .intersection .ensures) (c .before .before .join .ensures),
+  barred-by _ _ _ _ _ (c .before .row .ensures) (c .union .ensures),
+)
+
+pub let-in-here-spec : {M : Type 1} → statement M
+let-in-here-spec =
+    tie.close (tie.spec intersection-requires join-requires row-requires union-requires returns)

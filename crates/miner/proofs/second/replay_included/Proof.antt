@@ -1,0 +1,74 @@
+use mathlib.Core.Path.{_≡_, refl}
+use mathlib.Core.List.{[]}
+use Prim.Native.Nat.{_≤_, _-_}
+use borrow.Author.Needs.{needs}
+use lib.ListN.{length, drop}
+use Rattle.miner.specs.Passes.{forward, beforeFirst, missed}
+use Rattle.miner.proofs.Turns.{pastAt, seenIn, seen-none, forward-end}
+use Rattle.miner.proofs.Gains.{seen-next}
+use Rattle.miner.proofs.Waiting.{openAfter, open-first, included-next, first-next, missed-next}
+use Rattle.miner.proofs.second.replay_included.Statement.{statement}
+use Rattle.miner.proofs.second.replay_included.Tie as tie
+
+abbrev Inv-loop : tie.InvT-loop
+Inv-loop trace includes excludes first₀ unmet₀ seen₀ included₀ i₀ first unmet seen included i =
+    (i ≤ length trace) × (seen ≡ seenIn (pastAt trace i)) × (included ≡ openAfter included₀ includes excludes (pastAt trace i))
+    × (forward beforeFirst first (pastAt trace i) (drop i trace) ≡ forward beforeFirst first₀ [] trace)
+    × (forward (missed included₀ includes excludes) unmet (pastAt trace i) (drop i trace) ≡ forward (missed included₀ includes excludes) unmet₀ [] trace)
+
+abbrev μ-loop : tie.MeasureT-loop
+μ-loop trace includes excludes first₀ unmet₀ seen₀ included₀ i₀ first unmet seen included i = length trace - i
+
+loop-holds : tie.Need-loop-holds Inv-loop μ-loop
+loop-holds c = (search needs, seen-none, open-first _ _ _ (search needs), refl, refl)
+
+shared-slice-read-t15 : tie.Need-shared-slice-read-t15 Inv-loop μ-loop
+shared-slice-read-t15 c = search needs
+
+included-after-requires : tie.Need-included-after-requires Inv-loop μ-loop
+included-after-requires c κs = search needs
+
+note-waiting-requires : tie.Need-note-waiting-requires Inv-loop μ-loop
+note-waiting-requires c κs = search needs
+
+and-then-requires : tie.Need-and-then-requires Inv-loop μ-loop
+and-then-requires c κs = search needs
+
+add-i : tie.Need-add-i Inv-loop μ-loop
+add-i c = search needs
+
+loop-less : tie.Need-loop-less Inv-loop μ-loop
+loop-less c = search needs
+
+loop-again : tie.Need-loop-again Inv-loop μ-loop
+loop-again c =
+    let t = c .before .before .before .before .before .before .loop-test .taken in
+    let v = c .before .before .before .before .before .before .before .loop .inv in
+    let turn = c .before .note-waiting .ensures in (
+      search needs,
+      seen-next _ _ t _ (v .1) _ (c .and-then .ensures),
+      included-next _ _ t _ (v .1) _ _ _ _ (v .2) _ (c .before .before .before .before .included-after .ensures),
+      first-next _ _ t _ (v .1) _ _ _ (v .3) (turn .0),
+      missed-next _ _ t _ (v .1) _ _ _ _ (v .2) _ _ _ (v .4) (turn .1),
+    )
+
+returns : tie.Need-returns Inv-loop μ-loop
+returns c =
+    let v = c .before .loop .inv in
+    (forward-end _ _ _ _ _ (c .loop-test .left) (v .3), forward-end _ _ _ _ _ (c .loop-test .left) (v .4))
+
+pub replay-included-spec : {M : Type 1} → statement M
+replay-included-spec =
+    tie.close
+    (tie.spec
+    Inv-loop
+    μ-loop
+    loop-holds
+    shared-slice-read-t15
+    included-after-requires
+    note-waiting-requires
+    and-then-requires
+    add-i
+    loop-less
+    loop-again
+    returns)

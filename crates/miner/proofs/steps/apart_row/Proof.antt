@@ -1,0 +1,38 @@
+use borrow.Author.Needs.{needs}
+use Rattle.sets.specs.Tests.{_or_}
+use Rattle.miner.specs.Reading.{apart}
+use Rattle.miner.proofs.MadeSets.{joined, less, is-those, is-row}
+use Rattle.miner.proofs.steps.apart_row.Statement.{statement}
+use Rattle.miner.proofs.steps.apart_row.Tie as tie
+
+row-requires : tie.Need-row-requires
+row-requires c κs = search needs
+
+row-requires-2 : tie.Need-row-requires-2
+row-requires-2 c κs = search needs
+
+union-requires : tie.Need-union-requires
+union-requires c κs = search needs
+
+others-requires : tie.Need-others-requires
+others-requires c κs = search needs
+
+difference-requires : tie.Need-difference-requires
+difference-requires c κs = search needs
+
+returns : tie.Need-returns
+unfolding apart
+returns c =
+    let together = joined _or_ _ _ _ _ _ (is-row _ _ _ (c .before .before .before .before .row .ensures)) (is-row _ _ _ (c .before .before .before .row2 .ensures)) (c .before .before .union .ensures) in
+    less _ _ _ _ _ (is-those _ _ (c .before .others .ensures)) (is-those _ _ together) (c .difference .ensures)
+
+pub apart-row-spec : {M : Type 1} → statement M
+apart-row-spec =
+    tie.close
+    (tie.spec
+    row-requires
+    row-requires-2
+    union-requires
+    others-requires
+    difference-requires
+    returns)

@@ -1,0 +1,49 @@
+use borrow.Author.Needs.{needs}
+use Rattle.sets.specs.Tests.{_and_}
+use Rattle.miner.specs.Reading.{closing}
+use Rattle.miner.proofs.MadeSets.{joined, less, is-those, is-row, unless-true, unless-false}
+use Rattle.miner.proofs.steps.closing_row.Statement.{statement}
+use Rattle.miner.proofs.steps.closing_row.Tie as tie
+
+has-requires : tie.Need-has-requires
+has-requires c κs = search needs
+
+returns : tie.Need-returns
+unfolding closing
+returns c = unless-true _ _ (c .before .has .ensures) _ (c .if1 .taken)
+
+fellows-requires : tie.Need-fellows-requires
+fellows-requires c κs = search needs
+
+row-requires : tie.Need-row-requires
+row-requires c κs = search needs
+
+intersection-requires : tie.Need-intersection-requires
+intersection-requires c κs = search needs
+
+row-requires-2 : tie.Need-row-requires-2
+row-requires-2 c κs = search needs
+
+difference-requires : tie.Need-difference-requires
+difference-requires c κs = search needs
+
+returns-2 : tie.Need-returns-2
+unfolding closing
+returns-2 c =
+    let after = joined _and_ _ _ _ _ _ (is-those _ _ (c .before .before .before .before .fellows .ensures)) (is-row _ _ _ (c .before .before .before .row .ensures)) (c .before .before .intersection .ensures) in
+    unless-false _ _ (c .before .before .before .before .before .before .has .ensures) _ _
+    (less _ _ _ _ _ (is-those _ _ after) (is-row _ _ _ (c .before .row2 .ensures)) (c .difference .ensures))
+    (c .before .before .before .before .before .if1 .left)
+
+pub closing-row-spec : {M : Type 1} → statement M
+closing-row-spec =
+    tie.close
+    (tie.spec
+    has-requires
+    returns
+    fellows-requires
+    row-requires
+    intersection-requires
+    row-requires-2
+    difference-requires
+    returns-2)

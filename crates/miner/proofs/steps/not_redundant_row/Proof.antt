@@ -1,0 +1,39 @@
+use mathlib.Core.Path.{refl}
+use borrow.Author.Needs.{needs}
+use Rattle.miner.specs.Reading.{notRedundant}
+use Rattle.miner.proofs.MadeSets.{less, is-row}
+use Rattle.miner.proofs.Passing.{through}
+use Rattle.miner.proofs.steps.not_redundant_row.Statement.{statement}
+use Rattle.miner.proofs.steps.not_redundant_row.Tie as tie
+
+row-requires : tie.Need-row-requires
+row-requires c κs = search needs
+
+difference-requires : tie.Need-difference-requires
+difference-requires c κs = search needs
+
+row-requires-2 : tie.Need-row-requires-2
+row-requires-2 c κs = search needs
+
+union-of-requires : tie.Need-union-of-requires
+union-of-requires c κs = search needs
+
+difference-requires-2 : tie.Need-difference-requires-2
+difference-requires-2 c κs = search needs
+
+returns : tie.Need-returns
+unfolding notRedundant
+returns c =
+    let alternating = less _ _ _ _ _ (λ a l. refl) (is-row _ _ _ (c .before .before .before .before .row .ensures)) (c .before .before .before .difference .ensures) in
+    less _ _ _ _ _ (is-row _ _ _ (c .before .before .row2 .ensures)) (through _ _ _ _ _ alternating (c .before .union-of .ensures)) (c .difference2 .ensures)
+
+pub not-redundant-row-spec : {M : Type 1} → statement M
+not-redundant-row-spec =
+    tie.close
+    (tie.spec
+    row-requires
+    difference-requires
+    row-requires-2
+    union-of-requires
+    difference-requires-2
+    returns)

@@ -1,0 +1,53 @@
+use borrow.Author.Needs.{needs}
+use Rattle.sets.specs.Members.{width, mem, countBelow}
+use Rattle.miner.proofs.Passing.{Part, Shared, share-turn, share-end, members}
+use Rattle.miner.proofs.steps.share.Statement.{statement}
+use Rattle.miner.proofs.steps.share.Tie as tie
+
+abbrev Inv-loop : tie.InvT-loop
+Inv-loop rows₀ gain rest₀ rows rest = (Part rest₀ rest) × Shared rows₀ gain rest₀ rows rest
+
+abbrev μ-loop : tie.MeasureT-loop
+μ-loop rows₀ gain rest₀ rows rest = countBelow width (mem rest)
+
+loop-holds : tie.Need-loop-holds Inv-loop μ-loop
+loop-holds c = search (members, needs)
+
+is-empty-requires : tie.Need-is-empty-requires Inv-loop μ-loop
+is-empty-requires c κs = search (members, needs)
+
+least-requires : tie.Need-least-requires Inv-loop μ-loop
+least-requires c κs = search (members, needs)
+
+join-requires : tie.Need-join-requires Inv-loop μ-loop
+join-requires c κs = search (members, needs)
+
+without-least-requires : tie.Need-without-least-requires Inv-loop μ-loop
+without-least-requires c κs = search (members, needs)
+
+loop-less : tie.Need-loop-less Inv-loop μ-loop
+loop-less c = search (members, needs)
+
+loop-again : tie.Need-loop-again Inv-loop μ-loop
+loop-again c =
+    let turn = c .before .before .before .before .before .before .loop .inv in
+    share-turn _ _ _ _ _ _ _ _ _ (turn .0) (turn .1) (c .before .before .before .before .before .is-empty .ensures) (c .before .before .before .before .if1 .taken)
+    (c .before .before .least .ensures) (c .before .join .ensures) (c .without-least .ensures)
+
+returns : tie.Need-returns Inv-loop μ-loop
+returns c = share-end _ _ _ _ _ _ (c .before .before .loop .inv .1) (c .before .is-empty .ensures) (c .if1 .left)
+
+pub share-spec : {M : Type 1} → statement M
+share-spec =
+    tie.close
+    (tie.spec
+    Inv-loop
+    μ-loop
+    loop-holds
+    is-empty-requires
+    least-requires
+    join-requires
+    without-least-requires
+    loop-less
+    loop-again
+    returns)

@@ -1,0 +1,4 @@
+pub mod Passes
+pub mod Tallies
+pub mod Reading
+pub mod Mine

@@ -1,0 +1,17 @@
+-- What the miner gives for any bytes: the log's number, and the graph of its traces; the empty graph where the log is refused.
+use mathlib.Core.List.{List}
+use Prim.Native.Nat.{ℕ}
+use Rattle.sets.specs.Tests.{when_then_else_}
+use Rattle.sets.specs.Answers.{isDone}
+use Rattle.engine.specs.Relations.{emptyGraph}
+use Rattle.engine.specs.declared.graph.Graph.{Graph}
+use Rattle.calllog.specs.Logs.{logOf}
+use Rattle.rules.specs.Mined.{minedGraph}
+use Rattle.miner.specs.declared.mining.Mined.{Mined}
+
+unfoldable pub minedOf : List ℕ → Mined
+minedOf bytes =
+    record {
+      answer = logOf bytes .answer;
+      graph = when isDone (logOf bytes .answer) then minedGraph (logOf bytes .activities) (logOf bytes .traces) else emptyGraph;
+    }

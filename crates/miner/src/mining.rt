@@ -1,0 +1,183 @@
+// The miner: from the bytes of a log to its graph.
+ghost use mathlib.Core.Path.{_≡_};
+ghost use mathlib.Core.List.{[]};
+ghost use Rattle.sets.specs.Rows.{noRows, rowsOf};
+ghost use Rattle.miner.specs.Passes.{forward, through, walked, letIn, beforeFirst, missed};
+ghost use Rattle.miner.specs.Reading.{reducedOf, conditionsOf, responsesOf, fiveOf, sevenOf, includesOf, waitedOf, graphRead};
+ghost use Rattle.miner.specs.Mine.{minedOf};
+ghost use Rattle.miner.specs.Tallies.{tallyOf};
+use crate::reduce;
+use crate::second;
+use crate::steps;
+use crate::tally;
+use crate::tally::Tally;
+use engine::Graph;
+use engine::Marking;
+use sets::Answer;
+use sets::Rows;
+use sets::Set;
+use sets::rows;
+
+// What mining gives: the log's answer, and its graph; the empty graph where the log is refused.
+pub struct Mined {
+    pub answer: Answer,
+    pub graph: Graph,
+}
+
+// The excludes after steps 1 to 5.
+fn excludes_five(t: Tally) -> Rows
+    ensures { λ r. ⌜ r ≡ fiveOf t ⌝ }
+{
+    let events = t.events;
+    let chains = steps::unbroken(events, &t.unchained);
+    let selves = steps::selves(events, &t.before, &chains);
+    let apart = steps::apart(events, &t.before, &t.later);
+    let closing = steps::closing(events, selves, &t.before, &t.later);
+    let itself = steps::diagonal(selves);
+    let four = steps::united(&itself, &steps::smallest(&apart));
+    steps::united(&four, &steps::smallest(&closing))
+}
+
+// The excludes after steps 6 and 7.
+fn excludes_seven(t: Tally) -> Rows
+    ensures { λ r. ⌜ r ≡ sevenOf t ⌝ }
+{
+    let events = t.events;
+    let five = excludes_five(t);
+    let never = steps::absent(events, &t.followed);
+    let six = steps::united(&five, &never);
+    steps::not_redundant(events, &six, &t.unalternated)
+}
+
+// The conditions after step 8, by target.
+fn conditions_eight(t: Tally) -> Rows
+    ensures { λ r. ⌜ r ≡ rowsOf (reducedOf (conditionsOf t)) ⌝ }
+{
+    let events = t.events;
+    let two = steps::unbroken(events, &t.unpreceded);
+    reduce::reduced(&two)
+}
+
+// The responses after step 8.
+fn responses_eight(t: Tally) -> Rows
+    ensures { λ r. ⌜ r ≡ rowsOf (reducedOf (responsesOf t)) ⌝ }
+{
+    let events = t.events;
+    let two = steps::unbroken(events, &t.unanswered);
+    reduce::reduced(&two)
+}
+
+// What step 6 includes, over all traces.
+fn let_in<'a>(log: &'a [u8], traces: usize, unfollowed: &'a Rows) -> Rows
+    ensures { λ r. ⌜ r ≡ through (λ r σ. forward (letIn (now (unfollowed .entry))) r [] σ) noRows (walked (now (log .entry)) traces 0) ⌝ }
+{
+    let mut out = rows::empty();
+    let mut k: usize = 0;
+    while k < traces {
+        let p = calllog::trace::trace_part(log, k);
+        let start = p.start;
+        let end = start + p.length;
+        second::let_in(&log[start..end], unfollowed, &mut out);
+        k += 1;
+    }
+    out
+}
+
+// The includes, of steps 3 and 6.
+fn includes_six(log: &[u8], traces: usize, t: Tally) -> Rows
+    ensures { λ r. ⌜ r ≡ includesOf t (walked (now (log .entry)) traces 0) ⌝ }
+{
+    let events = t.events;
+    let chains = steps::unbroken(events, &t.unchained);
+    let three = steps::turned(&chains);
+    let never = steps::absent(events, &t.followed);
+    let six = let_in(log, traces, &never);
+    steps::united(&three, &six)
+}
+
+// What step 9 asks of all traces.
+fn replay_included<'a>(
+    log: &'a [u8],
+    traces: usize,
+    events: Set,
+    includes: &'a Rows,
+    excludes: &'a Rows,
+    first: &mut Rows,
+    unmet: &mut Rows,
+)
+    ensures { λ _. ⌜ now (first .exit) ≡ through (λ r σ. forward beforeFirst r [] σ) (now (first .entry)) (walked (now (log .entry)) traces 0) ⌝ }
+    ensures { λ _. ⌜ now (unmet .exit) ≡ through (λ r σ. forward (missed events (now (includes .entry)) (now (excludes .entry))) r [] σ) (now (unmet .entry)) (walked (now (log .entry)) traces 0) ⌝ }
+{
+    let mut k: usize = 0;
+    while k < traces {
+        let p = calllog::trace::trace_part(log, k);
+        let start = p.start;
+        let end = start + p.length;
+        second::replay_included(&log[start..end], events, includes, excludes, first, unmet);
+        k += 1;
+    }
+}
+
+// The conditions, by target: steps 9 and 10 on those of step 8.
+fn conditions_ten<'a>(
+    log: &'a [u8],
+    traces: usize,
+    events: Set,
+    eight: &'a Rows,
+    includes: &'a Rows,
+    excludes: &'a Rows,
+) -> Rows
+    ensures { λ r. ⌜ r ≡ waitedOf events (now (eight .entry)) (now (includes .entry)) (now (excludes .entry)) (walked (now (log .entry)) traces 0) ⌝ }
+{
+    let mut first = rows::empty();
+    let mut unmet = rows::empty();
+    replay_included(
+        log,
+        traces,
+        events,
+        includes,
+        excludes,
+        &mut first,
+        &mut unmet,
+    );
+    let nine = steps::waited(events, eight, &first, &unmet);
+    reduce::reduced(&nine)
+}
+
+// The graph of a log's first traces.
+fn graph_read(log: &[u8], activities: u8, traces: usize) -> Graph
+    ensures { λ r. ⌜ r ≡ graphRead activities (walked (now (log .entry)) traces 0) (tallyOf (walked (now (log .entry)) traces 0)) ⌝ }
+{
+    let t = tally::counted(log, traces);
+    let events = t.events;
+    let excludes = excludes_seven(t);
+    let includes = includes_six(log, traces, t);
+    let eight = conditions_eight(t);
+    let conditions = conditions_ten(log, traces, events, &eight, &includes, &excludes);
+    let responses = responses_eight(t);
+    Graph {
+        activities,
+        events,
+        opening: Marking::opening(events),
+        conditions,
+        responses,
+        includes,
+        excludes,
+    }
+}
+
+// The graph of a log.
+pub fn mine(log: &[u8]) -> Mined
+    ensures { λ r. ⌜ r ≡ minedOf (now (log .entry)) ⌝ }
+{
+    let judged = calllog::judge::judge_log(log);
+    let answer = judged.answer;
+    if !answer.is_done() {
+        return Mined {
+            answer,
+            graph: Graph::empty(),
+        };
+    }
+    let graph = graph_read(log, judged.activities, judged.traces);
+    Mined { answer, graph }
+}
