@@ -10,9 +10,11 @@ use lib.Dec.{ltb, ltb→lt, lt→ltb}
 use lib.ListN.{length, drop}
 use Rattle.sets.specs.declared.answer.Answer.the-variants.{Done, TooShort, WrongLetters, AboveLimit, WrongOffset, Outside}
 use Rattle.sets.proofs.Tests.{non-false, split, either, T→true}
-use Rattle.calllog.specs.Layout.{letters, mostActivities, mostTraces, longestTrace, mostEvents, headSize, longestLog, opensWith, activitiesIn, tracesIn, offsetAt, lengthAt, bodiesStart, eventsBefore}
+use Rattle.calllog.specs.Layout.{letters, headSize, longestLog, opensWith, activitiesIn, tracesIn, offsetAt, lengthAt, bodiesStart, eventsBefore}
+use Rattle.sets.specs.Sizes.{mostActivities, mostTraces, longestTrace, mostEvents}
 use Rattle.calllog.specs.Judged.{firstRefusal, allBelow, judgedHead, entryOf, judgedBodies, judgedContents, judgedLog}
-use Rattle.calllog.proofs.Order.{both, went, ask-on, none-refuses, no-refusal}
+use Rattle.calllog.proofs.Order.{none-refuses, no-refusal}
+use Rattle.sets.proofs.Asking.{both, went, ask-on}
 use Rattle.calllog.proofs.Verdicts.{head-done, entry-done, bodies-done}
 use Rattle.calllog.proofs.Contents.{entry-good}
 

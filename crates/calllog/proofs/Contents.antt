@@ -11,9 +11,11 @@ use Rattle.sets.specs.Answers.{isDone}
 use Rattle.sets.specs.declared.answer.Answer.{Answer}
 use Rattle.sets.specs.declared.answer.Answer.the-variants.{Done, AboveLimit, WrongOffset}
 use Rattle.sets.proofs.Tests.{non-false}
-use Rattle.calllog.specs.Layout.{longestTrace, mostEvents, tracesIn, offsetAt, lengthAt, eventsBefore}
+use Rattle.calllog.specs.Layout.{tracesIn, offsetAt, lengthAt, eventsBefore}
+use Rattle.sets.specs.Sizes.{longestTrace, mostEvents}
 use Rattle.calllog.specs.Judged.{firstRefusal, judgedEntry, entryOf, judgedBodies, judgedContents}
-use Rattle.calllog.proofs.Order.{done-is, ask-on, ask-stop, went, refusal-next, refusal-stands}
+use Rattle.calllog.proofs.Order.{refusal-next, refusal-stands}
+use Rattle.sets.proofs.Asking.{done-is, ask-on, ask-stop, went}
 
 -- what an entry that is done tells
 pub entry-good : (earlier offset size : ℕ) → judgedEntry earlier offset size ≡ Done

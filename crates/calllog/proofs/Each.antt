@@ -8,7 +8,7 @@ use native.Mathlib.Nat.{zero-lt-suc}
 use lib.Dec.{T, ltb, ltb→lt}
 use lib.ListN.{length, getD}
 use Rattle.sets.proofs.Tests.{and-l, and-r, true→T}
-use Rattle.calllog.specs.Layout.{longestTrace}
+use Rattle.sets.specs.Sizes.{longestTrace}
 use Rattle.calllog.specs.Judged.{allBelow}
 use Rattle.calllog.specs.Logs.{logOf}
 use Rattle.calllog.proofs.Traces.{read-within}

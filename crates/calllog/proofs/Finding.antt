@@ -20,7 +20,7 @@ use Rattle.calllog.specs.declared.judge.Judged.{Judged}
 use Rattle.calllog.specs.declared.trace.Part.{Part}
 use Rattle.calllog.specs.declared.trace.Found.{Found}
 use Rattle.calllog.specs.declared.trace.Asked.{Asked}
-use Rattle.calllog.proofs.Order.{done-is, ask-stop, both}
+use Rattle.sets.proofs.Asking.{done-is, ask-stop, both}
 use Rattle.calllog.proofs.Accepted.{Accepted, accepted, events-mono}
 use Rattle.calllog.proofs.Given.{log-answer, judged-accepted, where-is, part-of}
 

@@ -13,7 +13,7 @@ use Rattle.calllog.specs.Judged.{judgedHead, judgedContents, judgedLog}
 use Rattle.calllog.specs.Logs.{Log, tracesFrom, logOf, judgedOf, noPart, wherePart, partOf}
 use Rattle.calllog.specs.declared.judge.Judged.{Judged}
 use Rattle.calllog.specs.declared.trace.Part.{Part}
-use Rattle.calllog.proofs.Order.{done-is, ask-on, ask-stop}
+use Rattle.sets.proofs.Asking.{done-is, ask-on, ask-stop}
 
 -- ---- the log as a whole
 

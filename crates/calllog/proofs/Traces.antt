@@ -18,7 +18,7 @@ use Rattle.calllog.specs.Logs.{Log, startAt, traceAt, tracesFrom, logOf,
 use Rattle.calllog.specs.Written.{endToEnd, WithinLimits}
 use Rattle.calllog.specs.declared.trace.Part.{Part}
 use Rattle.calllog.specs.declared.trace.Found.{Found}
-use Rattle.calllog.proofs.Order.{done-is}
+use Rattle.sets.proofs.Asking.{done-is}
 use Rattle.calllog.proofs.Accepted.{Accepted, accepted, events-most}
 use Rattle.calllog.proofs.Given.{log-accepted, log-refused, length-tracesFrom}
 use Rattle.calllog.proofs.Finding.{trace-within, part-there, found-part}

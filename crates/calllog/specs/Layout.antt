@@ -3,25 +3,13 @@ use mathlib.Core.Bool.{Bool, true, false}
 use mathlib.Core.List.{List, [], _∷_}
 use Prim.Native.Nat.{ℕ, zero, suc, _+_, _*_}
 use lib.Dec.{eqb}
+use Rattle.sets.specs.Sizes.{mostTraces, mostEvents}
 use lib.ListN.{getD}
 use Rattle.sets.specs.Tests.{_and_}
 
 -- the two letters, B and L, and the edition
 abbrev pub letters : List ℕ
 letters = 66 ∷ 76 ∷ 1 ∷ []
-
--- the greatest A, T, length of a trace, and number of events in a log
-abbrev pub mostActivities : ℕ
-mostActivities = 64
-
-abbrev pub mostTraces : ℕ
-mostTraces = 1024
-
-abbrev pub longestTrace : ℕ
-longestTrace = 512
-
-abbrev pub mostEvents : ℕ
-mostEvents = 32768
 
 -- how many bytes stand before the entries, and how many an entry has
 abbrev pub headSize : ℕ

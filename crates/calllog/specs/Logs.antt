@@ -4,11 +4,11 @@ use Prim.Native.Nat.{ℕ, zero, suc, _+_}
 use lib.Dec.{ltb}
 use lib.ListN.{length, take, drop}
 use Rattle.sets.specs.Tests.{when_then_else_}
-use Rattle.sets.specs.Answers.{isDone}
+use Rattle.sets.specs.Answers.{isDone, thenAsk}
 use Rattle.sets.specs.declared.answer.Answer.{Answer}
 use Rattle.sets.specs.declared.answer.Answer.the-variants.{Done, NoTrace}
 use Rattle.calllog.specs.Layout.{activitiesIn, tracesIn, offsetAt, lengthAt, bodiesStart}
-use Rattle.calllog.specs.Judged.{judgedLog, thenAsk}
+use Rattle.calllog.specs.Judged.{judgedLog}
 use Rattle.calllog.specs.declared.judge.Judged.{Judged}
 use Rattle.calllog.specs.declared.trace.Part.{Part}
 use Rattle.calllog.specs.declared.trace.Found.{Found}

@@ -4,7 +4,8 @@ use mathlib.Core.List.{List, [], _∷_, _++_}
 use mathlib.Core.Path.{_≡_}
 use Prim.Native.Nat.{ℕ, _+_, _/_, _%_, _≤_, _<_}
 use lib.ListN.{length, getD}
-use Rattle.calllog.specs.Layout.{letters, mostActivities, mostTraces, longestTrace, mostEvents}
+use Rattle.calllog.specs.Layout.{letters}
+use Rattle.sets.specs.Sizes.{mostActivities, mostTraces, longestTrace, mostEvents}
 use Rattle.calllog.specs.Judged.{allBelow}
 
 -- a number in two bytes, little-endian

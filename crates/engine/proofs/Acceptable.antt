@@ -21,7 +21,8 @@ use Rattle.engine.specs.declared.marking.Marking.{Marking}
 use Rattle.engine.specs.declared.graph.Graph.{Graph}
 use Rattle.engine.specs.Relations.{Relations, relationsOf}
 use Rattle.engine.specs.Steps.{waits, enabled, after}
-use Rattle.engine.specs.Judged.{mostActivities, longestTrace, markingWithin, rowWithin, rowsWithin, relationsWithin, graphWithin, judgedFor, judged, judgedWith}
+use Rattle.engine.specs.Judged.{markingWithin, rowWithin, rowsWithin, relationsWithin, graphWithin, judgedFor, judged, judgedWith}
+use Rattle.sets.specs.Sizes.{mostActivities, longestTrace}
 use Rattle.engine.specs.Replay.{enabledOf, steppedOf, replayFrom, replayOf}
 
 -- ---- the parts of a chain of answers that is done

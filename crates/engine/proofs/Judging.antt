@@ -11,9 +11,9 @@ use Rattle.sets.specs.Rows.{rowAt}
 use Rattle.sets.specs.declared.set.Set.{Set}
 use Rattle.sets.proofs.Tests.{T→true, true→T, F→false, false→F}
 use Rattle.sets.proofs.Below.{every-i, every-e}
-use Rattle.sets.specs.Answers.{isDone}
+use Rattle.sets.specs.Answers.{isDone, thenAsk}
 use Rattle.sets.specs.declared.answer.Answer.{Answer}
-use Rattle.engine.specs.Judged.{thenAsk, rowWithin, rowsWithin}
+use Rattle.engine.specs.Judged.{rowWithin, rowsWithin}
 use Rattle.engine.proofs.Ways.{failed, held, taken, passed-by}
 
 pub events-below : (events b : Set) (p : ℕ → Bool) (r : Bool) → b ≡ those p → r ≡ within events b → r ≡ within events (those p)

@@ -3,22 +3,16 @@ use mathlib.Core.Bool.{Bool}
 use mathlib.Core.List.{List}
 use Prim.Native.Nat.{ℕ}
 use lib.Dec.{ltb}
+use Rattle.sets.specs.Sizes.{mostActivities, longestTrace}
 use Rattle.sets.specs.Tests.{_and_, _or_, non, when_then_else_}
 use Rattle.sets.specs.Members.{width, mem, those, everyBelow, isEmpty, within}
 use Rattle.sets.specs.Rows.{rowAt}
-use Rattle.sets.specs.Answers.{isDone}
+use Rattle.sets.specs.Answers.{isDone, thenAsk}
 use Rattle.sets.specs.declared.set.Set.{Set}
 use Rattle.sets.specs.declared.answer.Answer.{Answer}
 use Rattle.sets.specs.declared.answer.Answer.the-variants.{Done, AboveLimit, Outside}
 use Rattle.engine.specs.declared.marking.Marking.{Marking}
 use Rattle.engine.specs.declared.graph.Graph.{Graph}
-
--- the greatest A, and the greatest length of a trace (01, "Sizes")
-abbrev pub mostActivities : ℕ
-mostActivities = 64
-
-abbrev pub longestTrace : ℕ
-longestTrace = 512
 
 -- executed, pending and included are within the events
 unfoldable pub markingWithin : Set → Marking → Bool
@@ -54,10 +48,6 @@ judgedFor g length =
 -- the graph alone
 abbrev pub judged : Graph → Answer
 judged g = judgedFor g 0
-
--- the first answer, unless it is done; then the second
-abbrev pub thenAsk : Answer → Answer → Answer
-thenAsk a b = when isDone a then b else a
 
 -- the graph, then 5 for a marking handed beside it
 unfoldable pub judgedWith : Graph → Marking → Answer

@@ -4,7 +4,7 @@ use mathlib.Core.List.{List, [], _∷_}
 use Prim.Native.Nat.{ℕ, _+_}
 use lib.ListN.{length}
 use Rattle.sets.specs.Tests.{_and_, when_then_else_}
-use Rattle.sets.specs.Answers.{isDone}
+use Rattle.sets.specs.Answers.{isDone, thenAsk}
 use Rattle.sets.specs.declared.set.Set.{Set}
 use Rattle.sets.specs.declared.answer.Answer.{Answer}
 use Rattle.sets.specs.declared.answer.Answer.the-variants.{Done}
@@ -16,7 +16,7 @@ use Rattle.engine.specs.declared.replay.Replayed.{Replayed}
 use Rattle.engine.specs.Markings.{emptyMarking}
 use Rattle.engine.specs.Relations.{Relations, relationsOf}
 use Rattle.engine.specs.Steps.{enabled, after, accepting}
-use Rattle.engine.specs.Judged.{judgedFor, judgedWith, thenAsk}
+use Rattle.engine.specs.Judged.{judgedFor, judgedWith}
 
 -- enabled: 3 and 5, then 8, 9, 10
 unfoldable pub enabledOf : Graph → Marking → ℕ → Answer

@@ -13,8 +13,7 @@ use Rattle.sets.proofs.Members.{mem-those}
 use Rattle.sets.proofs.RowLaws.{in-rowsOf}
 use Rattle.engine.specs.Relations.{Relations}
 use Rattle.rules.specs.Traces.{Traces, _has_, atSomeFrom, atSome, someTrace}
-use Rattle.rules.specs.Mining.{event, someEvent, followed, between, includedAfter, neverMissed}
-use Rattle.rules.specs.Mining.{beforeFirst as rule-beforeFirst}
+use Rattle.rules.specs.Mining.{event, someEvent, followed, between, includedAfter, neverMissed, beforeFirst as rule-beforeFirst}
 use Rattle.rules.proofs.Places.{some-at, has-past, some-of, some-trace}
 use Rattle.rules.proofs.InTurn.{Small}
 use Rattle.miner.specs.Passes.{letIn, beforeFirst, stillIncluded, missed}

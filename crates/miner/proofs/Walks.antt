@@ -14,7 +14,6 @@ use Rattle.sets.proofs.Tests.{or-false, false-or}
 use Rattle.sets.proofs.Bits.{bit-zero}
 use Rattle.calllog.specs.declared.trace.Part.{Part}
 use Rattle.calllog.specs.Logs.{partOf}
-use Rattle.calllog.proofs.Traces.{part-within}
 use Rattle.rules.specs.Traces.{Traces, _has_, someTrace}
 use Rattle.miner.specs.Passes.{through, walked}
 
@@ -41,9 +40,6 @@ pub part-cut : (log : List ℕ) (k : ℕ) (p : Part) → p ≡ partOf log k → 
 part-cut log k p e =
     let same : p .start + p .length - p .start ≡ p .length = omega arith in
     ap (λ (m : ℕ). take m (drop (p .start) log)) same ∙ ap (λ (q : Part). take (q .length) (drop (q .start) log)) e
-
-pub part-fits : (log : List ℕ) (k : ℕ) (p : Part) → p ≡ partOf log k → p .start + p .length ≤ length log
-part-fits log k p e = subst (λ (q : Part). q .start + q .length ≤ length log) (sym e) (part-within log k)
 
 -- a pass over each part
 module _ (pass : List ℕ → List ℕ → List ℕ) (log : List ℕ) (n : ℕ) (all : List ℕ) where

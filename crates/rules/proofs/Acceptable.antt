@@ -14,7 +14,8 @@ use Rattle.sets.proofs.Below.{every-i}
 use Rattle.sets.proofs.Members.{those-i, those-e, within-i}
 use Rattle.sets.proofs.RowLaws.{in-rowsOf}
 use Rattle.engine.specs.Markings.{noSet}
-use Rattle.engine.specs.Judged.{mostActivities, rowWithin, rowsWithin, relationsWithin, graphWithin, judgedFor, judged}
+use Rattle.engine.specs.Judged.{rowWithin, rowsWithin, relationsWithin, graphWithin, judgedFor, judged}
+use Rattle.sets.specs.Sizes.{mostActivities}
 use Rattle.engine.proofs.Acceptable.{marking-whole}
 use Rattle.rules.specs.Traces.{Traces}
 use Rattle.rules.specs.Mining.{event}

@@ -16,8 +16,7 @@ use Rattle.calllog.specs.Layout.{opensWith, numberAt, activitiesIn, tracesIn, o
 use Rattle.calllog.specs.Judged.{firstRefusal, allBelow, judgedHead, judgedEntry, judgedBodies, judgedContents, judgedLog}
 use Rattle.calllog.specs.Logs.{tracesFrom, logOf}
 use Rattle.rules.specs.Traces.{Traces, _has_, _beginsWith_, atEachFrom, atSomeFrom, everyTrace, someTrace}
-use Rattle.rules.specs.Mining.{noPair, noRelations, smallestSource, _without_, event, someEvent, _with_, atMostOnce, precedes, answers, chained, together, before, followed, between, alternates, beforeFirst}
-use Rattle.rules.specs.Mining.{step1, step2, directlyBefore, step3, neverTogether, step4, closes, step5, step6, step7, reduced, step8, includedAfter, neverMissed, step9, step10, afterFive, afterSeven, afterEight, mined}
+use Rattle.rules.specs.Mining.{noPair, noRelations, smallestSource, _without_, event, someEvent, _with_, atMostOnce, precedes, answers, chained, together, before, followed, between, alternates, beforeFirst, step1, step2, directlyBefore, step3, neverTogether, step4, closes, step5, step6, step7, reduced, step8, includedAfter, neverMissed, step9, step10, afterFive, afterSeven, afterEight, mined}
 use Rattle.rules.specs.Mined.{graphFrom, minedGraph}
 use Rattle.rules.proofs.Listed.{_to_, listed, rows, Case, _gives_, reading, mining, replaying, stepping, log, graph, ended, stepped, asked, wanted}
 

@@ -26,7 +26,7 @@ use Rattle.engine.specs.declared.replay.Replayed.{Replayed}
 use Rattle.engine.specs.Markings.{noSet}
 use Rattle.engine.specs.Relations.{relationsOf}
 use Rattle.engine.specs.Steps.{waits, enabled, after, accepting}
-use Rattle.engine.specs.Judged.{longestTrace}
+use Rattle.sets.specs.Sizes.{longestTrace}
 use Rattle.engine.specs.Replay.{ending, replayFrom}
 use Rattle.engine.proofs.Acceptable.{replay-judged}
 use Rattle.rules.specs.Traces.{Traces, _has_}

@@ -8,7 +8,7 @@ use native.Mathlib.Nat.{zero-lt-suc, le-of-suc-le-suc, not-suc-le-zero}
 use lib.Dec.{T, eqb→eq, ltb→lt}
 use lib.ListN.{length, getD}
 use Rattle.sets.proofs.Tests.{and-l, and-r, or-e, true→T, either}
-use Rattle.engine.specs.Judged.{longestTrace}
+use Rattle.sets.specs.Sizes.{longestTrace}
 use Rattle.calllog.specs.Judged.{allBelow}
 use Rattle.calllog.specs.Logs.{logOf}
 use Rattle.calllog.proofs.Traces.{read-within}

@@ -7,8 +7,7 @@ use Rattle.sets.specs.Tests.{_and_, _or_, non}
 use Rattle.sets.specs.Members.{someBelow}
 use Rattle.sets.specs.Rows.{listFrom}
 use Rattle.rules.specs.Traces.{Traces, _has_, _beginsWith_, atEachFrom, atSomeFrom, everyTrace, someTrace}
-use Rattle.rules.specs.Mining.{noPair, noRelations, smallestSource, _without_, event, someEvent, _with_, atMostOnce, precedes, answers, chained, together, before, followed, between, alternates, beforeFirst}
-use Rattle.rules.specs.Mining.{step1, step2, directlyBefore, step3, neverTogether, step4, closes, step5, step6, step7, reduced, step8, includedAfter, neverMissed, step9, step10, afterFive, afterSeven, afterEight, mined}
+use Rattle.rules.specs.Mining.{noPair, noRelations, smallestSource, _without_, event, someEvent, _with_, atMostOnce, precedes, answers, chained, together, before, followed, between, alternates, beforeFirst, step1, step2, directlyBefore, step3, neverTogether, step4, closes, step5, step6, step7, reduced, step8, includedAfter, neverMissed, step9, step10, afterFive, afterSeven, afterEight, mined}
 use Rattle.rules.proofs.Listed.{Pair, _to_, oneOf, pairs, Claim, _are_, found, meant}
 
 -- the relations of a log with activities below A, by their pairs

@@ -10,8 +10,7 @@ use Rattle.sets.specs.Rows.{Relation}
 use Rattle.sets.proofs.Tests.{and-l, and-r, and-i, or-e, or-l, or-r, either}
 use Rattle.sets.proofs.Below.{some-i, some-e}
 use Rattle.rules.specs.Traces.{Traces}
-use Rattle.rules.specs.Mining.{noPair, noRelations, smallestSource, _without_, event, someEvent, _with_, atMostOnce, precedes, answers, together, before, followed, between}
-use Rattle.rules.specs.Mining.{step1, step2, directlyBefore, step3, neverTogether, step4, closes, step5, step6, step7, reduced, step8, neverMissed, step9, step10, afterFive, afterSeven, afterEight, mined}
+use Rattle.rules.specs.Mining.{noPair, noRelations, smallestSource, _without_, event, someEvent, _with_, atMostOnce, precedes, answers, together, before, followed, between, step1, step2, directlyBefore, step3, neverTogether, step4, closes, step5, step6, step7, reduced, step8, neverMissed, step9, step10, afterFive, afterSeven, afterEight, mined}
 
 -- both are events
 abbrev pub Events : Traces → ℕ → ℕ → Type 0

@@ -4,3 +4,4 @@ pub mod Bits
 pub mod Below
 pub mod Members
 pub mod RowLaws
+pub mod Asking

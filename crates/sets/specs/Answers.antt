@@ -2,6 +2,7 @@
 use mathlib.Core.Bool.{Bool}
 use Prim.Native.Nat.{ℕ}
 use lib.Dec.{eqb}
+use Rattle.sets.specs.Tests.{when_then_else_}
 use Rattle.sets.specs.declared.answer.Answer.{Answer}
 use Rattle.sets.specs.declared.answer.Answer.the-variants.{Done, TooShort, WrongLetters, AboveLimit, WrongOffset, Outside, BadRow, BufferTooSmall, NoEvent, NotIncluded, Waiting, NoTrace}
 
@@ -21,3 +22,7 @@ numberOf NoTrace = 11
 
 abbrev pub isDone : Answer → Bool
 isDone a = eqb (numberOf a) 0
+
+-- the first answer, unless it is done; then the second
+abbrev pub thenAsk : Answer → Answer → Answer
+thenAsk a b = when isDone a then b else a

@@ -1,9 +1,8 @@
 use Rattle.calllog.specs.Judged.{allBelow}
-use lib.ListN.{drop}
+use lib.ListN.{drop, length}
 use Rattle.calllog.proofs.Scans.{scanning}
 use Prim.Native.Nat.{_-_}
 use mathlib.Core.Path.{_≡_}
-use lib.ListN.{length}
 use borrow.Author.Needs.{needs}
 use Rattle.calllog.proofs.judge.all_below.Statement.{statement}
 use Rattle.calllog.proofs.judge.all_below.Tie as tie

@@ -1,5 +1,6 @@
 use Rattle.sets.specs.declared.answer.Answer.the-variants.{Done}
-use Rattle.calllog.specs.Layout.{mostEvents, tracesIn, eventsBefore}
+use Rattle.calllog.specs.Layout.{tracesIn, eventsBefore}
+use Rattle.sets.specs.Sizes.{mostEvents}
 use Rattle.calllog.specs.Judged.{firstRefusal, entryOf}
 use Rattle.calllog.proofs.Contents.{turns}
 use Prim.Native.Nat.{_-_, _≤_}

@@ -1,9 +1,8 @@
 use Rattle.calllog.specs.Layout.{opensWith}
-use lib.ListN.{drop}
+use lib.ListN.{drop, length}
 use Rattle.calllog.proofs.Scans.{opening}
 use Prim.Native.Nat.{_-_, _≤_}
 use mathlib.Core.Path.{_≡_}
-use lib.ListN.{length}
 use borrow.Author.Needs.{needs}
 use Rattle.calllog.proofs.layout.opens_with.Statement.{statement}
 use Rattle.calllog.proofs.layout.opens_with.Tie as tie

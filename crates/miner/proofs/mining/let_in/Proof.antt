@@ -4,8 +4,9 @@ use Prim.Native.Nat.{ℕ, _-_, _≤_}
 use native.Mathlib.Omega.{arith}
 use borrow.Author.Needs.{needs}
 use Rattle.sets.specs.Rows.{noRows}
+use Rattle.calllog.proofs.Traces.{part-within}
 use Rattle.miner.specs.Passes.{forward, through, walked, letIn}
-use Rattle.miner.proofs.Walks.{Left, through-start, through-next, through-end, part-fits}
+use Rattle.miner.proofs.Walks.{Left, through-start, through-next, through-end}
 use Rattle.miner.proofs.mining.let_in.Statement.{statement}
 use Rattle.miner.proofs.mining.let_in.Tie as tie
 
@@ -31,7 +32,7 @@ trace-part-requires : tie.Need-trace-part-requires Inv-loop μ-loop
 trace-part-requires c κs = search needs
 
 add-end : tie.Need-add-end Inv-loop μ-loop
-add-end c = omega (arith, part-fits _ _ _ (c .before .trace-part .ensures))
+add-end c = omega (arith, part-within _ _ _ (c .before .trace-part .ensures))
 
 sub-let-in : tie.Need-sub-let-in Inv-loop μ-loop
 sub-let-in c = search needs
@@ -40,7 +41,7 @@ part-let-in-start : tie.Need-part-let-in-start Inv-loop μ-loop
 part-let-in-start c = search needs
 
 part-let-in-end : tie.Need-part-let-in-end Inv-loop μ-loop
-part-let-in-end c = search (part-fits, needs)
+part-let-in-end c = search (part-within, needs)
 
 let-in-requires : tie.Need-let-in-requires Inv-loop μ-loop
 let-in-requires c κs = search needs

@@ -4,8 +4,9 @@ use Prim.Native.Nat.{ℕ, _-_, _≤_}
 use native.Mathlib.Omega.{arith}
 use borrow.Author.Needs.{needs}
 use Rattle.sets.specs.declared.set.Set.{Set}
+use Rattle.calllog.proofs.Traces.{part-within}
 use Rattle.miner.specs.Passes.{forward, through, walked, beforeFirst, missed}
-use Rattle.miner.proofs.Walks.{Left, through-start, through-next, through-end, part-fits}
+use Rattle.miner.proofs.Walks.{Left, through-start, through-next, through-end}
 use Rattle.miner.proofs.mining.replay_included.Statement.{statement}
 use Rattle.miner.proofs.mining.replay_included.Tie as tie
 
@@ -29,7 +30,7 @@ trace-part-requires : tie.Need-trace-part-requires Inv-loop μ-loop
 trace-part-requires c κs = search needs
 
 add-end : tie.Need-add-end Inv-loop μ-loop
-add-end c = omega (arith, part-fits _ _ _ (c .before .trace-part .ensures))
+add-end c = omega (arith, part-within _ _ _ (c .before .trace-part .ensures))
 
 sub-replay-included : tie.Need-sub-replay-included Inv-loop μ-loop
 sub-replay-included c = search needs
@@ -38,7 +39,7 @@ part-replay-included-start : tie.Need-part-replay-included-start Inv-loop μ-loo
 part-replay-included-start c = search needs
 
 part-replay-included-end : tie.Need-part-replay-included-end Inv-loop μ-loop
-part-replay-included-end c = search (part-fits, needs)
+part-replay-included-end c = search (part-within, needs)
 
 replay-included-requires : tie.Need-replay-included-requires Inv-loop μ-loop
 replay-included-requires c κs = search needs

@@ -12,8 +12,9 @@ use Rattle.sets.proofs.Members.{those-mem}
 use Rattle.calllog.specs.declared.trace.Part.{Part}
 use Rattle.calllog.specs.Logs.{partOf}
 use Rattle.rules.specs.Traces.{_has_, someTrace}
+use Rattle.calllog.proofs.Traces.{part-within}
 use Rattle.miner.specs.Passes.{Fact, forward, backward, through, walked, isEarlier, notEarlier, notDirectly, notSince, isLater, notLater, isNext}
-use Rattle.miner.proofs.Walks.{Left, eventsFrom, events-start, events-next, events-end, events-set, through-start, through-next, through-end, part-fits}
+use Rattle.miner.proofs.Walks.{Left, eventsFrom, events-start, events-next, events-end, events-set, through-start, through-next, through-end}
 use Rattle.miner.proofs.tally.note_traces.Statement.{statement}
 use Rattle.miner.proofs.tally.note_traces.Tie as tie
 
@@ -93,7 +94,7 @@ trace-part-requires : tie.Need-trace-part-requires Inv-loop μ-loop
 trace-part-requires c κs = search needs
 
 add-end : tie.Need-add-end Inv-loop μ-loop
-add-end c = omega (arith, part-fits _ _ _ (c .before .trace-part .ensures))
+add-end c = omega (arith, part-within _ _ _ (c .before .trace-part .ensures))
 
 sub-note-trace : tie.Need-sub-note-trace Inv-loop μ-loop
 sub-note-trace c = search needs
@@ -102,7 +103,7 @@ part-note-trace-start : tie.Need-part-note-trace-start Inv-loop μ-loop
 part-note-trace-start c = search needs
 
 part-note-trace-end : tie.Need-part-note-trace-end Inv-loop μ-loop
-part-note-trace-end c = search (part-fits, needs)
+part-note-trace-end c = search (part-within, needs)
 
 note-trace-requires : tie.Need-note-trace-requires Inv-loop μ-loop
 note-trace-requires c κs = search needs
