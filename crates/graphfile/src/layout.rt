@@ -8,7 +8,7 @@ use crate::number::number_at;
 use sets::Set;
 
 // The two letters and the edition.
-pub const LETTERS: [u8; 3] = [66, 71, 1];
+pub const LETTERS: [u8; 3] = *b"BG\x01";
 // The bytes before the first row, and those of a row.
 pub const HEAD: usize = 52;
 pub const ROW: usize = 9;
@@ -30,7 +30,13 @@ pub fn opens_right(bytes: &[u8]) -> bool
     ensures { λ r. ⌜ r ≡ same (take 3 (now (bytes .entry))) letters ⌝ }
 {
     let wanted = LETTERS;
-    bytes[0] == wanted[0] && bytes[1] == wanted[1] && bytes[2] == wanted[2]
+    if bytes[0] != wanted[0] {
+        return false;
+    }
+    if bytes[1] != wanted[1] {
+        return false;
+    }
+    bytes[2] == wanted[2]
 }
 
 // The set in 8 bytes from a place on.

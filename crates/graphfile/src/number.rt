@@ -7,6 +7,7 @@ ghost use Rattle.graphfile.specs.Numbers.{littleEndian, numberAt};
 
 fn wide(b: u8) -> u64
     ensures { λ r. ⌜ r ≡ b ⌝ }
+    ensures { λ r. ⌜ r < 256 ⌝ }
 {
     b as u64
 }
