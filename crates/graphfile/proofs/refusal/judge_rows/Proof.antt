@@ -1,0 +1,59 @@
+use Rattle.graphfile.proofs.refusal.judge_rows.Statement.{statement}
+use Rattle.graphfile.proofs.refusal.judge_rows.Tie as tie
+use Rattle.graphfile.proofs.refusal.judge_rows.Reads as reads
+use Rattle.graphfile.proofs.refusal.judge_rows.Lts as lts
+use Rattle.graphfile.proofs.refusal.judge_row.Reads as judge-row-reads
+use Rattle.sets.proofs.answer.Answer.is_done.Reads as is-done-reads
+
+abbrev Inv-loop : tie.InvT-loop
+Inv-loop bytes first count j₀ j = ?
+
+abbrev μ-loop : tie.MeasureT-loop
+μ-loop bytes first count j₀ j = ?
+
+-- src/refusal.rt:130:5
+loop-holds : tie.Need-loop-holds Inv-loop μ-loop
+loop-holds c = ?
+
+-- src/refusal.rt:131:13
+judge-row-requires : tie.Need-judge-row-requires Inv-loop μ-loop
+judge-row-requires c κs = ?
+
+-- src/refusal.rt:132:13
+is-done-requires : tie.Need-is-done-requires Inv-loop μ-loop
+is-done-requires c κs = ?
+
+-- src/refusal.rt:133:13
+returns : tie.Need-returns Inv-loop μ-loop
+returns c = ?
+
+-- src/refusal.rt:135:9
+add-j : tie.Need-add-j Inv-loop μ-loop
+add-j c = ?
+
+-- src/refusal.rt:130:5
+loop-less : tie.Need-loop-less Inv-loop μ-loop
+loop-less c = ?
+
+-- src/refusal.rt:130:5
+loop-again : tie.Need-loop-again Inv-loop μ-loop
+loop-again c = ?
+
+-- src/refusal.rt:125:1
+returns-2 : tie.Need-returns-2 Inv-loop μ-loop
+returns-2 c = ?
+
+pub judge-rows-spec : {M : Type 1} → statement M
+judge-rows-spec =
+    tie.close
+    (tie.spec
+    Inv-loop
+    μ-loop
+    loop-holds
+    judge-row-requires
+    is-done-requires
+    returns
+    add-j
+    loop-less
+    loop-again
+    returns-2)
