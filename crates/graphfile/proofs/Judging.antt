@@ -1,4 +1,4 @@
--- The refusals of a file, as the code finds them one after the other. Assumes nothing.
+-- The refusals of a file's parts, as the code finds them one after the other. Assumes nothing.
 use mathlib.Core.Path.{_≡_, refl, sym, ap, ap₂, _∙_}
 use mathlib.Core.Bool.{Bool, true, false, not}
 use mathlib.Core.List.{List}
@@ -20,72 +20,163 @@ use Rattle.engine.specs.declared.marking.Marking.{Marking}
 use Rattle.graphfile.specs.Layout.{letters, headLength, rowLength, relationCount, activitiesIn, setAt, eventsIn, markingIn, offsetIn, countIn, earlierRows, keyIn, rowIn, endOf}
 use Rattle.graphfile.specs.Refusals.{mostRows, same, inTurn, judgedHead, judgedEntry, judgedEnd, rises, judgedRow, judgedRelation, judgedFile}
 
--- ---- one question, then the next
+-- ---- the end
 
-refused : (a x b : Answer) (d : Bool) → a ≡ x → d ≡ isDone a → not d ≡ true → a ≡ thenAsk x b
-refused a x b d e h n =
-    let f : isDone x ≡ false = ap isDone (sym e) ∙ sym h ∙ not-true d n in
-    e ∙ sym (ap (λ (t : Bool). when t then b else x) f)
+module _ (bytes : List ℕ) (rows : ℕ) (e : rows ≡ earlierRows bytes relationCount) where
+  end-is : headLength + rowLength * rows ≡ endOf bytes
+  end-is = ap (λ (n : ℕ). headLength + rowLength * n) e
 
-passed : (a x b : Answer) (d : Bool) → a ≡ x → d ≡ isDone a → not d ≡ false → thenAsk x b ≡ b
-passed a x b d e h n =
-    let f : isDone x ≡ true = ap isDone (sym e) ∙ sym h ∙ not-false d n in
-    ap (λ (t : Bool). when t then b else x) f
+  pub end-short : length bytes < headLength + rowLength * rows → TooShort ≡ judgedEnd bytes
+  unfolding judgedEnd
+  end-short l = rw (lt-ltb (length bytes) (endOf bytes) (omega (arith, end-is)))
 
--- ---- a loop that asks in turn: `while i < n { let a = ask(i); if !a.is_done() { return a; } i += 1; } Done`
+  pub end-more : headLength + rowLength * rows ≤ length bytes → headLength + rowLength * rows < length bytes → WrongOffset ≡ judgedEnd bytes
+  unfolding judgedEnd
+  end-more m l = rw (le-ltb (length bytes) (endOf bytes) (omega (arith, end-is)), lt-ltb (endOf bytes) (length bytes) (omega (arith, end-is)))
 
-module _ (ask : ℕ → Answer) (n : ℕ) where
-  pub turns-begin : inTurn ask (n - 0) 0 ≡ inTurn ask n 0
-  turns-begin = ap (λ (k : ℕ). inTurn ask k 0) (sub-zero n)
+  pub end-right : headLength + rowLength * rows ≤ length bytes → length bytes ≤ headLength + rowLength * rows → Done ≡ judgedEnd bytes
+  unfolding judgedEnd
+  end-right m l = rw (le-ltb (length bytes) (endOf bytes) (omega (arith, end-is)), le-ltb (endOf bytes) (length bytes) (omega (arith, end-is)))
 
-module _ (ask : ℕ → Answer) (n i : ℕ) (whole a : Answer) (d : Bool) (l : i < n) (h : inTurn ask (n - i) i ≡ whole) (e : a ≡ ask i) (t : d ≡ isDone a) where
-  turn : thenAsk (ask i) (inTurn ask (n - (i + 1)) (i + 1)) ≡ whole
-  unfolding inTurn
-  turn =
-      let left : n - i ≡ suc (n - (i + 1)) = omega arith in
-      ap (λ (k : ℕ). thenAsk (ask i) (inTurn ask (n - (i + 1)) k)) (add-one i) ∙ ap (λ (k : ℕ). inTurn ask k i) (sym left) ∙ h
+pub ruleset ends = (end-short, end-more, end-right)
 
-  pub turn-refused : not d ≡ true → a ≡ whole
-  turn-refused f = refused a (ask i) _ d e t f ∙ turn
+-- ---- an entry
 
-  pub turn-passed : not d ≡ false → inTurn ask (n - (i + 1)) (i + 1) ≡ whole
-  turn-passed f = sym (passed a (ask i) _ d e t f) ∙ turn
+module _ (bytes : List ℕ) (r count : ℕ) (e : count ≡ countIn bytes r) where
+  pub entry-many : mostRows < count → AboveLimit ≡ judgedEntry bytes r
+  unfolding judgedEntry
+  entry-many l = rw (lt-ltb mostRows (countIn bytes r) (omega arith))
 
-pub turns-end : (ask : ℕ → Answer) (n i : ℕ) (whole : Answer) → n ≤ i → inTurn ask (n - i) i ≡ whole → Done ≡ whole
-unfolding inTurn
-turns-end ask n i whole l h = let none : n - i ≡ 0 = omega arith in ap (λ (k : ℕ). inTurn ask k i) (sym none) ∙ h
+  module _ (few : count ≤ mostRows) (offset rows : ℕ) (o : offset ≡ offsetIn bytes r) (f : rows ≡ earlierRows bytes r) where
+    pub entry-off : (offset ≡ rowLength * rows → ⊥) → WrongOffset ≡ judgedEntry bytes r
+    unfolding judgedEntry non
+    entry-off n =
+        rw (le-ltb mostRows (countIn bytes r) (omega arith), ne-eqb (offsetIn bytes r) (rowLength * earlierRows bytes r) (λ q. n (omega arith)))
 
-pub ruleset turns = (turns-begin, turn-refused, turn-passed, turns-end)
+    pub entry-right : offset ≡ rowLength * rows → Done ≡ judgedEntry bytes r
+    unfolding judgedEntry non
+    entry-right q =
+        rw (le-ltb mostRows (countIn bytes r) (omega arith), eq-eqb (offsetIn bytes r) (rowLength * earlierRows bytes r) (omega arith))
 
--- ---- the whole file
+pub ruleset entries = (entry-many, entry-off, entry-right)
 
-pub file-short : (bytes : List ℕ) → length bytes < headLength → TooShort ≡ judgedFile bytes
-unfolding judgedFile
-file-short bytes l = rw (lt-ltb (length bytes) headLength l)
+-- ---- a row
 
-module _ (bytes : List ℕ) (long : headLength ≤ length bytes) (head : Answer) (d : Bool) (e : head ≡ judgedHead bytes) (t : d ≡ isDone head) where
-  file : judgedFile bytes ≡ thenAsk (judgedHead bytes) (thenAsk (inTurn (judgedEntry bytes) relationCount 0) (thenAsk (judgedEnd bytes) (inTurn (judgedRelation bytes) relationCount 0)))
-  unfolding judgedFile
-  file = rw (le-ltb (length bytes) headLength long)
+pub rises-first : (bytes : List ℕ) (first j : ℕ) → j ≡ 0 → true ≡ rises bytes first j
+unfolding rises
+rises-first bytes first j e = ap (rises bytes first) (sym e)
 
-  pub file-head : not d ≡ true → head ≡ judgedFile bytes
-  file-head f = refused head _ _ d e t f ∙ sym file
+pub rises-next : (bytes : List ℕ) (first j before key : ℕ) → (j ≡ 0 → ⊥) → before ≡ keyIn bytes (first + j - 1) → key ≡ keyIn bytes (first + j)
+    → ltb before key ≡ rises bytes first j
+unfolding rises
+rises-next bytes first zero before key n e f = absurd (n refl)
+rises-next bytes first (suc j) before key n e f =
+    let back : first + suc j - 1 ≡ first + j = omega arith in
+    ap₂ ltb (e ∙ ap (keyIn bytes) back) f
 
-  module _ (f : not d ≡ false) (entries : Answer) (d′ : Bool) (e′ : entries ≡ inTurn (judgedEntry bytes) relationCount 0) (t′ : d′ ≡ isDone entries) where
-    after-head : judgedFile bytes ≡ thenAsk (inTurn (judgedEntry bytes) relationCount 0) (thenAsk (judgedEnd bytes) (inTurn (judgedRelation bytes) relationCount 0))
-    after-head = file ∙ passed head _ _ d e t f
+-- the answer to a row by what was found: its key an event, its set within the events, its set empty, its key above the one before
+abbrev rowAnswer : Bool → Bool → Bool → Bool → Answer
+rowAnswer key set empty up = when non (key and set) then Outside else when empty or non up then BadRow else Done
 
-    pub file-entries : not d′ ≡ true → entries ≡ judgedFile bytes
-    file-entries f′ = refused entries _ _ d′ e′ t′ f′ ∙ sym after-head
+module _ (bytes : List ℕ) (first j : ℕ) (events row : Set) (key : ℕ) (he : events ≡ eventsIn bytes) (hr : row ≡ rowIn bytes (first + j)) (hk : key ≡ keyIn bytes (first + j)) where
+  row-is : (k w e u : Bool) → mem events key ≡ k → within row events ≡ w → isEmpty row ≡ e → rises bytes first j ≡ u → rowAnswer k w e u ≡ judgedRow bytes first j
+  unfolding judgedRow
+  row-is k w e u pk pw pe pu =
+      sym (λ i. rowAnswer (pk i) (pw i) (pe i) (pu i)) ∙ (λ i. rowAnswer (mem (he i) (hk i)) (within (hr i) (he i)) (isEmpty (hr i)) (rises bytes first j))
 
-    module _ (f′ : not d′ ≡ false) (end : Answer) (d″ : Bool) (e″ : end ≡ judgedEnd bytes) (t″ : d″ ≡ isDone end) where
-      after-entries : judgedFile bytes ≡ thenAsk (judgedEnd bytes) (inTurn (judgedRelation bytes) relationCount 0)
-      after-entries = after-head ∙ passed entries _ _ d′ e′ t′ f′
+  module _ (t : Bool) (ht : t ≡ mem events key) where
+    pub row-key : not t ≡ true → Outside ≡ judgedRow bytes first j
+    unfolding _and_ non
+    row-key n = row-is false _ _ _ (sym ht ∙ not-true t n) refl refl refl
 
-      pub file-end : not d″ ≡ true → end ≡ judgedFile bytes
-      file-end f″ = refused end _ _ d″ e″ t″ f″ ∙ sym after-entries
+    module _ (nt : not t ≡ false) (u : Bool) (hu : u ≡ within row events) where
+      pub row-set : not u ≡ true → Outside ≡ judgedRow bytes first j
+      unfolding _and_ non
+      row-set n = row-is true false _ _ (sym ht ∙ not-false t nt) (sym hu ∙ not-true u n) refl refl
 
-      pub file-rows : not d″ ≡ false → (a : Answer) → a ≡ inTurn (judgedRelation bytes) relationCount 0 → a ≡ judgedFile bytes
-      file-rows f″ a h = h ∙ sym (after-entries ∙ passed end _ _ d″ e″ t″ f″)
+      module _ (nu : not u ≡ false) (e : Bool) (hn : e ≡ isEmpty row) where
+        pub row-empty : e ≡ true → BadRow ≡ judgedRow bytes first j
+        unfolding _and_ _or_ non
+        row-empty n = row-is true true true _ (sym ht ∙ not-false t nt) (sym hu ∙ not-false u nu) (sym hn ∙ n) refl
 
-pub ruleset whole-file = (file-short, file-head, file-entries, file-end, file-rows)
+        pub row-falls : e ≡ false → (v : Bool) → v ≡ rises bytes first j → not v ≡ true → BadRow ≡ judgedRow bytes first j
+        unfolding _and_ _or_ non
+        row-falls n v hv f = row-is true true false false (sym ht ∙ not-false t nt) (sym hu ∙ not-false u nu) (sym hn ∙ n) (sym hv ∙ not-true v f)
+
+        pub row-right : e ≡ false → (v : Bool) → v ≡ rises bytes first j → not v ≡ false → Done ≡ judgedRow bytes first j
+        unfolding _and_ _or_ non
+        row-right n v hv f = row-is true true false true (sym ht ∙ not-false t nt) (sym hu ∙ not-false u nu) (sym hn ∙ n) (sym hv ∙ not-false v f)
+
+pub ruleset row-by-row = (rises-first, rises-next, row-key, row-set, row-empty, row-falls, row-right)
+
+-- ---- the head
+
+module _ (bytes : List ℕ) (events x : Set) (t : Bool) (hx : x ≡ setAt bytes 12) (ht : t ≡ within x events) where
+  marking-are : (p i : Set) (a b c : Bool) → p ≡ setAt bytes 20 → i ≡ setAt bytes 28 → within x events ≡ a → within p events ≡ b → within i events ≡ c
+      → (a and b and c) ≡ markingWithin events (markingIn bytes)
+  unfolding markingWithin
+  marking-are p i a b c hp hi ea eb ec =
+      sym (λ k. ea k and eb k and ec k) ∙ (λ k. within (hx k) events and within (hp k) events and within (hi k) events)
+
+  pub marking-executed : not t ≡ true → false ≡ markingWithin events (markingIn bytes)
+  unfolding _and_
+  marking-executed n = marking-are _ _ false _ _ refl refl (sym ht ∙ not-true t n) refl refl
+
+  module _ (nt : not t ≡ false) (p : Set) (u : Bool) (hp : p ≡ setAt bytes 20) (hu : u ≡ within p events) where
+    pub marking-pending : not u ≡ true → false ≡ markingWithin events (markingIn bytes)
+    unfolding _and_
+    marking-pending n = marking-are p _ true false _ hp refl (sym ht ∙ not-false t nt) (sym hu ∙ not-true u n) refl
+
+    pub marking-included : not u ≡ false → (i : Set) (v : Bool) → i ≡ setAt bytes 28 → v ≡ within i events → v ≡ markingWithin events (markingIn bytes)
+    unfolding _and_
+    marking-included n i v hi hv = marking-are p i true true v hp hi (sym ht ∙ not-false t nt) (sym hu ∙ not-false u n) (sym hv)
+
+pub ruleset markings = (marking-executed, marking-pending, marking-included)
+
+-- the answer to a head by what was found: the letters right, A above its limit, the events below A, the marking within them
+abbrev headAnswer : Bool → Bool → Bool → Bool → Answer
+headAnswer right above low within = when non right then WrongLetters else when above then AboveLimit else when non low then Outside else when non within then Outside else Done
+
+module _ (bytes : List ℕ) (l : Bool) (hl : l ≡ same (take 3 bytes) letters) where
+  head-is : (r a e m : Bool) → l ≡ r → ltb mostActivities (activitiesIn bytes) ≡ a → within (eventsIn bytes) (those (λ x. ltb x (activitiesIn bytes))) ≡ e
+      → markingWithin (eventsIn bytes) (markingIn bytes) ≡ m → headAnswer r a e m ≡ judgedHead bytes
+  unfolding judgedHead
+  head-is r a e m pl pa pe pm = λ i. headAnswer ((sym pl ∙ hl) i) (sym pa i) (sym pe i) (sym pm i)
+
+  pub head-letters : not l ≡ true → WrongLetters ≡ judgedHead bytes
+  unfolding non
+  head-letters n = head-is false _ _ _ (not-true l n) refl refl refl
+
+  module _ (nl : not l ≡ false) where
+    pub head-above : mostActivities < activitiesIn bytes → AboveLimit ≡ judgedHead bytes
+    unfolding non
+    head-above h = head-is true true _ _ (not-false l nl) (lt-ltb mostActivities (activitiesIn bytes) h) refl refl
+
+    module _ (na : activitiesIn bytes ≤ mostActivities) (events low : Set) (t : Bool) (he : events ≡ eventsIn bytes) (hb : low ≡ those (λ x. ltb x (activitiesIn bytes))) (ht : t ≡ within events low) where
+      low-is : (b : Bool) → t ≡ b → within (eventsIn bytes) (those (λ x. ltb x (activitiesIn bytes))) ≡ b
+      low-is b e = sym (ap₂ within he hb) ∙ sym ht ∙ e
+
+      pub head-events : not t ≡ true → Outside ≡ judgedHead bytes
+      unfolding non
+      head-events n = head-is true false false _ (not-false l nl) (le-ltb mostActivities (activitiesIn bytes) na) (low-is false (not-true t n)) refl
+
+      module _ (nt : not t ≡ false) (m : Bool) (hm : m ≡ markingWithin events (markingIn bytes)) where
+        marked : (b : Bool) → m ≡ b → headAnswer true false true b ≡ judgedHead bytes
+        marked b e =
+            head-is true false true b (not-false l nl) (le-ltb mostActivities (activitiesIn bytes) na) (low-is true (not-false t nt))
+            (ap (λ (s : Set). markingWithin s (markingIn bytes)) (sym he) ∙ sym hm ∙ e)
+
+        pub head-marking : not m ≡ true → Outside ≡ judgedHead bytes
+        unfolding non
+        head-marking n = marked false (not-true m n)
+
+        pub head-right : not m ≡ false → Done ≡ judgedHead bytes
+        unfolding non
+        head-right n = marked true (not-false m n)
+
+pub ruleset heads = (head-letters, head-above, head-events, head-marking, head-right)
+
+pub relation-is : (bytes : List ℕ) (r first count : ℕ) (a : Answer) → first ≡ earlierRows bytes r → count ≡ countIn bytes r
+    → a ≡ inTurn (judgedRow bytes first) count 0 → a ≡ judgedRelation bytes r
+unfolding judgedRelation
+relation-is bytes r first count a e f h = h ∙ ap₂ (λ (x n : ℕ). inTurn (judgedRow bytes x) n 0) e f
