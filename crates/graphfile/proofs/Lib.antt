@@ -3,3 +3,5 @@ pub mod Codec
 pub mod Places
 pub mod Asking
 pub mod Judging
+pub mod Accepted
+pub mod Filling

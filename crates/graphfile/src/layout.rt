@@ -11,17 +11,23 @@ use sets::Set;
 pub const LETTERS: [u8; 3] = *b"BG\x01";
 // The bytes before the first row, and those of a row.
 pub const HEAD: usize = 52;
+
 pub const ROW: usize = 9;
 // Conditions, responses, includes, excludes.
 pub const RELATIONS: usize = 4;
 // Where the four sets stand.
 pub const EVENTS: usize = 4;
+
 pub const EXECUTED: usize = 12;
+
 pub const PENDING: usize = 20;
+
 pub const INCLUDED: usize = 28;
 // Where the first entry's offset and number of rows stand, and the bytes of an entry.
 pub const OFFSETS: usize = 36;
+
 pub const COUNTS: usize = 38;
+
 pub const ENTRY: usize = 4;
 
 // Whether the bytes open with the letters and the edition.

@@ -1,3 +1,9 @@
+use Prim.Native.Nat.{_+_, _-_, _≤_}
+use mathlib.Core.Path.{_≡_}
+use Rattle.sets.specs.Rows.{noRows}
+use Rattle.graphfile.specs.Held.{filled}
+use Rattle.graphfile.proofs.Filling.{filling}
+use borrow.Author.Needs.{needs}
 use Rattle.graphfile.proofs.reader.fill.Statement.{statement}
 use Rattle.graphfile.proofs.reader.fill.Tie as tie
 use Rattle.graphfile.proofs.reader.fill.Reads as reads
@@ -8,54 +14,54 @@ use Rattle.sets.proofs.rows.empty.Reads as empty-reads
 use Rattle.sets.proofs.rows.put.Reads as put-reads
 
 abbrev Inv-loop : tie.InvT-loop
-Inv-loop bytes count first held₀ j₀ held j = ?
+Inv-loop bytes count first held₀ j₀ held j = (j ≤ count) × (filled bytes held (count - j) (first + j) ≡ filled bytes noRows count first)
 
 abbrev μ-loop : tie.MeasureT-loop
-μ-loop bytes count first held₀ j₀ held j = ?
+μ-loop bytes count first held₀ j₀ held j = count - j
 
 -- src/reader.rt:29:20
 empty-requires : tie.Need-empty-requires Inv-loop μ-loop
-empty-requires c κs = ?
+empty-requires c κs = search needs
 
 -- src/reader.rt:31:5
 loop-holds : tie.Need-loop-holds Inv-loop μ-loop
-loop-holds c = ?
+loop-holds c = search (filling, needs)
 
 -- src/reader.rt:32:41
 add-key-in : tie.Need-add-key-in Inv-loop μ-loop
-add-key-in c = ?
+add-key-in c = search needs
 
 -- src/reader.rt:32:13
 key-in-requires : tie.Need-key-in-requires Inv-loop μ-loop
-key-in-requires c κs = ?
+key-in-requires c κs = search needs
 
 -- src/reader.rt:33:41
 add-row-in : tie.Need-add-row-in Inv-loop μ-loop
-add-row-in c = ?
+add-row-in c = search needs
 
 -- src/reader.rt:33:13
 row-in-requires : tie.Need-row-in-requires Inv-loop μ-loop
-row-in-requires c κs = ?
+row-in-requires c κs = search needs
 
 -- src/reader.rt:34:9
 put-requires : tie.Need-put-requires Inv-loop μ-loop
-put-requires c κs = ?
+put-requires c κs = search needs
 
 -- src/reader.rt:35:9
 add-j : tie.Need-add-j Inv-loop μ-loop
-add-j c = ?
+add-j c = search needs
 
 -- src/reader.rt:31:5
 loop-less : tie.Need-loop-less Inv-loop μ-loop
-loop-less c = ?
+loop-less c = search needs
 
 -- src/reader.rt:31:5
 loop-again : tie.Need-loop-again Inv-loop μ-loop
-loop-again c = ?
+loop-again c = search (filling, needs)
 
 -- src/reader.rt:25:1
 returns : tie.Need-returns Inv-loop μ-loop
-returns c = ?
+returns c = search (filling, needs)
 
 pub fill-spec : {M : Type 1} → statement M
 fill-spec =
