@@ -24,19 +24,24 @@ longestTrace = 512
 unfoldable pub markingWithin : Set → Marking → Bool
 markingWithin events m = within (m .executed) events and within (m .pending) events and within (m .included) events
 
--- each row's set is within the events, and a row that is not empty stands at an event
-unfoldable pub rowsWithin : Set → List ℕ → Bool
-rowsWithin events rows = everyBelow width (λ a. within (rowAt rows a) events and (mem events a or isEmpty (rowAt rows a)))
+-- the row s of a is within the events, and where it is not empty a is an event
+unfoldable pub rowWithin : Set → ℕ → Set → Bool
+rowWithin events a s = within s events and (mem events a or isEmpty s)
 
--- each event is below A, and the marking and the rows are within the events
+-- each row of a relation is
+unfoldable pub rowsWithin : Set → List ℕ → Bool
+rowsWithin events rows = everyBelow width (λ a. rowWithin events a (rowAt rows a))
+
+-- all four relations are
+unfoldable pub relationsWithin : Set → List ℕ → List ℕ → List ℕ → List ℕ → Bool
+relationsWithin events c r i x = rowsWithin events c and rowsWithin events r and rowsWithin events i and rowsWithin events x
+
+-- each event is below A, and the opening marking and the relations are within the events
 unfoldable pub graphWithin : Graph → Bool
 graphWithin g =
     within (g .events) (those (λ a. ltb a (g .activities)))
     and markingWithin (g .events) (g .opening)
-    and rowsWithin (g .events) (g .conditions)
-    and rowsWithin (g .events) (g .responses)
-    and rowsWithin (g .events) (g .includes)
-    and rowsWithin (g .events) (g .excludes)
+    and relationsWithin (g .events) (g .conditions) (g .responses) (g .includes) (g .excludes)
 
 -- 3 for A, then 3 for the length of a trace beside it, then 5 for the graph
 unfoldable pub judgedFor : Graph → ℕ → Answer

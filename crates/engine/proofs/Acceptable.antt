@@ -1,0 +1,145 @@
+-- What an acceptable graph gives the crates above: its parts are within the events, a step keeps a marking there, and what
+-- is judged once need not be judged again. Assumes nothing.
+use mathlib.Core.Path.{_≡_, refl, sym, ap, subst, _∙_}
+use mathlib.Core.Bool.{Bool, true, false}
+use mathlib.Core.List.{List}
+use Prim.Native.Nat.{ℕ, _≤_, _<_}
+use native.Mathlib.Omega.{arith}
+use borrow.Author.Tests.{ltb-false, le-ltb}
+use lib.Dec.{T, eqb, ltb, eqb→eq}
+use lib.ListN.{length}
+use Rattle.sets.specs.Tests.{_and_, _or_, non, when_then_else_}
+use Rattle.sets.specs.Members.{width, mem, those, within}
+use Rattle.sets.specs.Rows.{rowAt, inRow}
+use Rattle.sets.specs.Answers.{isDone}
+use Rattle.sets.specs.declared.set.Set.{Set}
+use Rattle.sets.specs.declared.answer.Answer.{Answer}
+use Rattle.sets.specs.declared.answer.Answer.the-variants.{Done, AboveLimit, Outside, NoEvent, NotIncluded, Waiting}
+use Rattle.sets.proofs.Tests.{and-l, and-r, and-i, or-e, non-e, T→true, F→false, non-false, true→T, false→F, split, either}
+use Rattle.sets.proofs.Members.{those-e, within-e, within-i}
+use Rattle.sets.proofs.Below.{every-e}
+use Rattle.engine.specs.declared.marking.Marking.{Marking}
+use Rattle.engine.specs.declared.graph.Graph.{Graph}
+use Rattle.engine.specs.Relations.{Relations, relationsOf}
+use Rattle.engine.specs.Steps.{waits, enabled, after}
+use Rattle.engine.specs.Judged.{mostActivities, longestTrace, markingWithin, rowWithin, rowsWithin, relationsWithin, graphWithin, judgedFor, judged, judgedWith}
+use Rattle.engine.specs.Replay.{replayFrom, replayOf}
+
+-- ---- the parts of a chain of answers that is done
+
+-- a refusal that was not given: its test failed, and the rest is done
+passed : (t : Bool) (a b : Answer) → isDone a ≡ false → (when t then a else b) ≡ Done → (t ≡ false) × (b ≡ Done)
+passed true a b n h = absurd (false→F n (true→T (ap isDone h)))
+passed false a b n h = (refl, h)
+
+module _ (g : Graph) (n : ℕ) (h : judgedFor g n ≡ Done) where
+  -- the three tests of a judgement, none of which refused
+  tests : (ltb mostActivities (g .activities) ≡ false) × (ltb longestTrace n ≡ false) × (non (graphWithin g) ≡ false)
+  unfolding judgedFor
+  tests =
+      let a = passed _ _ _ refl h in
+      let b = passed _ _ _ refl (a .1) in
+      (a .0, b .0, passed _ _ _ refl (b .1) .0)
+
+  pub judged-activities : g .activities ≤ mostActivities
+  judged-activities = ltb-false mostActivities (g .activities) (tests .0)
+
+  pub judged-length : n ≤ longestTrace
+  judged-length = ltb-false longestTrace n (tests .1)
+
+  pub judged-within : T (graphWithin g)
+  judged-within = non-false (graphWithin g) (tests .2)
+
+-- ---- judged once: a trace of legal length and a marking within the events are no reason to refuse
+
+module _ (g : Graph) (h : judged g ≡ Done) where
+  pub judged-for : (n : ℕ) → n ≤ longestTrace → judgedFor g n ≡ Done
+  unfolding judgedFor
+  judged-for n l =
+      let t = tests g 0 h in
+      (λ j.
+      when t .0 j then AboveLimit
+      else when le-ltb longestTrace n l j then AboveLimit
+      else when t .2 j then Outside
+      else Done)
+
+  pub judged-with : (m : Marking) → T (markingWithin (g .events) m) → judgedWith g m ≡ Done
+  unfolding judgedWith
+  judged-with m w = λ j. when isDone (h j) then when T→true (markingWithin (g .events) m) w j then Done else Outside else h j
+
+  pub replay-judged : (trace : List ℕ) → length trace ≤ longestTrace
+      → replayOf g trace ≡ replayFrom (g .events) (relationsOf g) (g .opening) 0 trace
+  unfolding replayOf
+  replay-judged trace l = rw (judged-for (length trace) l)
+
+-- ---- within the events
+
+module _ (events : Set) (rows : List ℕ) (w : T (rowsWithin events rows)) (a : ℕ) (l : a < width) where
+  at : T (rowWithin events a (rowAt rows a))
+  unfolding rowsWithin
+  at = every-e width (λ b. rowWithin events b (rowAt rows b)) w a l
+
+  pub row-inside : T (within (rowAt rows a) events)
+  unfolding rowWithin
+  row-inside = and-l _ _ at
+
+  -- what stands in a row is an event
+  pub in-inside : (b : ℕ) → b < width → T (inRow rows a b) → T (mem events b)
+  unfolding inRow
+  in-inside b k t = within-e (rowAt rows a) events row-inside b k t
+
+module _ (events : Set) (m : Marking) where
+  pub marking-parts : T (markingWithin events m) → T (within (m .executed) events) × T (within (m .pending) events) × T (within (m .included) events)
+  unfolding markingWithin
+  marking-parts w = (and-l _ _ (and-l _ _ w), and-r _ _ (and-l _ _ w), and-r _ _ w)
+
+  pub marking-whole : T (within (m .executed) events) → T (within (m .pending) events) → T (within (m .included) events) → T (markingWithin events m)
+  unfolding markingWithin
+  marking-whole x p i = and-i _ _ (and-i _ _ x p) i
+
+module _ (g : Graph) (w : T (graphWithin g)) where
+  pub events-inside : T (within (g .events) (those (λ a. ltb a (g .activities))))
+  unfolding graphWithin
+  events-inside = and-l _ _ (and-l _ _ w)
+
+  pub opening-inside : T (markingWithin (g .events) (g .opening))
+  unfolding graphWithin
+  opening-inside = and-r _ _ (and-l _ _ w)
+
+  pub rows-inside : T (rowsWithin (g .events) (g .conditions)) × T (rowsWithin (g .events) (g .responses)) × T (rowsWithin (g .events) (g .includes)) × T (rowsWithin (g .events) (g .excludes))
+  unfolding graphWithin relationsWithin
+  rows-inside =
+      let r = and-r _ _ w in
+      let s = and-l _ _ r in
+      let t = and-l _ _ s in
+      (and-l _ _ t, and-r _ _ t, and-r _ _ s, and-r _ _ r)
+
+  -- the step of an event keeps the marking within the events
+  pub after-inside : (m : Marking) (e : ℕ) → e < width → T (mem (g .events) e) → T (markingWithin (g .events) m) → T (markingWithin (g .events) (after (relationsOf g) m e))
+  unfolding after
+  after-inside m e l ev k =
+      let p = marking-parts (g .events) m k in
+      let E = g .events in
+      marking-whole E (after (relationsOf g) m e)
+      (within-i _ E (λ a la t. either (or-e _ _ (those-e _ a t .1)) (λ x. within-e _ E (p .0) a la x) (λ x. subst (λ (b : ℕ). T (mem E b)) (sym (eqb→eq a e x)) ev)))
+      (within-i _ E (λ a la t. either (or-e _ _ (those-e _ a t .1)) (λ x. within-e _ E (p .1) a la (and-l _ _ x)) (λ x. in-inside E (g .responses) (rows-inside .1) e l a la x)))
+      (within-i _ E (λ a la t. either (or-e _ _ (those-e _ a t .1)) (λ x. within-e _ E (p .2) a la (and-l _ _ x)) (λ x. in-inside E (g .includes) (rows-inside .2) e l a la x)))
+
+-- ---- enabled
+
+module _ (events : Set) (r : Relations) (m : Marking) (e : ℕ) where
+  pub enabled-done : T (mem events e) → T (mem (m .included) e) → (T (waits r m e) → ⊥) → enabled events r m e ≡ Done
+  unfolding enabled non
+  enabled-done ev inc free =
+      (λ j.
+      when non (T→true (mem events e) ev j) then NoEvent
+      else when non (T→true (mem (m .included) e) inc j) then NotIncluded
+      else when F→false (waits r m e) free j then Waiting
+      else Done)
+
+  pub done-enabled : enabled events r m e ≡ Done → T (mem events e) × T (mem (m .included) e) × (T (waits r m e) → ⊥)
+  unfolding enabled
+  done-enabled h =
+      let a = passed _ _ _ refl h in
+      let b = passed _ _ _ refl (a .1) in
+      (non-false _ (a .0), non-false _ (b .0), false→F (passed (waits r m e) Waiting Done refl (b .1) .0))

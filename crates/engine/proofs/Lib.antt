@@ -1,0 +1,6 @@
+-- The modules of `proofs/` that belong to no one function.
+pub mod Ways
+pub mod Judging
+pub mod Stepping
+pub mod Running
+pub mod Acceptable
