@@ -4,14 +4,17 @@ use mathlib.Core.Bool.{Bool, true, false, cond}
 use mathlib.Core.List.{List, [], _∷_}
 use Prim.Native.Nat.{ℕ, zero, suc, _+_, _^_, _≤_, _<_}
 use native.Mathlib.Nat.{not-suc-le-zero, le-of-suc-le-suc, add-zero, add-suc, suc-add, zero-add}
-use borrow.Author.Tests.{lt-ltb, le-ltb}
-use lib.ListN.{length, getD, set}
+use native.Mathlib.Omega.{arith}
+use borrow.Author.Tests.{lt-ltb, le-ltb, ltb-true, ltb-false, eqb-true, eqb-false, ne-eqb}
+use lib.Dec.{eqb, ltb}
+use lib.ListN.{length, getD, set, length-set}
 use lib.Seq.{ext-getD, getD-set-same, getD-set-other}
-use Rattle.sets.specs.Tests.{_and_, _or_}
+use Rattle.sets.specs.Tests.{_and_, _or_, when_then_else_}
 use Rattle.sets.specs.Members.{width, bit, bitsOf, mem, those}
-use Rattle.sets.specs.Rows.{Relation, rowAt, withRow, inRow, listFrom, rowsOf}
+use Rattle.sets.specs.Rows.{Relation, noRows, rowAt, withRow, inRow, listFrom, rowsOf}
 use Rattle.sets.specs.declared.set.Set.{Set}
-use Rattle.sets.proofs.Bits.{is-bitsOf, bit-bitsOf}
+use Rattle.sets.proofs.Tests.{T→true, F→false, split, either, or-false, true-and, false-and}
+use Rattle.sets.proofs.Bits.{is-bitsOf, bit-bitsOf, bitsOf-ext}
 
 -- ---- reading and writing a row
 
@@ -79,6 +82,10 @@ unfolding inRow
 in-rowsOf r a b ha hb =
     ap (λ (s : Set). mem s b) (sym (row-in (rowsOf r) a ha)) ∙ ap (λ (x : ℕ). bit x b) (getD-rowsOf r a ha) ∙ bit-bitsOf width (r a) b hb
 
+pub row-mem : (r : Relation) (a b : ℕ) → a < width → b < width → mem (rowAt (rowsOf r) a) b ≡ r a b
+unfolding inRow
+row-mem r a b ha hb = in-rowsOf r a b ha hb
+
 -- rows that have a relation's members are the relation's rows
 pub rows-are : (rows : List ℕ) (r : Relation) → length rows ≡ width → ((a : ℕ) → a < width → getD rows a 0 < 2 ^ width)
     → ((a b : ℕ) → a < width → b < width → inRow rows a b ≡ r a b) → rows ≡ rowsOf r
@@ -88,3 +95,65 @@ rows-are rows r len small f =
     (λ a h.
     let l : a < width = subst (λ (n : ℕ). a < n) len h in
     is-bitsOf width (getD rows a 0) (r a) (small a l) (λ b hb. ap (λ (s : Set). mem s b) (row-in rows a l) ∙ f a b l hb) ∙ sym (getD-rowsOf r a l))
+
+pub rowsOf-ext : (r q : Relation) → ((a b : ℕ) → a < width → b < width → r a b ≡ q a b) → rowsOf r ≡ rowsOf q
+rowsOf-ext r q e =
+    ext-getD 0 (rowsOf r) (rowsOf q) (length-rowsOf r ∙ sym (length-rowsOf q))
+    (λ a h.
+    let l : a < width = subst (λ (n : ℕ). a < n) (length-rowsOf r) h in
+    getD-rowsOf r a l ∙ bitsOf-ext width (r a) (q a) (λ b hb. e a b l hb) ∙ sym (getD-rowsOf q a l))
+
+-- rows without a member are those of the relation without a pair
+pub empty-rowsOf : (r : Relation) → ((a b : ℕ) → a < width → b < width → r a b ≡ false) → noRows ≡ rowsOf r
+unfolding rowsOf listFrom bitsOf
+empty-rowsOf r e = sym (rowsOf-ext r (λ a b. false) e)
+
+-- a row that is put into a relation's rows: the others stay
+pub put-rowsOf : (r : Relation) (k : ℕ) (p : ℕ → Bool) → withRow (rowsOf r) k (those p) ≡ rowsOf (λ a b. when eqb a k then p b else r a b)
+put-rowsOf r k p = either (split (ltb k width)) (λ h. inside (ltb-true k width (T→true _ h))) (λ h. past (ltb-false k width (F→false _ h)))
+  where
+    q : Relation
+    q a b = when eqb a k then p b else r a b
+
+    at : k < width → (a : ℕ) → a < width → (t : Bool) → eqb a k ≡ t → getD (set (rowsOf r) k (those p .bits)) a 0 ≡ getD (rowsOf q) a 0
+    at l a h true e =
+        let same : a ≡ k = eqb-true a k e in
+        ap (λ (n : ℕ). getD (set (rowsOf r) k (those p .bits)) n 0) same
+        ∙ getD-set-same (rowsOf r) k (those p .bits) 0 (subst (λ (n : ℕ). k < n) (sym (length-rowsOf r)) l)
+        ∙ bitsOf-ext width p (q a) (λ b hb. sym (ap (λ (t : Bool). when t then p b else r a b) e))
+        ∙ sym (getD-rowsOf q a h)
+    at l a h false e =
+        getD-set-other (rowsOf r) k a (those p .bits) 0 (eqb-false a k e)
+        ∙ getD-rowsOf r a h
+        ∙ bitsOf-ext width (r a) (q a) (λ b hb. sym (ap (λ (t : Bool). when t then p b else r a b) e))
+        ∙ sym (getD-rowsOf q a h)
+
+    inside : k < width → withRow (rowsOf r) k (those p) ≡ rowsOf q
+    inside l =
+        sym (put-in (rowsOf r) k (those p) l)
+        ∙ ext-getD 0 (set (rowsOf r) k (those p .bits)) (rowsOf q) (length-set (rowsOf r) k (those p .bits) ∙ length-rowsOf r ∙ sym (length-rowsOf q))
+        (λ a h. at l a (subst (λ (n : ℕ). a < n) (length-set (rowsOf r) k (those p .bits) ∙ length-rowsOf r) h) (eqb a k) refl)
+
+    past : width ≤ k → withRow (rowsOf r) k (those p) ≡ rowsOf q
+    past g =
+        sym (put-out (rowsOf r) k (those p) g)
+        ∙ rowsOf-ext r q (λ a b ha hb. sym (ap (λ (t : Bool). when t then p b else r a b) (ne-eqb a k (λ e. omega arith))))
+
+-- a row of a relation's rows that gains those that pass: what a pass over a log does at each event
+pub gain-rowsOf : (r : Relation) (k : ℕ) (p : ℕ → Bool)
+    → withRow (rowsOf r) k (those (λ b. mem (rowAt (rowsOf r) k) b or p b)) ≡ rowsOf (λ a b. r a b or eqb a k and p b)
+gain-rowsOf r k p =
+    put-rowsOf r k (λ b. mem (rowAt (rowsOf r) k) b or p b)
+    ∙ rowsOf-ext (λ a b. when eqb a k then (mem (rowAt (rowsOf r) k) b or p b) else r a b) (λ a b. r a b or eqb a k and p b) (λ a b ha hb. pick a b ha hb (eqb a k) refl)
+  where
+    pick : (a b : ℕ) → a < width → b < width → (t : Bool) → eqb a k ≡ t
+        → (when eqb a k then (mem (rowAt (rowsOf r) k) b or p b) else r a b) ≡ (r a b or eqb a k and p b)
+    pick a b ha hb true e =
+        let same : a ≡ k = eqb-true a k e in
+        ap (λ (t : Bool). when t then (mem (rowAt (rowsOf r) k) b or p b) else r a b) e
+        ∙ ap (λ (t : Bool). t or p b) (ap (λ (n : ℕ). mem (rowAt (rowsOf r) n) b) (sym same) ∙ row-mem r a b ha hb)
+        ∙ ap (λ (t : Bool). r a b or t) (sym (true-and (p b)) ∙ ap (λ (t : Bool). t and p b) (sym e))
+    pick a b ha hb false e =
+        ap (λ (t : Bool). when t then (mem (rowAt (rowsOf r) k) b or p b) else r a b) e
+        ∙ sym (or-false (r a b))
+        ∙ ap (λ (t : Bool). r a b or t) (sym (false-and (p b)) ∙ ap (λ (t : Bool). t and p b) (sym e))

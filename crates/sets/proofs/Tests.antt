@@ -131,3 +131,11 @@ pub or-false : (a : Bool) → (a or false) ≡ a
 unfolding _or_
 or-false true = refl
 or-false false = refl
+
+pub true-and : (a : Bool) → (true and a) ≡ a
+unfolding _and_
+true-and a = refl
+
+pub false-and : (a : Bool) → (false and a) ≡ false
+unfolding _and_
+false-and a = refl
