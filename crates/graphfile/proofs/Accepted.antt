@@ -119,7 +119,7 @@ acceptable bytes a =
 
 -- ---- what the code goes on by
 
-code-done : (a x : Answer) (d : Bool) → a ≡ x → d ≡ isDone a → not d ≡ false → x ≡ Done
+pub code-done : (a x : Answer) (d : Bool) → a ≡ x → d ≡ isDone a → not d ≡ false → x ≡ Done
 code-done a x d e t n = sym e ∙ done-is a (true→T (sym t ∙ not-false d n))
 
 pub end-within : (bytes : List ℕ) (end : Answer) (d : Bool) → end ≡ judgedEnd bytes → d ≡ isDone end → not d ≡ false → endOf bytes ≤ length bytes

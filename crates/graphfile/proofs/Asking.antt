@@ -22,12 +22,12 @@ use Rattle.graphfile.specs.Refusals.{mostRows, same, inTurn, judgedHead,
 
 -- ---- one question, then the next
 
-refused : (a x b : Answer) (d : Bool) → a ≡ x → d ≡ isDone a → not d ≡ true → a ≡ thenAsk x b
+pub refused : (a x b : Answer) (d : Bool) → a ≡ x → d ≡ isDone a → not d ≡ true → a ≡ thenAsk x b
 refused a x b d e h n =
     let f : isDone x ≡ false = ap isDone (sym e) ∙ sym h ∙ not-true d n in
     e ∙ sym (ap (λ (t : Bool). when t then b else x) f)
 
-passed : (a x b : Answer) (d : Bool) → a ≡ x → d ≡ isDone a → not d ≡ false → thenAsk x b ≡ b
+pub passed : (a x b : Answer) (d : Bool) → a ≡ x → d ≡ isDone a → not d ≡ false → thenAsk x b ≡ b
 passed a x b d e h n =
     let f : isDone x ≡ true = ap isDone (sym e) ∙ sym h ∙ not-false d n in
     ap (λ (t : Bool). when t then b else x) f

@@ -17,7 +17,7 @@ use Rattle.engine.specs.declared.graph.Graph.{Graph}
 use Rattle.graphfile.specs.declared.reader.Reading.{Reading}
 use Rattle.graphfile.specs.Layout.{activitiesIn, eventsIn, markingIn, countIn, earlierRows, keyIn, rowIn}
 use Rattle.graphfile.specs.Refusals.{judgedFile}
-use Rattle.graphfile.specs.Held.{filled, relationIn, graphOf, emptyGraph, readOf}
+use Rattle.graphfile.specs.Held.{filled, relationIn, graphIn, emptyGraph, readOf}
 
 -- ---- row by row: what is left to fill in, filled in, gives the whole
 
@@ -63,8 +63,8 @@ pub graph-held : (bytes : List ℕ) (s : Set) (m : Marking) (c r i e : List ℕ)
     → s ≡ eventsIn bytes → m ≡ markingIn bytes → c ≡ relationIn bytes 0 → r ≡ relationIn bytes 1 → i ≡ relationIn bytes 2 → e ≡ relationIn bytes 3
     → _≡_ {A = Graph}
     (record { activities = activitiesIn bytes; events = s; opening = m; conditions = c; responses = r; includes = i; excludes = e })
-    (graphOf bytes)
-unfolding graphOf
+    (graphIn bytes)
+unfolding graphIn
 graph-held bytes s m c r i e hs hm hc hr hi he = graph-of _ s _ m _ c _ r _ i _ e _ hs hm hc hr hi he
 
 pub graph-empty : (c r i e : List ℕ) → c ≡ noRows → r ≡ noRows → i ≡ noRows → e ≡ noRows
@@ -75,10 +75,10 @@ graph-empty c r i e hc hr hi he = graph-of 0 noSet noSet emptyMarking emptyMarki
 
 -- ---- a read
 
-reading-of : (bytes : List ℕ) (a : Answer) (d : Bool) (g : Graph) → a ≡ judgedFile bytes → isDone (judgedFile bytes) ≡ d → g ≡ when d then graphOf bytes else emptyGraph
+reading-of : (bytes : List ℕ) (a : Answer) (d : Bool) (g : Graph) → a ≡ judgedFile bytes → isDone (judgedFile bytes) ≡ d → g ≡ when d then graphIn bytes else emptyGraph
     → _≡_ {A = Reading} (record { answer = a; graph = g }) (readOf bytes)
 unfolding readOf
-reading-of bytes a d g e t h = λ i. record { answer = e i; graph = (h ∙ ap (λ (b : Bool). when b then graphOf bytes else emptyGraph) (sym t)) i }
+reading-of bytes a d g e t h = λ i. record { answer = e i; graph = (h ∙ ap (λ (b : Bool). when b then graphIn bytes else emptyGraph) (sym t)) i }
 
 module _ (bytes : List ℕ) (a : Answer) (d : Bool) (g : Graph) (e : a ≡ judgedFile bytes) (t : d ≡ isDone a) where
   answered : (b : Bool) → d ≡ b → isDone (judgedFile bytes) ≡ b
@@ -87,7 +87,7 @@ module _ (bytes : List ℕ) (a : Answer) (d : Bool) (g : Graph) (e : a ≡ judge
   pub read-refused : not d ≡ true → g ≡ emptyGraph → _≡_ {A = Reading} (record { answer = a; graph = g }) (readOf bytes)
   read-refused n h = reading-of bytes a false g e (answered false (not-true d n)) h
 
-  pub read-accepted : not d ≡ false → g ≡ graphOf bytes → _≡_ {A = Reading} (record { answer = a; graph = g }) (readOf bytes)
+  pub read-accepted : not d ≡ false → g ≡ graphIn bytes → _≡_ {A = Reading} (record { answer = a; graph = g }) (readOf bytes)
   read-accepted n h = reading-of bytes a true g e (answered true (not-false d n)) h
 
 pub ruleset reads = (read-refused, read-accepted)

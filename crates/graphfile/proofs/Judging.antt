@@ -111,28 +111,6 @@ pub ruleset row-by-row = (rises-first, rises-next, row-key, row-set, row-empty, 
 
 -- ---- the head
 
-module _ (bytes : List ℕ) (events x : Set) (t : Bool) (hx : x ≡ setAt bytes 12) (ht : t ≡ within x events) where
-  marking-are : (p i : Set) (a b c : Bool) → p ≡ setAt bytes 20 → i ≡ setAt bytes 28 → within x events ≡ a → within p events ≡ b → within i events ≡ c
-      → (a and b and c) ≡ markingWithin events (markingIn bytes)
-  unfolding markingWithin
-  marking-are p i a b c hp hi ea eb ec =
-      sym (λ k. ea k and eb k and ec k) ∙ (λ k. within (hx k) events and within (hp k) events and within (hi k) events)
-
-  pub marking-executed : not t ≡ true → false ≡ markingWithin events (markingIn bytes)
-  unfolding _and_
-  marking-executed n = marking-are _ _ false _ _ refl refl (sym ht ∙ not-true t n) refl refl
-
-  module _ (nt : not t ≡ false) (p : Set) (u : Bool) (hp : p ≡ setAt bytes 20) (hu : u ≡ within p events) where
-    pub marking-pending : not u ≡ true → false ≡ markingWithin events (markingIn bytes)
-    unfolding _and_
-    marking-pending n = marking-are p _ true false _ hp refl (sym ht ∙ not-false t nt) (sym hu ∙ not-true u n) refl
-
-    pub marking-included : not u ≡ false → (i : Set) (v : Bool) → i ≡ setAt bytes 28 → v ≡ within i events → v ≡ markingWithin events (markingIn bytes)
-    unfolding _and_
-    marking-included n i v hi hv = marking-are p i true true v hp hi (sym ht ∙ not-false t nt) (sym hu ∙ not-false u n) (sym hv)
-
-pub ruleset markings = (marking-executed, marking-pending, marking-included)
-
 -- the answer to a head by what was found: the letters right, A above its limit, the events below A, the marking within them
 abbrev headAnswer : Bool → Bool → Bool → Bool → Answer
 headAnswer right above low within = when non right then WrongLetters else when above then AboveLimit else when non low then Outside else when non within then Outside else Done
@@ -160,11 +138,11 @@ module _ (bytes : List ℕ) (l : Bool) (hl : l ≡ same (take 3 bytes) letters) 
       unfolding non
       head-events n = head-is true false false _ (not-false l nl) (le-ltb mostActivities (activitiesIn bytes) na) (low-is false (not-true t n)) refl
 
-      module _ (nt : not t ≡ false) (m : Bool) (hm : m ≡ markingWithin events (markingIn bytes)) where
+      module _ (nt : not t ≡ false) (marking : Marking) (m : Bool) (hk : marking ≡ markingIn bytes) (hm : m ≡ markingWithin events marking) where
         marked : (b : Bool) → m ≡ b → headAnswer true false true b ≡ judgedHead bytes
         marked b e =
             head-is true false true b (not-false l nl) (le-ltb mostActivities (activitiesIn bytes) na) (low-is true (not-false t nt))
-            (ap (λ (s : Set). markingWithin s (markingIn bytes)) (sym he) ∙ sym hm ∙ e)
+            (sym (ap₂ markingWithin he hk) ∙ sym hm ∙ e)
 
         pub head-marking : not m ≡ true → Outside ≡ judgedHead bytes
         unfolding non

@@ -5,3 +5,6 @@ pub mod Asking
 pub mod Judging
 pub mod Accepted
 pub mod Filling
+pub mod Stores
+pub mod RowStores
+pub mod Writes

@@ -5,6 +5,7 @@ use Rattle.sets.specs.Tests.{when_then_else_}
 use Rattle.sets.specs.Rows.{noRows, withRow}
 use Rattle.sets.specs.Answers.{isDone}
 use Rattle.engine.specs.Markings.{noSet, emptyMarking}
+use Rattle.engine.specs.Relations.{graphOf}
 use Rattle.engine.specs.declared.graph.Graph.{Graph}
 use Rattle.graphfile.specs.declared.reader.Reading.{Reading}
 use Rattle.graphfile.specs.Layout.{activitiesIn, eventsIn, markingIn, countIn, earlierRows, keyIn, rowIn}
@@ -20,35 +21,19 @@ unfoldable pub relationIn : List ℕ → ℕ → List ℕ
 relationIn bytes r = filled bytes noRows (countIn bytes r) (earlierRows bytes r)
 
 -- the graph of an accepted file
-unfoldable pub graphOf : List ℕ → Graph
-graphOf bytes =
-    record {
-      activities = activitiesIn bytes;
-      events = eventsIn bytes;
-      opening = markingIn bytes;
-      conditions = relationIn bytes 0;
-      responses = relationIn bytes 1;
-      includes = relationIn bytes 2;
-      excludes = relationIn bytes 3;
-    }
+unfoldable pub graphIn : List ℕ → Graph
+graphIn bytes =
+    graphOf (activitiesIn bytes) (eventsIn bytes) (markingIn bytes)
+    (relationIn bytes 0) (relationIn bytes 1) (relationIn bytes 2) (relationIn bytes 3)
 
 -- A 0, empty sets, empty rows
 abbrev pub emptyGraph : Graph
-emptyGraph =
-    record {
-      activities = 0;
-      events = noSet;
-      opening = emptyMarking;
-      conditions = noRows;
-      responses = noRows;
-      includes = noRows;
-      excludes = noRows;
-    }
+emptyGraph = graphOf 0 noSet emptyMarking noRows noRows noRows noRows
 
 -- a read: the file's answer, and its graph; the empty graph where refused (01, "Nothing else")
 unfoldable pub readOf : List ℕ → Reading
 readOf bytes =
     record {
       answer = judgedFile bytes;
-      graph = when isDone (judgedFile bytes) then graphOf bytes else emptyGraph;
+      graph = when isDone (judgedFile bytes) then graphIn bytes else emptyGraph;
     }

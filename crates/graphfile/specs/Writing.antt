@@ -10,38 +10,42 @@ use Rattle.sets.specs.Answers.{isDone}
 use Rattle.sets.specs.declared.set.Set.{Set}
 use Rattle.sets.specs.declared.answer.Answer.{Answer}
 use Rattle.sets.specs.declared.answer.Answer.the-variants.{Done, BufferTooSmall}
+use Rattle.engine.specs.declared.marking.Marking.{Marking}
 use Rattle.engine.specs.declared.graph.Graph.{Graph}
 use Rattle.engine.specs.Judged.{judged, thenAsk}
 use Rattle.graphfile.specs.declared.writer.Written.{Written}
 use Rattle.graphfile.specs.Numbers.{littleEndian}
 use Rattle.graphfile.specs.Layout.{letters, rowLength}
 
--- the keys of the rows that are not empty, rising: of n activities from a on
-unfoldable pub keysFrom : List ℕ → ℕ → ℕ → List ℕ
-keysFrom rows zero a = []
-keysFrom rows (suc n) a = when isEmpty (rowAt rows a) then keysFrom rows n (suc a) else a ∷ keysFrom rows n (suc a)
-
-abbrev pub keysOf : List ℕ → List ℕ
-keysOf rows = keysFrom rows width 0
-
--- how many rows of a relation the file has
-abbrev pub rowCount : List ℕ → ℕ
-rowCount rows = length (keysOf rows)
-
--- how many rows the file has
-abbrev pub rowsOf : Graph → ℕ
-rowsOf g = rowCount (g .conditions) + rowCount (g .responses) + rowCount (g .includes) + rowCount (g .excludes)
-
 abbrev pub setBytes : Set → List ℕ
 setBytes s = littleEndian 8 (s .bits)
 
--- the rows at these keys, each a key and a set
-unfoldable pub rowBytes : List ℕ → List ℕ → List ℕ
-rowBytes rows [] = []
-rowBytes rows (k ∷ keys) = (k ∷ setBytes (rowAt rows k)) ++ rowBytes rows keys
+-- the row of an activity: a key and a set; nothing where the set is empty
+unfoldable pub rowOf : ℕ → Set → List ℕ
+rowOf a s = when isEmpty s then [] else a ∷ setBytes s
 
+unfoldable pub rowsFor : Set → ℕ
+rowsFor s = when isEmpty s then 0 else 1
+
+-- the rows of n activities from a on, so that keys rise; and how many there are
+unfoldable pub rowsFrom : List ℕ → ℕ → ℕ → List ℕ
+rowsFrom rows zero a = []
+rowsFrom rows (suc n) a = rowOf a (rowAt rows a) ++ rowsFrom rows n (suc a)
+
+unfoldable pub countFrom : List ℕ → ℕ → ℕ → ℕ
+countFrom rows zero a = 0
+countFrom rows (suc n) a = rowsFor (rowAt rows a) + countFrom rows n (suc a)
+
+-- a relation's rows in the file, and how many there are
 abbrev pub relationBytes : List ℕ → List ℕ
-relationBytes rows = rowBytes rows (keysOf rows)
+relationBytes rows = rowsFrom rows width 0
+
+abbrev pub rowCount : List ℕ → ℕ
+rowCount rows = countFrom rows width 0
+
+-- how many rows the file has
+abbrev pub rowTotal : Graph → ℕ
+rowTotal g = rowCount (g .conditions) + rowCount (g .responses) + rowCount (g .includes) + rowCount (g .excludes)
 
 -- an entry: 9 times the earlier rows, and the number of rows
 abbrev pub entryBytes : ℕ → ℕ → List ℕ
@@ -51,25 +55,24 @@ entryBytes earlier count = littleEndian 2 (rowLength * earlier) ++ littleEndian 
 unfoldable pub entriesBytes : ℕ → ℕ → ℕ → ℕ → List ℕ
 entriesBytes c r i e = entryBytes 0 c ++ entryBytes c r ++ entryBytes (c + r) i ++ entryBytes (c + r + i) e
 
+-- executed, pending, included
+unfoldable pub markingBytes : Marking → List ℕ
+markingBytes m = setBytes (m .executed) ++ setBytes (m .pending) ++ setBytes (m .included)
+
 -- the letters, the edition, A and the four sets
-unfoldable pub openingBytes : Graph → List ℕ
-openingBytes g =
-    letters
-    ++ (g .activities ∷ [])
-    ++ setBytes (g .events)
-    ++ setBytes (g .opening .executed)
-    ++ setBytes (g .opening .pending)
-    ++ setBytes (g .opening .included)
+unfoldable pub openingBytes : ℕ → Set → Marking → List ℕ
+openingBytes activities events m = letters ++ (activities ∷ []) ++ setBytes events ++ markingBytes m
+
+-- the rows of the four relations
+unfoldable pub relationsBytes : List ℕ → List ℕ → List ℕ → List ℕ → List ℕ
+relationsBytes c r i e = relationBytes c ++ relationBytes r ++ relationBytes i ++ relationBytes e
 
 -- the whole file
 unfoldable pub bytesOf : Graph → List ℕ
 bytesOf g =
-    openingBytes g
+    openingBytes (g .activities) (g .events) (g .opening)
     ++ entriesBytes (rowCount (g .conditions)) (rowCount (g .responses)) (rowCount (g .includes)) (rowCount (g .excludes))
-    ++ relationBytes (g .conditions)
-    ++ relationBytes (g .responses)
-    ++ relationBytes (g .includes)
-    ++ relationBytes (g .excludes)
+    ++ relationsBytes (g .conditions) (g .responses) (g .includes) (g .excludes)
 
 -- a write into so many bytes: 3 and 5 for the graph, then 7
 unfoldable pub judgedWrite : Graph → ℕ → Answer

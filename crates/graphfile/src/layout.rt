@@ -2,9 +2,10 @@
 ghost use mathlib.Core.Path.{_≡_};
 ghost use Prim.Native.Nat.{_+_, _*_, _≤_, _<_};
 ghost use lib.ListN.{length, take};
-ghost use Rattle.graphfile.specs.Layout.{letters, headLength, rowLength, relationCount, setAt, offsetIn, countIn, earlierRows, keyIn, rowIn};
+ghost use Rattle.graphfile.specs.Layout.{letters, headLength, rowLength, relationCount, setAt, markingIn, offsetIn, countIn, earlierRows, keyIn, rowIn};
 ghost use Rattle.graphfile.specs.Refusals.{same};
 use crate::number::number_at;
+use engine::Marking;
 use sets::Set;
 
 // The two letters and the edition.
@@ -53,6 +54,16 @@ pub fn set_at(bytes: &[u8], at: usize) -> Set
     Set {
         bits: number_at(bytes, at, 8),
     }
+}
+
+pub fn marking_in(bytes: &[u8]) -> Marking
+    requires { ⌜ headLength ≤ length (now bytes) ⌝ }
+    ensures { λ r. ⌜ r ≡ markingIn (now (bytes .entry)) ⌝ }
+{
+    let executed = set_at(bytes, EXECUTED);
+    let pending = set_at(bytes, PENDING);
+    let included = set_at(bytes, INCLUDED);
+    Marking::of(executed, pending, included)
 }
 
 pub fn offset_in(bytes: &[u8], r: usize) -> usize

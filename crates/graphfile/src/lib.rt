@@ -8,3 +8,4 @@ pub mod writer;
 pub use reader::Reading;
 pub use reader::read;
 pub use writer::Written;
+pub use writer::write;

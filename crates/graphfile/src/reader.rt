@@ -3,8 +3,8 @@ ghost use mathlib.Core.Path.{_≡_};
 ghost use Prim.Native.Nat.{_+_, _*_, _≤_, _<_};
 ghost use lib.ListN.{length};
 ghost use Rattle.sets.specs.Rows.{noRows};
-ghost use Rattle.graphfile.specs.Layout.{headLength, rowLength, relationCount, markingIn, endOf};
-ghost use Rattle.graphfile.specs.Held.{filled, relationIn, graphOf, emptyGraph, readOf};
+ghost use Rattle.graphfile.specs.Layout.{headLength, rowLength, relationCount, endOf};
+ghost use Rattle.graphfile.specs.Held.{filled, relationIn, graphIn, emptyGraph, readOf};
 use crate::layout;
 use crate::refusal::judge;
 use engine::Graph;
@@ -46,22 +46,12 @@ fn relation_in(bytes: &[u8], r: usize) -> Rows
     fill(bytes, count, first)
 }
 
-fn marking_in(bytes: &[u8]) -> Marking
-    requires { ⌜ headLength ≤ length (now bytes) ⌝ }
-    ensures { λ r. ⌜ r ≡ markingIn (now (bytes .entry)) ⌝ }
-{
-    let executed = layout::set_at(bytes, layout::EXECUTED);
-    let pending = layout::set_at(bytes, layout::PENDING);
-    let included = layout::set_at(bytes, layout::INCLUDED);
-    Marking::of(executed, pending, included)
-}
-
 fn graph_in(bytes: &[u8]) -> Graph
     requires { ⌜ endOf (now bytes) ≤ length (now bytes) ⌝ }
-    ensures { λ r. ⌜ r ≡ graphOf (now (bytes .entry)) ⌝ }
+    ensures { λ r. ⌜ r ≡ graphIn (now (bytes .entry)) ⌝ }
 {
     let events = layout::set_at(bytes, layout::EVENTS);
-    let opening = marking_in(bytes);
+    let opening = layout::marking_in(bytes);
     let conditions = relation_in(bytes, 0);
     let responses = relation_in(bytes, 1);
     let includes = relation_in(bytes, 2);

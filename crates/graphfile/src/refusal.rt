@@ -2,29 +2,16 @@
 ghost use mathlib.Core.Path.{_≡_};
 ghost use Prim.Native.Nat.{_+_, _*_, _≤_, _<_};
 ghost use lib.ListN.{length};
-ghost use Rattle.engine.specs.Judged.{markingWithin};
-ghost use Rattle.graphfile.specs.Layout.{headLength, rowLength, relationCount, markingIn, endOf};
+ghost use Rattle.graphfile.specs.Layout.{headLength, rowLength, relationCount, endOf};
 ghost use Rattle.graphfile.specs.Refusals.{inTurn, judgedHead, judgedEntry, judgedEnd, rises, judgedRow, judgedRelation, judgedFile};
 use crate::layout;
+use engine::judge::marking_within;
 use sets::Activity;
 use sets::Answer;
 use sets::Set;
 
 // The greatest number of rows of a relation.
 const MOST_ROWS: usize = 64;
-
-fn marking_within(bytes: &[u8], events: Set) -> bool
-    requires { ⌜ headLength ≤ length (now bytes) ⌝ }
-    ensures { λ r. ⌜ r ≡ markingWithin events (markingIn (now (bytes .entry))) ⌝ }
-{
-    if !layout::set_at(bytes, layout::EXECUTED).is_within(events) {
-        return false;
-    }
-    if !layout::set_at(bytes, layout::PENDING).is_within(events) {
-        return false;
-    }
-    layout::set_at(bytes, layout::INCLUDED).is_within(events)
-}
 
 fn judge_head(bytes: &[u8]) -> Answer
     requires { ⌜ headLength ≤ length (now bytes) ⌝ }
@@ -41,7 +28,7 @@ fn judge_head(bytes: &[u8]) -> Answer
     if !events.is_within(Set::below(activities)) {
         return Answer::Outside;
     }
-    if !marking_within(bytes, events) {
+    if !marking_within(events, layout::marking_in(bytes)) {
         return Answer::Outside;
     }
     Answer::Done

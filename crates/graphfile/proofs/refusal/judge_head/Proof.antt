@@ -27,6 +27,9 @@ is-within-requires c κs = search needs
 returns-3 : tie.Need-returns-3
 returns-3 c = search (heads, needs)
 
+marking-in-requires : tie.Need-marking-in-requires
+marking-in-requires c κs = search needs
+
 marking-within-requires : tie.Need-marking-within-requires
 marking-within-requires c κs = search needs
 
@@ -48,6 +51,7 @@ judge-head-spec =
     below-requires
     is-within-requires
     returns-3
+    marking-in-requires
     marking-within-requires
     returns-4
     returns-5)

@@ -1,7 +1,7 @@
 use borrow.Author.Needs.{needs}
 use Rattle.graphfile.proofs.Places.{marking-is}
-use Rattle.graphfile.proofs.reader.marking_in.Statement.{statement}
-use Rattle.graphfile.proofs.reader.marking_in.Tie as tie
+use Rattle.graphfile.proofs.layout.marking_in.Statement.{statement}
+use Rattle.graphfile.proofs.layout.marking_in.Tie as tie
 
 set-at-requires : tie.Need-set-at-requires
 set-at-requires c κs = search needs
