@@ -7,7 +7,7 @@ use native.Mathlib.Omega.{arith}
 use lib.Arith.{lt-one, digits-lt}
 use lib.Dec.{lit<}
 use lib.ListN.{length, getD, take, drop, set}
-use lib.Seq.{drop-cons, sets}
+use lib.Seq.{drop-cons, getD-drop, sets}
 use Rattle.graphfile.specs.Numbers.{littleEndian, valueOf, numberAt}
 
 -- ---- reading: from the highest byte down
@@ -83,3 +83,45 @@ put-none out whole at n i rest h e =
     ap (λ (k : ℕ). sets out (at + i) (littleEndian k rest)) (sym none) ∙ e
 
 pub ruleset writing = (put-all, put-turn, put-none)
+
+-- ---- the round trips
+
+-- the members of a list are bytes
+abbrev pub Bytes : List ℕ → Type 0
+Bytes l = (k : ℕ) → getD l k 0 < 256
+
+pub bytes-drop : (l : List ℕ) (at : ℕ) → Bytes l → Bytes (drop at l)
+bytes-drop l at h k = subst (λ (b : ℕ). b < 256) (sym (getD-drop at l k 0)) (h (at + k))
+
+pub bytes-take : (l : List ℕ) (n : ℕ) → Bytes l → Bytes (take n l)
+bytes-take l zero h k = lit< tt
+bytes-take [] (suc n) h k = h k
+bytes-take (b ∷ l) (suc n) h zero = h 0
+bytes-take (b ∷ l) (suc n) h (suc k) = bytes-take l n (λ i. h (suc i)) k
+
+-- a number that fits n bytes, put down and read
+pub value-number : (n x : ℕ) → x < 256 ^ n → valueOf (littleEndian n x) ≡ x
+unfolding littleEndian valueOf
+value-number zero x h = sym (lt-one h)
+value-number (suc n) x h =
+    let k : x < 256 ^ n * 256 = subst (λ (p : ℕ). x < p) (bytes-pow n) h in
+    let high : valueOf (littleEndian n (x / 256)) ≡ x / 256 = value-number n (x / 256) (omega arith) in
+    omega arith
+
+-- bytes, read and put down
+pub number-value : (l : List ℕ) → Bytes l → littleEndian (length l) (valueOf l) ≡ l
+unfolding littleEndian valueOf
+number-value [] h = refl
+number-value (b ∷ l) h =
+    let small : b < 256 = h 0 in
+    let low : (b + 256 * valueOf l) % 256 ≡ b = omega arith in
+    let high : (b + 256 * valueOf l) / 256 ≡ valueOf l = omega arith in
+    ap₂ _∷_ low (ap (littleEndian (length l)) high ∙ number-value l (λ k. h (suc k)))
+
+pub value-below : (l : List ℕ) → Bytes l → valueOf l < 256 ^ length l
+unfolding valueOf
+value-below [] h = lit< tt
+value-below (b ∷ l) h =
+    let small : b < 256 = h 0 in
+    let rest = value-below l (λ k. h (suc k)) in
+    subst (λ (p : ℕ). b + 256 * valueOf l < p) (sym (bytes-pow (length l))) (omega arith)

@@ -8,3 +8,5 @@ pub mod Filling
 pub mod Stores
 pub mod RowStores
 pub mod Writes
+pub mod Parts
+pub mod Legal
