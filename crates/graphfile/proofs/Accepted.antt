@@ -117,6 +117,49 @@ acceptable bytes a =
     ∙ done-turns (judgedRow bytes (earlierRows bytes r)) (countIn bytes r) 0
     (λ j m. ap (judgedRow bytes (earlierRows bytes r)) (zero-add j) ∙ a .row r l j m))))))
 
+-- ---- the head and an entry
+
+pub record Head (bytes : List ℕ) : Type 0 where
+  pub opens : T (same (take 3 bytes) letters)
+  pub few : activitiesIn bytes ≤ mostActivities
+  pub events : T (within (eventsIn bytes) (those (λ a. ltb a (activitiesIn bytes))))
+  pub marking : T (markingWithin (eventsIn bytes) (markingIn bytes))
+
+pub head-done : (bytes : List ℕ) → judgedHead bytes ≡ Done → Head bytes
+unfolding judgedHead
+head-done bytes h =
+    let two = else-done (non (same (take 3 bytes) letters)) WrongLetters _ (λ t. t) h in
+    let three = else-done (ltb mostActivities (activitiesIn bytes)) AboveLimit _ (λ t. t) (two .1) in
+    let low = else-done (non (within (eventsIn bytes) (those (λ a. ltb a (activitiesIn bytes))))) Outside _ (λ t. t) (three .1) in
+    let five = else-done (non (markingWithin (eventsIn bytes) (markingIn bytes))) Outside Done (λ t. t) (low .1) in
+    record {
+      opens = non-false _ (two .0);
+      few = ltb-false mostActivities (activitiesIn bytes) (three .0);
+      events = non-false _ (low .0);
+      marking = non-false _ (five .0);
+    }
+
+pub done-head : (bytes : List ℕ) → Head bytes → judgedHead bytes ≡ Done
+unfolding judgedHead non
+done-head bytes h =
+    rw (
+      T→true (same (take 3 bytes) letters) (h .opens),
+      le-ltb mostActivities (activitiesIn bytes) (h .few),
+      T→true (within (eventsIn bytes) (those (λ a. ltb a (activitiesIn bytes)))) (h .events),
+      T→true (markingWithin (eventsIn bytes) (markingIn bytes)) (h .marking),
+    )
+
+pub entry-done : (bytes : List ℕ) (r : ℕ) → judgedEntry bytes r ≡ Done → (countIn bytes r ≤ mostRows) × (offsetIn bytes r ≡ rowLength * earlierRows bytes r)
+unfolding judgedEntry
+entry-done bytes r h =
+    let three = else-done (ltb mostRows (countIn bytes r)) AboveLimit _ (λ t. t) h in
+    let four = else-done (non (eqb (offsetIn bytes r) (rowLength * earlierRows bytes r))) WrongOffset Done (λ t. t) (three .1) in
+    (ltb-false mostRows (countIn bytes r) (three .0), eqb-true (offsetIn bytes r) (rowLength * earlierRows bytes r) (T→true _ (non-false _ (four .0))))
+
+pub done-entry : (bytes : List ℕ) (r : ℕ) → countIn bytes r ≤ mostRows → offsetIn bytes r ≡ rowLength * earlierRows bytes r → judgedEntry bytes r ≡ Done
+unfolding judgedEntry non
+done-entry bytes r few e = rw (le-ltb mostRows (countIn bytes r) few, eq-eqb (offsetIn bytes r) (rowLength * earlierRows bytes r) e)
+
 -- ---- what the code goes on by
 
 pub code-done : (a x : Answer) (d : Bool) → a ≡ x → d ≡ isDone a → not d ≡ false → x ≡ Done

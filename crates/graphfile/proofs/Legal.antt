@@ -26,7 +26,7 @@ use Rattle.graphfile.proofs.Accepted.{else-done}
 
 -- ---- a row that is put into rows
 
-length-put : (rows : List ℕ) (a : ℕ) (s : Set) → length (withRow rows a s) ≡ length rows
+pub length-put : (rows : List ℕ) (a : ℕ) (s : Set) → length (withRow rows a s) ≡ length rows
 unfolding withRow
 length-put rows a s = by (ltb a width)
   where
@@ -34,13 +34,13 @@ length-put rows a s = by (ltb a width)
     by true = length-set rows a (s .bits)
     by false = refl
 
-put-same : (rows : List ℕ) (a : ℕ) (s : Set) → a < width → length rows ≡ width → rowAt (withRow rows a s) a ≡ s
+pub put-same : (rows : List ℕ) (a : ℕ) (s : Set) → a < width → length rows ≡ width → rowAt (withRow rows a s) a ≡ s
 put-same rows a s l e =
     sym (row-in (withRow rows a s) a l)
     ∙ ap (λ (r : List ℕ). record { bits = getD r a 0 }) (sym (put-in rows a s l))
     ∙ ap (λ (n : ℕ). record { bits = n }) (getD-set-same rows a (s .bits) 0 (omega arith))
 
-put-other : (rows : List ℕ) (a b : ℕ) (s : Set) → (b ≡ a → ⊥) → rowAt (withRow rows a s) b ≡ rowAt rows b
+pub put-other : (rows : List ℕ) (a b : ℕ) (s : Set) → (b ≡ a → ⊥) → rowAt (withRow rows a s) b ≡ rowAt rows b
 unfolding rowAt withRow
 put-other rows a b s n = by (ltb a width)
   where
@@ -142,18 +142,21 @@ module _ (bytes : List ℕ) (first : ℕ) where
         let five = else-done (non (key and set)) Outside _ (λ t. t) h in
         let six = else-done (isEmpty (rowIn bytes (first + j)) or non (rises bytes first j)) BadRow Done (λ t. t) (five .1) in
         let both = non-false (key and set) (five .0) in
-        let event = and-l key set both in
-        (record { low = low (keyIn bytes (first + j)) event; event = event; inside = and-r key set both; some = neither _ _ (six .0) .0 },
-        T→true _ (non-false _ (neither _ _ (six .0) .1)))
+        let event = and-l key set both in (
+          record { low = low (keyIn bytes (first + j)) event; event = event; inside = and-r key set both; some = neither _ _ (six .0) .0 },
+          T→true _ (non-false _ (neither _ _ (six .0) .1)),
+        )
 
     pub done-legal : (n j a : ℕ) → (0 < n → a ≤ keyIn bytes (first + j)) → ((i : ℕ) → i < n → judgedRow bytes first (j + i) ≡ Done) → Legal (eventsIn bytes) bytes a n (first + j)
     done-legal zero j a up f = tt
     done-legal (suc n) j a up f =
         let here = row-facts j (ap (judgedRow bytes first) (sym (add-zero j)) ∙ f 0 (zero-lt-suc n)) in
-        let rest : (i : ℕ) → i < n → judgedRow bytes first (suc j + i) ≡ Done = λ i l. ap (judgedRow bytes first) (suc-add j i ∙ sym (add-suc j i)) ∙ f (suc i) (suc-le-suc l) in
-        (up (zero-lt-suc n), here .0,
-        subst (λ (k : ℕ). Legal (eventsIn bytes) bytes (suc (keyIn bytes (first + j))) n k) (add-suc first j)
-        (done-legal n (suc j) (suc (keyIn bytes (first + j))) (λ p. above j (row-facts (suc j) (ap (judgedRow bytes first) (sym (add-zero (suc j))) ∙ rest 0 p) .1)) rest))
+        let rest : (i : ℕ) → i < n → judgedRow bytes first (suc j + i) ≡ Done = λ i l. ap (judgedRow bytes first) (suc-add j i ∙ sym (add-suc j i)) ∙ f (suc i) (suc-le-suc l) in (
+          up (zero-lt-suc n),
+          here .0,
+          subst (λ (k : ℕ). Legal (eventsIn bytes) bytes (suc (keyIn bytes (first + j))) n k) (add-suc first j)
+              (done-legal n (suc j) (suc (keyIn bytes (first + j))) (λ p. above j (row-facts (suc j) (ap (judgedRow bytes first) (sym (add-zero (suc j))) ∙ rest 0 p) .1)) rest),
+        )
 
   pub legal-done : (n j a : ℕ) → ((i : ℕ) → j ≡ suc i → keyIn bytes (first + i) < a) → Legal (eventsIn bytes) bytes a n (first + j)
       → (i : ℕ) → i < n → judgedRow bytes first (j + i) ≡ Done

@@ -10,3 +10,4 @@ pub mod RowStores
 pub mod Writes
 pub mod Parts
 pub mod Legal
+pub mod FileBack
