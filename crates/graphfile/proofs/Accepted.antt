@@ -5,18 +5,18 @@ use mathlib.Core.List.{List}
 use Prim.Native.Nat.{ℕ, zero, suc, _+_, _*_, _≤_, _<_, suc-le-suc}
 use native.Mathlib.Nat.{not-suc-le-zero, le-of-suc-le-suc, zero-lt-suc, add-zero, add-suc, suc-add, zero-add}
 use native.Mathlib.Omega.{arith}
-use borrow.Author.Tests.{lt-ltb, le-ltb, eq-eqb, ltb-false, eqb-true, not-false}
+use borrow.Author.Tests.{le-ltb, eq-eqb, ltb-false, eqb-true, not-false}
 use lib.Dec.{T, eqb, ltb}
 use lib.ListN.{length, take}
 use Rattle.sets.specs.Tests.{_and_, _or_, non, when_then_else_}
-use Rattle.sets.specs.Members.{mem, those, isEmpty, within}
+use Rattle.sets.specs.Members.{those, within}
 use Rattle.sets.specs.Answers.{isDone}
 use Rattle.sets.specs.declared.answer.Answer.{Answer}
 use Rattle.sets.specs.declared.answer.Answer.the-variants.{Done, TooShort, WrongLetters, AboveLimit, WrongOffset, Outside, BadRow, BufferTooSmall, NoEvent, NotIncluded, Waiting, NoTrace}
-use Rattle.sets.proofs.Tests.{split, either, T→true, F→false, true→T, non-false, and-l, and-r, and-i}
+use Rattle.sets.proofs.Tests.{split, either, T→true, F→false, true→T, non-false}
 use Rattle.engine.specs.Judged.{mostActivities, markingWithin, thenAsk}
-use Rattle.graphfile.specs.Layout.{letters, headLength, rowLength, relationCount, activitiesIn, eventsIn, markingIn, offsetIn, countIn, earlierRows, keyIn, rowIn, endOf}
-use Rattle.graphfile.specs.Refusals.{mostRows, same, inTurn, judgedHead, judgedEntry, judgedEnd, rises, judgedRow, judgedRelation, judgedFile}
+use Rattle.graphfile.specs.Layout.{letters, headLength, rowLength, relationCount, activitiesIn, eventsIn, markingIn, offsetIn, countIn, earlierRows, endOf}
+use Rattle.graphfile.specs.Refusals.{mostRows, same, inTurn, judgedHead, judgedEntry, judgedEnd, judgedRow, judgedRelation, judgedFile}
 
 -- ---- answers
 

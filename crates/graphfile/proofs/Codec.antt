@@ -1,6 +1,6 @@
 -- Numbers as bytes, at every width: the loops that read and write them, and both round trips. Assumes nothing.
 use mathlib.Core.Path.{_≡_, refl, sym, ap, ap₂, _∙_, subst}
-use mathlib.Core.List.{List, [], _∷_, _++_}
+use mathlib.Core.List.{List, [], _∷_}
 use Prim.Native.Nat.{ℕ, zero, suc, _+_, _-_, _*_, _/_, _%_, _^_, _≤_, _<_}
 use native.Mathlib.Nat.{pow-suc, sub-self, lt-of-lt-of-le, pow-le-pow-right, add-zero, sub-zero}
 use native.Mathlib.Omega.{arith}

@@ -3,13 +3,13 @@ use mathlib.Core.Path.{_≡_, refl, sym, ap, ap₂, _∙_, subst}
 use mathlib.Core.Bool.{Bool, true, false}
 use mathlib.Core.Logic.{_⊎_, inl, inr}
 use mathlib.Core.List.{List, [], _∷_, _++_}
-use Prim.Native.Nat.{ℕ, zero, suc, _+_, _*_, _^_, _≤_, _<_, zero-le}
-use native.Mathlib.Nat.{add-zero, zero-add, add-suc, zero-lt-suc}
+use Prim.Native.Nat.{ℕ, zero, suc, _+_, _*_, _≤_, _<_, zero-le}
+use native.Mathlib.Nat.{add-zero, zero-add}
 use native.Mathlib.Omega.{arith}
 use borrow.Author.Tests.{ltb-true, ltb-false, le-ltb}
-use lib.Dec.{T, eqb, ltb, eqb→eq, lit≤, lit<}
+use lib.Dec.{T, eqb, ltb, eqb→eq, lit<}
 use lib.Arith.{lt-of-le-ne}
-use lib.ListN.{length, getD, take, drop, getD-replicate}
+use lib.ListN.{length, take, getD-replicate}
 use Rattle.sets.specs.Tests.{_and_, _or_, non, when_then_else_}
 use Rattle.sets.specs.Members.{width, bit, mem, everyBelow, isEmpty, within}
 use Rattle.sets.specs.Rows.{noRows, rowAt, withRow}
@@ -18,28 +18,27 @@ use Rattle.sets.proofs.Tests.{split, either, T→true, F→false, false→F, an
 use Rattle.sets.proofs.Below.{every-i}
 use Rattle.sets.proofs.Bits.{bit-above}
 use Rattle.sets.proofs.RowLaws.{row-in, row-out}
-use Rattle.sets.specs.declared.answer.Answer.{Answer}
 use Rattle.sets.specs.declared.answer.Answer.the-variants.{Done}
 use Rattle.engine.specs.Judged.{mostActivities, rowWithin, rowsWithin, relationsWithin, graphWithin, judgedFor, judged}
 use Rattle.graphfile.specs.Numbers.{littleEndian}
-use Rattle.graphfile.specs.Layout.{letters, headLength, rowLength, relationCount, activitiesIn, eventsIn, markingIn, offsetIn, countIn, earlierRows, keyIn, rowIn, setAt}
+use Rattle.graphfile.specs.Layout.{letters, headLength, rowLength, relationCount, activitiesIn, eventsIn, markingIn, offsetIn, countIn, earlierRows, keyIn, rowIn}
 use Rattle.graphfile.specs.Refusals.{same, judgedRow}
 use Rattle.graphfile.specs.Held.{filled, relationIn, graphIn}
-use Rattle.graphfile.specs.Writing.{setBytes, rowOf, rowsFrom, countFrom, rowCount, entryBytes, entriesBytes, markingBytes, openingBytes, relationBytes, relationsBytes, bytesOf}
+use Rattle.graphfile.specs.Writing.{setBytes, rowOf, rowsFrom, rowCount, entryBytes, entriesBytes, markingBytes, openingBytes, relationBytes, relationsBytes, bytesOf}
 use Rattle.graphfile.proofs.Codec.{Bytes}
 use Rattle.graphfile.proofs.Parts.{part, meet, length-part, part-whole, part-one, part-number, part-row, number-below}
 use Rattle.graphfile.proofs.Accepted.{Accepted, head-done, entry-done}
 use Rattle.graphfile.proofs.Stores.{length-rows}
-use Rattle.graphfile.proofs.Legal.{LegalRow, Legal, from-lower, filled-below, filled-first, filled-inside, put-other, length-put, done-legal}
+use Rattle.graphfile.proofs.Legal.{Legal, from-lower, filled-below, filled-first, filled-inside, put-other, length-put, done-legal}
 use Rattle.graphfile.proofs.Places.{rows-end}
 
 -- ---- the rows of a relation
 
-row-empty : (a : ℕ) (s : Set) → isEmpty s ≡ true → rowOf a s ≡ []
+pub row-empty : (a : ℕ) (s : Set) → isEmpty s ≡ true → rowOf a s ≡ []
 unfolding rowOf
 row-empty a s e = ap (λ (b : Bool). when b then [] else a ∷ setBytes s) e
 
-row-some : (a : ℕ) (s : Set) → isEmpty s ≡ false → rowOf a s ≡ a ∷ setBytes s
+pub row-some : (a : ℕ) (s : Set) → isEmpty s ≡ false → rowOf a s ≡ a ∷ setBytes s
 unfolding rowOf
 row-some a s e = ap (λ (b : Bool). when b then [] else a ∷ setBytes s) e
 

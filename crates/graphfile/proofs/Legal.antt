@@ -1,23 +1,22 @@
 -- Rows of a file as 01 wants them, and what the rows that they fill hold. Assumes nothing.
-use mathlib.Core.Path.{_≡_, refl, sym, ap, ap₂, _∙_, subst}
+use mathlib.Core.Path.{_≡_, refl, sym, ap, _∙_, subst}
 use mathlib.Core.Bool.{Bool, true, false, cond}
 use mathlib.Core.Logic.{_⊎_, inl, inr}
-use mathlib.Core.List.{List, [], _∷_, _++_}
-use Prim.Native.Nat.{ℕ, zero, suc, _+_, _*_, _≤_, _<_, zero-le, suc-le-suc}
+use mathlib.Core.List.{List}
+use Prim.Native.Nat.{ℕ, zero, suc, _+_, _≤_, _<_, suc-le-suc}
 use native.Mathlib.Nat.{not-suc-le-zero, le-of-suc-le-suc, zero-lt-suc, add-zero, add-suc, suc-add}
 use native.Mathlib.Omega.{arith}
-use borrow.Author.Tests.{lt-ltb, ltb-true, ltb-false}
+use borrow.Author.Tests.{lt-ltb, ltb-true}
 use lib.Dec.{T, eqb, ltb, eqb→eq}
 use lib.ListN.{length, getD, set, length-set}
 use lib.Seq.{getD-set-same, getD-set-other}
-use Rattle.sets.specs.Tests.{_and_, _or_, non, when_then_else_}
+use Rattle.sets.specs.Tests.{_and_, _or_, non}
 use Rattle.sets.specs.Members.{width, mem, isEmpty, within}
 use Rattle.sets.specs.Rows.{rowAt, withRow}
 use Rattle.sets.specs.declared.set.Set.{Set}
-use Rattle.sets.specs.declared.answer.Answer.{Answer}
 use Rattle.sets.specs.declared.answer.Answer.the-variants.{Done, Outside, BadRow}
-use Rattle.sets.proofs.Tests.{split, either, T→true, F→false, true→T, false→F, non-false, and-l, and-r, and-i, or-l, eqb-of}
-use Rattle.sets.proofs.RowLaws.{row-in, row-out, put-in, put-out}
+use Rattle.sets.proofs.Tests.{split, T→true, false→F, non-false, and-l, and-r, and-i, or-l, eqb-of}
+use Rattle.sets.proofs.RowLaws.{row-in, put-in}
 use Rattle.engine.specs.Judged.{rowWithin}
 use Rattle.graphfile.specs.Layout.{eventsIn, keyIn, rowIn}
 use Rattle.graphfile.specs.Refusals.{rises, judgedRow}

@@ -11,3 +11,6 @@ pub mod Writes
 pub mod Parts
 pub mod Legal
 pub mod FileBack
+pub mod GraphBack
+pub mod GraphFile
+pub mod RoundTrips

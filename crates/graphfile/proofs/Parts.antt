@@ -2,14 +2,12 @@
 -- Assumes nothing.
 use mathlib.Core.Path.{_≡_, refl, sym, ap, ap₂, _∙_, subst}
 use mathlib.Core.List.{List, [], _∷_, _++_}
-use Prim.Native.Nat.{ℕ, zero, suc, _+_, _*_, _^_, _≤_, _<_}
-use native.Mathlib.Nat.{suc-add, zero-add}
+use Prim.Native.Nat.{ℕ, _+_, _*_, _^_, _≤_, _<_}
 use native.Mathlib.Omega.{arith}
 use lib.ListN.{length, getD, take, drop, length-drop}
 use lib.Seq.{drop-cons, take-add, drop-drop, take-all, length-take-le}
-use Rattle.sets.specs.declared.set.Set.{Set}
 use Rattle.graphfile.specs.Numbers.{littleEndian, valueOf, numberAt}
-use Rattle.graphfile.specs.Layout.{headLength, rowLength, setAt, keyIn, rowIn}
+use Rattle.graphfile.specs.Layout.{headLength, rowLength, keyIn, rowIn}
 use Rattle.graphfile.specs.Writing.{setBytes}
 use Rattle.graphfile.proofs.Codec.{Bytes, bytes-drop, bytes-take, number-value, value-below}
 

@@ -1,8 +1,8 @@
 -- The writer's loops over the rows of a relation: counting them, and storing them. Assumes nothing.
-use mathlib.Core.Path.{_≡_, refl, sym, ap, ap₂, _∙_, subst}
+use mathlib.Core.Path.{_≡_, refl, sym, ap, _∙_}
 use mathlib.Core.Bool.{Bool, true, false}
 use mathlib.Core.List.{List, [], _∷_, _++_}
-use Prim.Native.Nat.{ℕ, zero, suc, _+_, _-_, _*_, _≤_, _<_}
+use Prim.Native.Nat.{ℕ, suc, _+_, _-_, _*_, _≤_, _<_}
 use native.Mathlib.Nat.{add-zero, zero-add}
 use native.Mathlib.Numerals.{add-one}
 use native.Mathlib.Omega.{arith}
@@ -14,7 +14,7 @@ use Rattle.sets.specs.Rows.{rowAt}
 use Rattle.sets.specs.declared.set.Set.{Set}
 use Rattle.graphfile.specs.Numbers.{littleEndian}
 use Rattle.graphfile.specs.Layout.{rowLength}
-use Rattle.graphfile.specs.Writing.{setBytes, rowOf, rowsFor, rowsFrom, countFrom, rowCount, relationBytes}
+use Rattle.graphfile.specs.Writing.{setBytes, rowOf, rowsFor, rowsFrom, countFrom, rowCount}
 use Rattle.graphfile.proofs.Stores.{follow, length-row}
 
 -- ---- one row

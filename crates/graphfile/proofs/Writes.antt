@@ -1,11 +1,11 @@
 -- The three ways out of a write: its answer and length, and what the buffer holds. Assumes nothing.
-use mathlib.Core.Path.{_≡_, refl, sym, ap, _∙_}
+use mathlib.Core.Path.{_≡_, sym, ap, _∙_}
 use mathlib.Core.Bool.{Bool, true, false, not}
-use mathlib.Core.List.{List, [], _∷_, _++_}
+use mathlib.Core.List.{List, _++_}
 use Prim.Native.Nat.{ℕ, _+_, _*_, _≤_, _<_}
 use native.Mathlib.Nat.{zero-add}
 use native.Mathlib.Omega.{arith}
-use borrow.Author.Tests.{lt-ltb, le-ltb, not-true, not-false}
+use borrow.Author.Tests.{lt-ltb, le-ltb, not-true}
 use lib.Dec.{ltb}
 use lib.ListN.{length, drop}
 use lib.Seq.{sets, sets-eq}
@@ -13,12 +13,12 @@ use Rattle.sets.specs.Tests.{when_then_else_}
 use Rattle.sets.specs.Answers.{isDone}
 use Rattle.sets.specs.declared.answer.Answer.{Answer}
 use Rattle.sets.specs.declared.answer.Answer.the-variants.{Done, BufferTooSmall}
-use Rattle.engine.specs.Judged.{judged, thenAsk}
+use Rattle.engine.specs.Judged.{judged}
 use Rattle.engine.specs.declared.graph.Graph.{Graph}
 use Rattle.graphfile.specs.declared.writer.Written.{Written}
 use Rattle.graphfile.specs.Layout.{headLength, rowLength}
 use Rattle.graphfile.specs.Writing.{rowTotal, bytesOf, judgedWrite, writtenOf, bufferAfter}
-use Rattle.graphfile.proofs.Accepted.{done-is, code-done}
+use Rattle.graphfile.proofs.Accepted.{code-done}
 use Rattle.graphfile.proofs.Asking.{refused, passed}
 use Rattle.graphfile.proofs.Stores.{length-file}
 

@@ -5,10 +5,7 @@ use borrow.Author.Needs.{needs}
 use Rattle.graphfile.specs.Numbers.{numberAt}
 use Rattle.graphfile.proofs.number.number_at.Statement.{statement}
 use Rattle.graphfile.proofs.number.number_at.Tie as tie
-use Rattle.graphfile.proofs.number.number_at.Reads as reads
-use Rattle.graphfile.proofs.number.number_at.Lts as lts
-use Rattle.graphfile.proofs.number.wide.Reads as wide-reads
-use Rattle.graphfile.proofs.Codec.{reading, turn-fits, below-turn, number-turn}
+use Rattle.graphfile.proofs.Codec.{reading, turn-fits}
 
 abbrev Inv-loop : tie.InvT-loop
 Inv-loop bytes at n value₀ left₀ value left = (left ≤ n) × (value ≡ numberAt (n - left) bytes (at + left)) × (value < 256 ^ (n - left))

@@ -1,14 +1,12 @@
 use lib.Seq.{sets}
 use Rattle.graphfile.specs.Numbers.{littleEndian}
 use Rattle.graphfile.proofs.Codec.{writing}
-use Prim.Native.Nat.{ℕ, _+_, _-_, _≤_, _<_}
+use Prim.Native.Nat.{_+_, _-_, _≤_}
 use mathlib.Core.Path.{_≡_}
 use lib.ListN.{length}
 use borrow.Author.Needs.{needs}
 use Rattle.graphfile.proofs.number.put_number.Statement.{statement}
 use Rattle.graphfile.proofs.number.put_number.Tie as tie
-use Rattle.graphfile.proofs.number.put_number.Reads as reads
-use Rattle.graphfile.proofs.number.put_number.Lts as lts
 
 abbrev Inv-loop : tie.InvT-loop
 Inv-loop out₀ at n x i₀ rest₀ out i rest = (i ≤ n) × (length out ≡ length out₀) × (sets out (at + i) (littleEndian (n - i) rest) ≡ sets out₀ at (littleEndian n x))
@@ -16,39 +14,30 @@ Inv-loop out₀ at n x i₀ rest₀ out i rest = (i ≤ n) × (length out ≡ le
 abbrev μ-loop : tie.MeasureT-loop
 μ-loop out₀ at n x i₀ rest₀ out i rest = n - i
 
--- src/number.rt:36:5
 loop-holds : tie.Need-loop-holds Inv-loop μ-loop
 loop-holds c = search (writing, needs)
 
--- src/number.rt:37:23
 cast-out : tie.Need-cast-out Inv-loop μ-loop
 cast-out c = search needs
 
--- src/number.rt:37:13
 add-out : tie.Need-add-out Inv-loop μ-loop
 add-out c = search needs
 
--- src/number.rt:37:9
 slice-write-out : tie.Need-slice-write-out Inv-loop μ-loop
 slice-write-out c = search needs
 
--- src/number.rt:39:9
 add-i : tie.Need-add-i Inv-loop μ-loop
 add-i c = search needs
 
--- src/number.rt:36:5
 loop-less : tie.Need-loop-less Inv-loop μ-loop
 loop-less c = search needs
 
--- src/number.rt:36:5
 loop-again : tie.Need-loop-again Inv-loop μ-loop
 loop-again c = search (writing, needs)
 
--- src/number.rt:30:1
 same-length : tie.Need-same-length Inv-loop μ-loop
 same-length c = search needs
 
--- src/number.rt:30:1
 returns : tie.Need-returns Inv-loop μ-loop
 returns c = search (writing, needs)
 

@@ -6,12 +6,6 @@ use Rattle.graphfile.proofs.Filling.{filling}
 use borrow.Author.Needs.{needs}
 use Rattle.graphfile.proofs.reader.fill.Statement.{statement}
 use Rattle.graphfile.proofs.reader.fill.Tie as tie
-use Rattle.graphfile.proofs.reader.fill.Reads as reads
-use Rattle.graphfile.proofs.reader.fill.Lts as lts
-use Rattle.graphfile.proofs.layout.key_in.Reads as key-in-reads
-use Rattle.graphfile.proofs.layout.row_in.Reads as row-in-reads
-use Rattle.sets.proofs.rows.empty.Reads as empty-reads
-use Rattle.sets.proofs.rows.put.Reads as put-reads
 
 abbrev Inv-loop : tie.InvT-loop
 Inv-loop bytes count first held₀ j₀ held j = (j ≤ count) × (filled bytes held (count - j) (first + j) ≡ filled bytes noRows count first)
@@ -19,47 +13,36 @@ Inv-loop bytes count first held₀ j₀ held j = (j ≤ count) × (filled bytes 
 abbrev μ-loop : tie.MeasureT-loop
 μ-loop bytes count first held₀ j₀ held j = count - j
 
--- src/reader.rt:29:20
 empty-requires : tie.Need-empty-requires Inv-loop μ-loop
 empty-requires c κs = search needs
 
--- src/reader.rt:31:5
 loop-holds : tie.Need-loop-holds Inv-loop μ-loop
 loop-holds c = search (filling, needs)
 
--- src/reader.rt:32:41
 add-key-in : tie.Need-add-key-in Inv-loop μ-loop
 add-key-in c = search needs
 
--- src/reader.rt:32:13
 key-in-requires : tie.Need-key-in-requires Inv-loop μ-loop
 key-in-requires c κs = search needs
 
--- src/reader.rt:33:41
 add-row-in : tie.Need-add-row-in Inv-loop μ-loop
 add-row-in c = search needs
 
--- src/reader.rt:33:13
 row-in-requires : tie.Need-row-in-requires Inv-loop μ-loop
 row-in-requires c κs = search needs
 
--- src/reader.rt:34:9
 put-requires : tie.Need-put-requires Inv-loop μ-loop
 put-requires c κs = search needs
 
--- src/reader.rt:35:9
 add-j : tie.Need-add-j Inv-loop μ-loop
 add-j c = search needs
 
--- src/reader.rt:31:5
 loop-less : tie.Need-loop-less Inv-loop μ-loop
 loop-less c = search needs
 
--- src/reader.rt:31:5
 loop-again : tie.Need-loop-again Inv-loop μ-loop
 loop-again c = search (filling, needs)
 
--- src/reader.rt:25:1
 returns : tie.Need-returns Inv-loop μ-loop
 returns c = search (filling, needs)
 

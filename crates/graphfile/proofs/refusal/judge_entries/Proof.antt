@@ -1,15 +1,11 @@
 use Prim.Native.Nat.{_-_, _≤_}
 use mathlib.Core.Path.{_≡_}
 use Rattle.graphfile.specs.Layout.{relationCount}
-use Rattle.graphfile.specs.Refusals.{inTurn, judgedEntry, judgedRow, judgedRelation}
+use Rattle.graphfile.specs.Refusals.{inTurn, judgedEntry}
 use Rattle.graphfile.proofs.Asking.{turns}
 use borrow.Author.Needs.{needs}
 use Rattle.graphfile.proofs.refusal.judge_entries.Statement.{statement}
 use Rattle.graphfile.proofs.refusal.judge_entries.Tie as tie
-use Rattle.graphfile.proofs.refusal.judge_entries.Reads as reads
-use Rattle.graphfile.proofs.refusal.judge_entries.Lts as lts
-use Rattle.graphfile.proofs.refusal.judge_entry.Reads as judge-entry-reads
-use Rattle.sets.proofs.answer.Answer.is_done.Reads as is-done-reads
 
 abbrev Inv-loop : tie.InvT-loop
 Inv-loop bytes r₀ r = (r ≤ relationCount) × (inTurn (judgedEntry bytes) (relationCount - r) r ≡ inTurn (judgedEntry bytes) relationCount 0)
@@ -17,35 +13,27 @@ Inv-loop bytes r₀ r = (r ≤ relationCount) × (inTurn (judgedEntry bytes) (re
 abbrev μ-loop : tie.MeasureT-loop
 μ-loop bytes r₀ r = relationCount - r
 
--- src/refusal.rt:68:5
 loop-holds : tie.Need-loop-holds Inv-loop μ-loop
 loop-holds c = search (turns, needs)
 
--- src/refusal.rt:69:13
 judge-entry-requires : tie.Need-judge-entry-requires Inv-loop μ-loop
 judge-entry-requires c κs = search needs
 
--- src/refusal.rt:70:13
 is-done-requires : tie.Need-is-done-requires Inv-loop μ-loop
 is-done-requires c κs = search needs
 
--- src/refusal.rt:71:13
 returns : tie.Need-returns Inv-loop μ-loop
 returns c = search (turns, needs)
 
--- src/refusal.rt:73:9
 add-r : tie.Need-add-r Inv-loop μ-loop
 add-r c = search needs
 
--- src/refusal.rt:68:5
 loop-less : tie.Need-loop-less Inv-loop μ-loop
 loop-less c = search needs
 
--- src/refusal.rt:68:5
 loop-again : tie.Need-loop-again Inv-loop μ-loop
 loop-again c = search (turns, needs)
 
--- src/refusal.rt:63:1
 returns-2 : tie.Need-returns-2 Inv-loop μ-loop
 returns-2 c = search (turns, needs)
 

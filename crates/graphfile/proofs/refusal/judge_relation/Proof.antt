@@ -1,5 +1,5 @@
 use borrow.Author.Needs.{needs}
-use Rattle.graphfile.proofs.Places.{rows-end, head-within}
+use Rattle.graphfile.proofs.Places.{rows-end}
 use Rattle.graphfile.proofs.Judging.{relation-is}
 use Rattle.graphfile.proofs.refusal.judge_relation.Statement.{statement}
 use Rattle.graphfile.proofs.refusal.judge_relation.Tie as tie

@@ -1,15 +1,10 @@
 use Prim.Native.Nat.{_-_, _≤_}
 use mathlib.Core.Path.{_≡_}
-use Rattle.graphfile.specs.Layout.{relationCount}
-use Rattle.graphfile.specs.Refusals.{inTurn, judgedEntry, judgedRow, judgedRelation}
+use Rattle.graphfile.specs.Refusals.{inTurn, judgedRow}
 use Rattle.graphfile.proofs.Asking.{turns}
 use borrow.Author.Needs.{needs}
 use Rattle.graphfile.proofs.refusal.judge_rows.Statement.{statement}
 use Rattle.graphfile.proofs.refusal.judge_rows.Tie as tie
-use Rattle.graphfile.proofs.refusal.judge_rows.Reads as reads
-use Rattle.graphfile.proofs.refusal.judge_rows.Lts as lts
-use Rattle.graphfile.proofs.refusal.judge_row.Reads as judge-row-reads
-use Rattle.sets.proofs.answer.Answer.is_done.Reads as is-done-reads
 
 abbrev Inv-loop : tie.InvT-loop
 Inv-loop bytes first count j₀ j = (j ≤ count) × (inTurn (judgedRow bytes first) (count - j) j ≡ inTurn (judgedRow bytes first) count 0)
@@ -17,35 +12,27 @@ Inv-loop bytes first count j₀ j = (j ≤ count) × (inTurn (judgedRow bytes fi
 abbrev μ-loop : tie.MeasureT-loop
 μ-loop bytes first count j₀ j = count - j
 
--- src/refusal.rt:130:5
 loop-holds : tie.Need-loop-holds Inv-loop μ-loop
 loop-holds c = search (turns, needs)
 
--- src/refusal.rt:131:13
 judge-row-requires : tie.Need-judge-row-requires Inv-loop μ-loop
 judge-row-requires c κs = search needs
 
--- src/refusal.rt:132:13
 is-done-requires : tie.Need-is-done-requires Inv-loop μ-loop
 is-done-requires c κs = search needs
 
--- src/refusal.rt:133:13
 returns : tie.Need-returns Inv-loop μ-loop
 returns c = search (turns, needs)
 
--- src/refusal.rt:135:9
 add-j : tie.Need-add-j Inv-loop μ-loop
 add-j c = search needs
 
--- src/refusal.rt:130:5
 loop-less : tie.Need-loop-less Inv-loop μ-loop
 loop-less c = search needs
 
--- src/refusal.rt:130:5
 loop-again : tie.Need-loop-again Inv-loop μ-loop
 loop-again c = search (turns, needs)
 
--- src/refusal.rt:125:1
 returns-2 : tie.Need-returns-2 Inv-loop μ-loop
 returns-2 c = search (turns, needs)
 

@@ -9,10 +9,6 @@ use Rattle.graphfile.proofs.RowStores.{place-room, place-turn, rows-tur
 use borrow.Author.Needs.{needs}
 use Rattle.graphfile.proofs.writer.put_rows.Statement.{statement}
 use Rattle.graphfile.proofs.writer.put_rows.Tie as tie
-use Rattle.graphfile.proofs.writer.put_rows.Reads as reads
-use Rattle.graphfile.proofs.writer.put_rows.Lts as lts
-use Rattle.graphfile.proofs.writer.put_row.Reads as put-row-reads
-use Rattle.sets.proofs.rows.row.Reads as row-reads
 
 abbrev Inv-loop : tie.InvT-loop
 Inv-loop out₀ at rows next₀ a₀ out next a = (a ≤ width) × (length out ≡ length out₀) × (next + rowLength * countFrom rows (width - a) a ≡ at + rowLength * rowCount rows) × (sets out next (rowsFrom rows (width - a) a) ≡ sets out₀ at (relationBytes rows))
@@ -20,35 +16,27 @@ Inv-loop out₀ at rows next₀ a₀ out next a = (a ≤ width) × (length out �
 abbrev μ-loop : tie.MeasureT-loop
 μ-loop out₀ at rows next₀ a₀ out next a = width - a
 
--- src/writer.rt:74:5
 loop-holds : tie.Need-loop-holds Inv-loop μ-loop
 loop-holds c = search needs
 
--- src/writer.rt:75:38
 row-requires : tie.Need-row-requires Inv-loop μ-loop
 row-requires c κs = search needs
 
--- src/writer.rt:75:9
 put-row-requires : tie.Need-put-row-requires Inv-loop μ-loop
 put-row-requires c κs = search (place-room, needs)
 
--- src/writer.rt:76:9
 add-a : tie.Need-add-a Inv-loop μ-loop
 add-a c = search needs
 
--- src/writer.rt:74:5
 loop-less : tie.Need-loop-less Inv-loop μ-loop
 loop-less c = search needs
 
--- src/writer.rt:74:5
 loop-again : tie.Need-loop-again Inv-loop μ-loop
 loop-again c = search (place-turn, rows-turn, kept-length, needs)
 
--- src/writer.rt:67:1
 same-length : tie.Need-same-length Inv-loop μ-loop
 same-length c = search needs
 
--- src/writer.rt:67:1
 returns : tie.Need-returns Inv-loop μ-loop
 returns c = search (place-end, rows-end, needs)
 

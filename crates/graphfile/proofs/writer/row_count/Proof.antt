@@ -6,10 +6,6 @@ use Rattle.graphfile.proofs.RowStores.{counts}
 use borrow.Author.Needs.{needs}
 use Rattle.graphfile.proofs.writer.row_count.Statement.{statement}
 use Rattle.graphfile.proofs.writer.row_count.Tie as tie
-use Rattle.graphfile.proofs.writer.row_count.Reads as reads
-use Rattle.graphfile.proofs.writer.row_count.Lts as lts
-use Rattle.graphfile.proofs.writer.rows_for.Reads as rows-for-reads
-use Rattle.sets.proofs.rows.row.Reads as row-reads
 
 abbrev Inv-loop : tie.InvT-loop
 Inv-loop rows n₀ a₀ n a = (a ≤ width) × (n + countFrom rows (width - a) a ≡ rowCount rows) × (n ≤ a)
@@ -17,35 +13,27 @@ Inv-loop rows n₀ a₀ n a = (a ≤ width) × (n + countFrom rows (width - a) a
 abbrev μ-loop : tie.MeasureT-loop
 μ-loop rows n₀ a₀ n a = width - a
 
--- src/writer.rt:45:5
 loop-holds : tie.Need-loop-holds Inv-loop μ-loop
 loop-holds c = search (counts, needs)
 
--- src/writer.rt:46:23
 row-requires : tie.Need-row-requires Inv-loop μ-loop
 row-requires c κs = search needs
 
--- src/writer.rt:46:14
 rows-for-requires : tie.Need-rows-for-requires Inv-loop μ-loop
 rows-for-requires c κs = search needs
 
--- src/writer.rt:46:9
 add-n : tie.Need-add-n Inv-loop μ-loop
 add-n c = search needs
 
--- src/writer.rt:47:9
 add-a : tie.Need-add-a Inv-loop μ-loop
 add-a c = search needs
 
--- src/writer.rt:45:5
 loop-less : tie.Need-loop-less Inv-loop μ-loop
 loop-less c = search needs
 
--- src/writer.rt:45:5
 loop-again : tie.Need-loop-again Inv-loop μ-loop
 loop-again c = search (counts, needs)
 
--- src/writer.rt:39:1
 returns : tie.Need-returns Inv-loop μ-loop
 returns c = search (counts, needs)
 
