@@ -66,11 +66,6 @@ from-lower events bytes a b (suc n) k h l = (h (zero-lt-suc n), l .1, l .2)
 -- ---- the rows that they fill
 
 module _ (events : Set) (bytes : List ℕ) where
-  pub length-filled : (rows : List ℕ) (n k : ℕ) → length (filled bytes rows n k) ≡ length rows
-  unfolding filled
-  length-filled rows zero k = refl
-  length-filled rows (suc n) k = length-filled (withRow rows (keyIn bytes k) (rowIn bytes k)) n (suc k) ∙ length-put rows (keyIn bytes k) (rowIn bytes k)
-
   -- below the keys the rows stay
   pub filled-below : (rows : List ℕ) (a n k b : ℕ) → Legal events bytes a n k → b < a → rowAt (filled bytes rows n k) b ≡ rowAt rows b
   unfolding filled

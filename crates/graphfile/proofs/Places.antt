@@ -82,7 +82,3 @@ rows-end bytes r first count l h e f =
     let below : earlierRows bytes r + countIn bytes r ≤ earlierRows bytes relationCount =
     subst (λ (k : ℕ). earlierRows bytes (suc r) ≤ earlierRows bytes k) last (earlier-le bytes (relationCount - suc r) (suc r)) in
     omega arith
-
--- the head is within a file whose rows are
-pub head-within : (bytes : List ℕ) → endOf bytes ≤ length bytes → headLength ≤ length bytes
-head-within bytes h = omega arith
