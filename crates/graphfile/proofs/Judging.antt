@@ -7,15 +7,16 @@ use native.Mathlib.Omega.{arith}
 use borrow.Author.Tests.{lt-ltb, le-ltb, eq-eqb, ne-eqb, not-true, not-false}
 use lib.Dec.{ltb}
 use lib.ListN.{length, take}
-use Rattle.sets.specs.Tests.{_and_, _or_, non, when_then_else_}
+use Rattle.sets.specs.Tests.{_or_, non, when_then_else_}
 use Rattle.sets.specs.Members.{mem, those, isEmpty, within}
 use Rattle.sets.specs.declared.set.Set.{Set}
 use Rattle.sets.specs.declared.answer.Answer.{Answer}
-use Rattle.sets.specs.declared.answer.Answer.the-variants.{Done, TooShort, WrongLetters, AboveLimit, WrongOffset, Outside, BadRow}
+use Rattle.sets.specs.declared.answer.Answer.the-variants.{Done, TooShort, WrongLetters, AboveLimit, WrongOffset, Outside}
+use Rattle.sets.proofs.Tests.{not-non}
 use Rattle.engine.specs.Judged.{mostActivities, markingWithin}
 use Rattle.engine.specs.declared.marking.Marking.{Marking}
 use Rattle.graphfile.specs.Layout.{letters, headLength, rowLength, relationCount, activitiesIn, eventsIn, markingIn, offsetIn, countIn, earlierRows, keyIn, rowIn, endOf}
-use Rattle.graphfile.specs.Refusals.{mostRows, same, inTurn, judgedHead, judgedEntry, judgedEnd, rises, judgedRow, judgedRelation}
+use Rattle.graphfile.specs.Refusals.{mostRows, same, inTurn, judgedHead, judgedEntry, judgedEnd, rises, rowOutside, rowBad, rowAnswer, judgedRow, judgedRelation}
 
 -- ---- the end
 
@@ -71,40 +72,38 @@ rises-next bytes first (suc j) before key n e f =
     let back : first + suc j - 1 ≡ first + j = omega arith in
     ap₂ ltb (e ∙ ap (keyIn bytes) back) f
 
--- the answer to a row by what was found: its key an event, its set within the events, its set empty, its key above the one before
-abbrev rowAnswer : Bool → Bool → Bool → Bool → Answer
-rowAnswer key set empty up = when non (key and set) then Outside else when empty or non up then BadRow else Done
+module _ (bytes : List ℕ) (k key : ℕ) (events : Set) (t : Bool) (he : events ≡ eventsIn bytes) (hk : key ≡ keyIn bytes k) (ht : t ≡ mem events key) where
+  outside-is : (b : Bool) → t ≡ b → (row : Set) → row ≡ rowIn bytes k → (non b or non (within row events)) ≡ rowOutside bytes k
+  unfolding rowOutside
+  outside-is b e row hr = (λ i. non ((sym e ∙ ht) i) or non (within row events)) ∙ (λ i. non (mem (he i) (hk i)) or non (within (hr i) (he i)))
 
-module _ (bytes : List ℕ) (first j : ℕ) (events row : Set) (key : ℕ) (he : events ≡ eventsIn bytes) (hr : row ≡ rowIn bytes (first + j)) (hk : key ≡ keyIn bytes (first + j)) where
-  row-is : (k w e u : Bool) → mem events key ≡ k → within row events ≡ w → isEmpty row ≡ e → rises bytes first j ≡ u → rowAnswer k w e u ≡ judgedRow bytes first j
-  unfolding judgedRow
-  row-is k w e u pk pw pe pu =
-      sym (λ i. rowAnswer (pk i) (pw i) (pe i) (pu i)) ∙ (λ i. rowAnswer (mem (he i) (hk i)) (within (hr i) (he i)) (isEmpty (hr i)) (rises bytes first j))
+  pub outside-key : not t ≡ true → true ≡ rowOutside bytes k
+  unfolding _or_ non
+  outside-key n = outside-is false (not-true t n) _ refl
 
-  module _ (t : Bool) (ht : t ≡ mem events key) where
-    pub row-key : not t ≡ true → Outside ≡ judgedRow bytes first j
-    unfolding _and_ non
-    row-key n = row-is false _ _ _ (sym ht ∙ not-true t n) refl refl refl
+  pub outside-set : not t ≡ false → (row : Set) (u : Bool) → row ≡ rowIn bytes k → u ≡ within row events → not u ≡ rowOutside bytes k
+  unfolding _or_ non
+  outside-set n row u hr hu = not-non u ∙ ap non hu ∙ outside-is true (not-false t n) row hr
 
-    module _ (nt : not t ≡ false) (u : Bool) (hu : u ≡ within row events) where
-      pub row-set : not u ≡ true → Outside ≡ judgedRow bytes first j
-      unfolding _and_ non
-      row-set n = row-is true false _ _ (sym ht ∙ not-false t nt) (sym hu ∙ not-true u n) refl refl
+module _ (bytes : List ℕ) (first j : ℕ) (row : Set) (e : Bool) (hr : row ≡ rowIn bytes (first + j)) (he : e ≡ isEmpty row) where
+  bad-is : (b : Bool) → e ≡ b → (b or non (rises bytes first j)) ≡ rowBad bytes first j
+  unfolding rowBad
+  bad-is b h = λ i. (sym h ∙ he ∙ ap isEmpty hr) i or non (rises bytes first j)
 
-      module _ (nu : not u ≡ false) (e : Bool) (hn : e ≡ isEmpty row) where
-        pub row-empty : e ≡ true → BadRow ≡ judgedRow bytes first j
-        unfolding _and_ _or_ non
-        row-empty n = row-is true true true _ (sym ht ∙ not-false t nt) (sym hu ∙ not-false u nu) (sym hn ∙ n) refl
+  pub bad-empty : e ≡ true → true ≡ rowBad bytes first j
+  unfolding _or_
+  bad-empty h = bad-is true h
 
-        pub row-falls : e ≡ false → (v : Bool) → v ≡ rises bytes first j → not v ≡ true → BadRow ≡ judgedRow bytes first j
-        unfolding _and_ _or_ non
-        row-falls n v hv f = row-is true true false false (sym ht ∙ not-false t nt) (sym hu ∙ not-false u nu) (sym hn ∙ n) (sym hv ∙ not-true v f)
+  pub bad-falls : e ≡ false → (u : Bool) → u ≡ rises bytes first j → not u ≡ rowBad bytes first j
+  unfolding _or_
+  bad-falls h u hu = not-non u ∙ ap non hu ∙ bad-is false h
 
-        pub row-right : e ≡ false → (v : Bool) → v ≡ rises bytes first j → not v ≡ false → Done ≡ judgedRow bytes first j
-        unfolding _and_ _or_ non
-        row-right n v hv f = row-is true true false true (sym ht ∙ not-false t nt) (sym hu ∙ not-false u nu) (sym hn ∙ n) (sym hv ∙ not-false v f)
+pub row-judged : (bytes : List ℕ) (first j : ℕ) (a : Answer) (outside bad : Bool) → outside ≡ rowOutside bytes (first + j) → bad ≡ rowBad bytes first j
+    → a ≡ rowAnswer outside bad → a ≡ judgedRow bytes first j
+unfolding judgedRow
+row-judged bytes first j a outside bad ho hb h = h ∙ ap₂ rowAnswer ho hb
 
-pub ruleset row-by-row = (rises-first, rises-next, row-key, row-set, row-empty, row-falls, row-right)
+pub ruleset row-by-row = (rises-first, rises-next, outside-key, outside-set, bad-empty, bad-falls, row-judged)
 
 -- ---- the head
 

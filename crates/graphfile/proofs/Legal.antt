@@ -15,11 +15,11 @@ use Rattle.sets.specs.Members.{width, mem, isEmpty, within}
 use Rattle.sets.specs.Rows.{rowAt, withRow}
 use Rattle.sets.specs.declared.set.Set.{Set}
 use Rattle.sets.specs.declared.answer.Answer.the-variants.{Done, Outside, BadRow}
-use Rattle.sets.proofs.Tests.{split, T→true, false→F, non-false, and-l, and-r, and-i, or-l, eqb-of}
+use Rattle.sets.proofs.Tests.{split, T→true, false→F, non-false, and-i, or-l, eqb-of}
 use Rattle.sets.proofs.RowLaws.{row-in, put-in}
 use Rattle.engine.specs.Judged.{rowWithin}
 use Rattle.graphfile.specs.Layout.{eventsIn, keyIn, rowIn}
-use Rattle.graphfile.specs.Refusals.{rises, judgedRow}
+use Rattle.graphfile.specs.Refusals.{rises, rowOutside, rowBad, judgedRow}
 use Rattle.graphfile.specs.Held.{filled}
 use Rattle.graphfile.proofs.Accepted.{else-done}
 
@@ -119,7 +119,7 @@ module _ (bytes : List ℕ) (first : ℕ) where
   after-last (suc j) a f h = lt-ltb (keyIn bytes (first + j)) (keyIn bytes (first + suc j)) (omega (arith, f j refl))
 
   row-done : (j : ℕ) → LegalRow (eventsIn bytes) bytes (first + j) → rises bytes first j ≡ true → judgedRow bytes first j ≡ Done
-  unfolding judgedRow _and_ _or_ non
+  unfolding judgedRow rowOutside rowBad _or_ non
   row-done j l u =
       rw (T→true (mem (eventsIn bytes) (keyIn bytes (first + j))) (l .event), T→true (within (rowIn bytes (first + j)) (eventsIn bytes)) (l .inside), l .some, u)
 
@@ -129,16 +129,15 @@ module _ (bytes : List ℕ) (first : ℕ) where
 
   module _ (low : (x : ℕ) → T (mem (eventsIn bytes) x) → x < width) where
     row-facts : (j : ℕ) → judgedRow bytes first j ≡ Done → LegalRow (eventsIn bytes) bytes (first + j) × (rises bytes first j ≡ true)
-    unfolding judgedRow
+    unfolding judgedRow rowOutside rowBad
     row-facts j h =
-        let key = mem (eventsIn bytes) (keyIn bytes (first + j)) in
-        let set = within (rowIn bytes (first + j)) (eventsIn bytes) in
-        let five = else-done (non (key and set)) Outside _ (λ t. t) h in
-        let six = else-done (isEmpty (rowIn bytes (first + j)) or non (rises bytes first j)) BadRow Done (λ t. t) (five .1) in
-        let both = non-false (key and set) (five .0) in
-        let event = and-l key set both in (
-          record { low = low (keyIn bytes (first + j)) event; event = event; inside = and-r key set both; some = neither _ _ (six .0) .0 },
-          T→true _ (non-false _ (neither _ _ (six .0) .1)),
+        let five = else-done (rowOutside bytes (first + j)) Outside _ (λ t. t) h in
+        let six = else-done (rowBad bytes first j) BadRow Done (λ t. t) (five .1) in
+        let inside = neither _ _ (five .0) in
+        let event = non-false _ (inside .0) in
+        let stands = neither _ _ (six .0) in (
+          record { low = low (keyIn bytes (first + j)) event; event = event; inside = non-false _ (inside .1); some = stands .0 },
+          T→true _ (non-false _ (stands .1)),
         )
 
     pub done-legal : (n j a : ℕ) → (0 < n → a ≤ keyIn bytes (first + j)) → ((i : ℕ) → i < n → judgedRow bytes first (j + i) ≡ Done) → Legal (eventsIn bytes) bytes a n (first + j)

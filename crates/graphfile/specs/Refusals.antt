@@ -55,12 +55,21 @@ unfoldable pub rises : List ℕ → ℕ → ℕ → Bool
 rises bytes first zero = true
 rises bytes first (suc j) = ltb (keyIn bytes (first + j)) (keyIn bytes (first + suc j))
 
--- row j of the relation whose first row is given: 5 for its key or its set, then 6
+-- row k of the file has a key that is no event, or a set outside the events
+unfoldable pub rowOutside : List ℕ → ℕ → Bool
+rowOutside bytes k = non (mem (eventsIn bytes) (keyIn bytes k)) or non (within (rowIn bytes k) (eventsIn bytes))
+
+-- row j of the relation whose first row is given is empty, or its key is not above the one before
+unfoldable pub rowBad : List ℕ → ℕ → ℕ → Bool
+rowBad bytes first j = isEmpty (rowIn bytes (first + j)) or non (rises bytes first j)
+
+-- 5, then 6
+abbrev pub rowAnswer : Bool → Bool → Answer
+rowAnswer outside bad = when outside then Outside else when bad then BadRow else Done
+
+-- row j of the relation whose first row is given
 unfoldable pub judgedRow : List ℕ → ℕ → ℕ → Answer
-judgedRow bytes first j =
-    when non (mem (eventsIn bytes) (keyIn bytes (first + j)) and within (rowIn bytes (first + j)) (eventsIn bytes)) then Outside
-    else when isEmpty (rowIn bytes (first + j)) or non (rises bytes first j) then BadRow
-    else Done
+judgedRow bytes first j = rowAnswer (rowOutside bytes (first + j)) (rowBad bytes first j)
 
 -- a relation, row by row
 unfoldable pub judgedRelation : List ℕ → ℕ → Answer

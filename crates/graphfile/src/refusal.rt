@@ -3,7 +3,7 @@ ghost use mathlib.Core.Path.{_≡_};
 ghost use Prim.Native.Nat.{_+_, _*_, _≤_, _<_};
 ghost use lib.ListN.{length};
 ghost use Rattle.graphfile.specs.Layout.{headLength, rowLength, relationCount, endOf};
-ghost use Rattle.graphfile.specs.Refusals.{inTurn, judgedHead, judgedEntry, judgedEnd, rises, judgedRow, judgedRelation, judgedFile};
+ghost use Rattle.graphfile.specs.Refusals.{inTurn, judgedHead, judgedEntry, judgedEnd, rises, rowOutside, rowBad, rowAnswer, judgedRow, judgedRelation, judgedFile};
 use crate::layout;
 use engine::judge::marking_within;
 use sets::Activity;
@@ -88,25 +88,49 @@ fn key_rises(bytes: &[u8], first: usize, j: usize) -> bool
     before < layout::key_in(bytes, first + j)
 }
 
+// Whether the key of row k is no event, or its set is outside the events.
+fn row_outside(bytes: &[u8], k: usize) -> bool
+    requires { ⌜ headLength + rowLength * k + rowLength ≤ length (now bytes) ⌝ }
+    ensures { λ r. ⌜ r ≡ rowOutside (now (bytes .entry)) k ⌝ }
+{
+    let events = layout::set_at(bytes, layout::EVENTS);
+    if !events.has(Activity(layout::key_in(bytes, k))) {
+        return true;
+    }
+    !layout::row_in(bytes, k).is_within(events)
+}
+
+// Whether a relation's row j is empty, or its key is not above the one before.
+fn row_bad(bytes: &[u8], first: usize, j: usize) -> bool
+    requires { ⌜ headLength + rowLength * (first + j) + rowLength ≤ length (now bytes) ⌝ }
+    ensures { λ r. ⌜ r ≡ rowBad (now (bytes .entry)) first j ⌝ }
+{
+    if layout::row_in(bytes, first + j).is_empty() {
+        return true;
+    }
+    !key_rises(bytes, first, j)
+}
+
+// The answer to a row: 5 before 6.
+fn row_answer(outside: bool, bad: bool) -> Answer
+    ensures { λ a. ⌜ a ≡ rowAnswer outside bad ⌝ }
+{
+    if outside {
+        return Answer::Outside;
+    }
+    if bad {
+        return Answer::BadRow;
+    }
+    Answer::Done
+}
+
 fn judge_row(bytes: &[u8], first: usize, j: usize) -> Answer
     requires { ⌜ headLength + rowLength * (first + j) + rowLength ≤ length (now bytes) ⌝ }
     ensures { λ a. ⌜ a ≡ judgedRow (now (bytes .entry)) first j ⌝ }
 {
-    let events = layout::set_at(bytes, layout::EVENTS);
-    let row = layout::row_in(bytes, first + j);
-    if !events.has(Activity(layout::key_in(bytes, first + j))) {
-        return Answer::Outside;
-    }
-    if !row.is_within(events) {
-        return Answer::Outside;
-    }
-    if row.is_empty() {
-        return Answer::BadRow;
-    }
-    if !key_rises(bytes, first, j) {
-        return Answer::BadRow;
-    }
-    Answer::Done
+    let outside = row_outside(bytes, first + j);
+    let bad = row_bad(bytes, first, j);
+    row_answer(outside, bad)
 }
 
 fn judge_rows(bytes: &[u8], first: usize, count: usize) -> Answer
