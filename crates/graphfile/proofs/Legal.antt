@@ -1,0 +1,161 @@
+-- Rows of a file as 01 wants them, and what the rows that they fill hold. Assumes nothing.
+use mathlib.Core.Path.{_≡_, refl, sym, ap, _∙_, subst}
+use mathlib.Core.Bool.{Bool, true, false, cond}
+use mathlib.Core.Logic.{_⊎_, inl, inr}
+use mathlib.Core.List.{List}
+use Prim.Native.Nat.{ℕ, zero, suc, _+_, _≤_, _<_, suc-le-suc}
+use native.Mathlib.Nat.{not-suc-le-zero, le-of-suc-le-suc, zero-lt-suc, add-zero, add-suc, suc-add}
+use native.Mathlib.Omega.{arith}
+use borrow.Author.Tests.{lt-ltb, ltb-true}
+use lib.Dec.{T, eqb, ltb, eqb→eq}
+use lib.ListN.{length, getD, set, length-set}
+use lib.Seq.{getD-set-same, getD-set-other}
+use Rattle.sets.specs.Tests.{_and_, _or_, non}
+use Rattle.sets.specs.Members.{width, mem, isEmpty, within}
+use Rattle.sets.specs.Rows.{rowAt, withRow}
+use Rattle.sets.specs.declared.set.Set.{Set}
+use Rattle.sets.specs.declared.answer.Answer.the-variants.{Done, Outside, BadRow}
+use Rattle.sets.proofs.Tests.{split, T→true, false→F, non-false, and-i, or-l, eqb-of}
+use Rattle.sets.proofs.RowLaws.{row-in, put-in}
+use Rattle.engine.specs.Judged.{rowWithin}
+use Rattle.graphfile.specs.Layout.{eventsIn, keyIn, rowIn}
+use Rattle.graphfile.specs.Refusals.{rises, rowOutside, rowBad, judgedRow}
+use Rattle.graphfile.specs.Held.{filled}
+use Rattle.graphfile.proofs.Accepted.{else-done}
+
+-- ---- a row that is put into rows
+
+pub length-put : (rows : List ℕ) (a : ℕ) (s : Set) → length (withRow rows a s) ≡ length rows
+unfolding withRow
+length-put rows a s = by (ltb a width)
+  where
+    by : (b : Bool) → length (cond b (set rows a (s .bits)) rows) ≡ length rows
+    by true = length-set rows a (s .bits)
+    by false = refl
+
+pub put-same : (rows : List ℕ) (a : ℕ) (s : Set) → a < width → length rows ≡ width → rowAt (withRow rows a s) a ≡ s
+put-same rows a s l e =
+    sym (row-in (withRow rows a s) a l)
+    ∙ ap (λ (r : List ℕ). record { bits = getD r a 0 }) (sym (put-in rows a s l))
+    ∙ ap (λ (n : ℕ). record { bits = n }) (getD-set-same rows a (s .bits) 0 (omega arith))
+
+pub put-other : (rows : List ℕ) (a b : ℕ) (s : Set) → (b ≡ a → ⊥) → rowAt (withRow rows a s) b ≡ rowAt rows b
+unfolding rowAt withRow
+put-other rows a b s n = by (ltb a width)
+  where
+    by : (c : Bool) → _≡_ {A = Set} (record { bits = cond (ltb b width) (getD (cond c (set rows a (s .bits)) rows) b 0) 0 }) (record { bits = cond (ltb b width) (getD rows b 0) 0 })
+    by true = ap (λ (x : ℕ). record { bits = cond (ltb b width) x 0 }) (getD-set-other rows a b (s .bits) 0 n)
+    by false = refl
+
+-- ---- n rows of the file from row k on, with rising keys from a on
+
+pub record LegalRow (events : Set) (bytes : List ℕ) (k : ℕ) : Type 0 where
+  pub low : keyIn bytes k < width
+  pub event : T (mem events (keyIn bytes k))
+  pub inside : T (within (rowIn bytes k) events)
+  pub some : isEmpty (rowIn bytes k) ≡ false
+
+abbrev pub Legal : Set → List ℕ → ℕ → ℕ → ℕ → Type 0
+Legal events bytes a zero k = Unit
+Legal events bytes a (suc n) k = (a ≤ keyIn bytes k) × LegalRow events bytes k × Legal events bytes (suc (keyIn bytes k)) n (suc k)
+
+pub from-lower : (events : Set) (bytes : List ℕ) (a b n k : ℕ) → (0 < n → b ≤ keyIn bytes k) → Legal events bytes a n k → Legal events bytes b n k
+from-lower events bytes a b zero k h l = tt
+from-lower events bytes a b (suc n) k h l = (h (zero-lt-suc n), l .1, l .2)
+
+-- ---- the rows that they fill
+
+module _ (events : Set) (bytes : List ℕ) where
+  -- below the keys the rows stay
+  pub filled-below : (rows : List ℕ) (a n k b : ℕ) → Legal events bytes a n k → b < a → rowAt (filled bytes rows n k) b ≡ rowAt rows b
+  unfolding filled
+  filled-below rows a zero k b l h = refl
+  filled-below rows a (suc n) k b l h =
+      let up = l .0 in
+      filled-below (withRow rows (keyIn bytes k) (rowIn bytes k)) (suc (keyIn bytes k)) n (suc k) b (l .2) (omega arith)
+      ∙ put-other rows (keyIn bytes k) b (rowIn bytes k) (λ e. omega arith)
+
+  -- at the first key stands its set
+  pub filled-first : (rows : List ℕ) (a n k : ℕ) → length rows ≡ width → Legal events bytes a (suc n) k → rowAt (filled bytes rows (suc n) k) (keyIn bytes k) ≡ rowIn bytes k
+  unfolding filled
+  filled-first rows a n k e l =
+      filled-below (withRow rows (keyIn bytes k) (rowIn bytes k)) (suc (keyIn bytes k)) n (suc k) (keyIn bytes k) (l .2) (omega arith)
+      ∙ put-same rows (keyIn bytes k) (rowIn bytes k) (l .1 .low) e
+
+  -- a legal row is within the events as a row of a graph is
+  row-inside : (k : ℕ) → LegalRow events bytes k → T (rowWithin events (keyIn bytes k) (rowIn bytes k))
+  unfolding rowWithin
+  row-inside k l = and-i _ _ (l .inside) (or-l _ _ (l .event))
+
+  pub filled-inside : (rows : List ℕ) (a n k : ℕ) → length rows ≡ width → Legal events bytes a n k
+      → ((b : ℕ) → b < width → T (rowWithin events b (rowAt rows b))) → (b : ℕ) → b < width → T (rowWithin events b (rowAt (filled bytes rows n k) b))
+  unfolding filled
+  filled-inside rows a zero k e l f = f
+  filled-inside rows a (suc n) k e l f =
+      filled-inside (withRow rows (keyIn bytes k) (rowIn bytes k)) (suc (keyIn bytes k)) n (suc k) (length-put rows (keyIn bytes k) (rowIn bytes k) ∙ e) (l .2)
+      (λ b h. put b h (split (eqb b (keyIn bytes k))))
+    where
+      put : (b : ℕ) → b < width → T (eqb b (keyIn bytes k)) ⊎ (T (eqb b (keyIn bytes k)) → ⊥)
+          → T (rowWithin events b (rowAt (withRow rows (keyIn bytes k) (rowIn bytes k)) b))
+      put b h (inl t) =
+          let same : b ≡ keyIn bytes k = eqb→eq b (keyIn bytes k) t in
+          subst (λ (x : ℕ). T (rowWithin events x (rowAt (withRow rows (keyIn bytes k) (rowIn bytes k)) x))) (sym same)
+          (subst (λ (s : Set). T (rowWithin events (keyIn bytes k) s)) (sym (put-same rows (keyIn bytes k) (rowIn bytes k) (l .1 .low) e)) (row-inside k (l .1)))
+      put b h (inr n) =
+          subst (λ (s : Set). T (rowWithin events b s)) (sym (put-other rows (keyIn bytes k) b (rowIn bytes k) (λ q. n (eqb-of q)))) (f b h)
+
+-- ---- legal rows are those that are judged done
+
+neither : (a b : Bool) → (a or b) ≡ false → (a ≡ false) × (b ≡ false)
+unfolding _or_
+neither true b h = absurd (false→F h tt)
+neither false b h = (refl, h)
+
+module _ (bytes : List ℕ) (first : ℕ) where
+  -- the key before row j, if there is one, is below a
+  after-last : (j a : ℕ) → ((i : ℕ) → j ≡ suc i → keyIn bytes (first + i) < a) → a ≤ keyIn bytes (first + j) → rises bytes first j ≡ true
+  unfolding rises
+  after-last zero a f h = refl
+  after-last (suc j) a f h = lt-ltb (keyIn bytes (first + j)) (keyIn bytes (first + suc j)) (omega (arith, f j refl))
+
+  row-done : (j : ℕ) → LegalRow (eventsIn bytes) bytes (first + j) → rises bytes first j ≡ true → judgedRow bytes first j ≡ Done
+  unfolding judgedRow rowOutside rowBad _or_ non
+  row-done j l u =
+      rw (T→true (mem (eventsIn bytes) (keyIn bytes (first + j))) (l .event), T→true (within (rowIn bytes (first + j)) (eventsIn bytes)) (l .inside), l .some, u)
+
+  above : (j : ℕ) → rises bytes first (suc j) ≡ true → keyIn bytes (first + j) < keyIn bytes (first + suc j)
+  unfolding rises
+  above j h = ltb-true (keyIn bytes (first + j)) (keyIn bytes (first + suc j)) h
+
+  module _ (low : (x : ℕ) → T (mem (eventsIn bytes) x) → x < width) where
+    row-facts : (j : ℕ) → judgedRow bytes first j ≡ Done → LegalRow (eventsIn bytes) bytes (first + j) × (rises bytes first j ≡ true)
+    unfolding judgedRow rowOutside rowBad
+    row-facts j h =
+        let five = else-done (rowOutside bytes (first + j)) Outside _ (λ t. t) h in
+        let six = else-done (rowBad bytes first j) BadRow Done (λ t. t) (five .1) in
+        let inside = neither _ _ (five .0) in
+        let event = non-false _ (inside .0) in
+        let stands = neither _ _ (six .0) in (
+          record { low = low (keyIn bytes (first + j)) event; event = event; inside = non-false _ (inside .1); some = stands .0 },
+          T→true _ (non-false _ (stands .1)),
+        )
+
+    pub done-legal : (n j a : ℕ) → (0 < n → a ≤ keyIn bytes (first + j)) → ((i : ℕ) → i < n → judgedRow bytes first (j + i) ≡ Done) → Legal (eventsIn bytes) bytes a n (first + j)
+    done-legal zero j a up f = tt
+    done-legal (suc n) j a up f =
+        let here = row-facts j (ap (judgedRow bytes first) (sym (add-zero j)) ∙ f 0 (zero-lt-suc n)) in
+        let rest : (i : ℕ) → i < n → judgedRow bytes first (suc j + i) ≡ Done = λ i l. ap (judgedRow bytes first) (suc-add j i ∙ sym (add-suc j i)) ∙ f (suc i) (suc-le-suc l) in (
+          up (zero-lt-suc n),
+          here .0,
+          subst (λ (k : ℕ). Legal (eventsIn bytes) bytes (suc (keyIn bytes (first + j))) n k) (add-suc first j)
+              (done-legal n (suc j) (suc (keyIn bytes (first + j))) (λ p. above j (row-facts (suc j) (ap (judgedRow bytes first) (sym (add-zero (suc j))) ∙ rest 0 p) .1)) rest),
+        )
+
+  pub legal-done : (n j a : ℕ) → ((i : ℕ) → j ≡ suc i → keyIn bytes (first + i) < a) → Legal (eventsIn bytes) bytes a n (first + j)
+      → (i : ℕ) → i < n → judgedRow bytes first (j + i) ≡ Done
+  legal-done zero j a before l i h = absurd (not-suc-le-zero h)
+  legal-done (suc n) j a before l zero h = ap (judgedRow bytes first) (add-zero j) ∙ row-done j (l .1) (after-last j a before (l .0))
+  legal-done (suc n) j a before l (suc i) h =
+      ap (judgedRow bytes first) (add-suc j i ∙ sym (suc-add j i))
+      ∙ legal-done n (suc j) (suc (keyIn bytes (first + j))) (λ x e. let same : x ≡ j = omega arith in subst (λ (y : ℕ). keyIn bytes (first + y) < suc (keyIn bytes (first + j))) (sym same) (omega arith))
+      (subst (λ (k : ℕ). Legal (eventsIn bytes) bytes (suc (keyIn bytes (first + j))) n k) (sym (add-suc first j)) (l .2)) i (le-of-suc-le-suc h)

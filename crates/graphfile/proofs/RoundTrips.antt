@@ -1,0 +1,111 @@
+-- Both round trips, of every result that the contracts of `write` and `read` allow; and the file of 01's graph G. Assumes nothing.
+use mathlib.Core.Path.{_≡_, refl, sym, ap, ap₂, _∙_, subst}
+use mathlib.Core.Bool.{Bool}
+use mathlib.Core.List.{List, [], _∷_, _++_}
+use Prim.Native.Nat.{ℕ, _+_, _≤_}
+use borrow.Author.Tests.{le-ltb}
+use lib.ListN.{length, take, drop, replicate}
+use lib.Seq.{take-at}
+use Rattle.sets.specs.Tests.{_and_, _or_, non, when_then_else_}
+use Rattle.sets.specs.Members.{bit, everyBelow, isEmpty}
+use Rattle.sets.specs.Rows.{rowAt}
+use Rattle.sets.specs.Answers.{isDone}
+use Rattle.sets.specs.declared.answer.Answer.{Answer}
+use Rattle.sets.specs.declared.answer.Answer.the-variants.{Done, BufferTooSmall}
+use Rattle.engine.specs.Markings.{openingOf}
+use Rattle.engine.specs.Relations.{graphOf}
+use Rattle.engine.specs.declared.graph.Graph.{Graph}
+use Rattle.engine.specs.Judged.{judged}
+use Rattle.graphfile.specs.declared.reader.Reading.{Reading}
+use Rattle.graphfile.specs.declared.writer.Written.{Written}
+use Rattle.graphfile.specs.Numbers.{littleEndian}
+use Rattle.graphfile.specs.Refusals.{judgedFile}
+use Rattle.graphfile.specs.Held.{graphIn, emptyGraph, readOf}
+use Rattle.graphfile.specs.Writing.{rowOf, rowsFor, rowsFrom, countFrom, entriesBytes, markingBytes, openingBytes, relationsBytes, bytesOf, judgedWrite, writtenOf, bufferAfter}
+use Rattle.graphfile.proofs.Codec.{Bytes}
+use Rattle.graphfile.proofs.Accepted.{accepted, done-then}
+use Rattle.graphfile.proofs.FileBack.{file-back, graph-back}
+use Rattle.graphfile.proofs.GraphFile.{Machine, file-done, graph-forth}
+
+-- ---- a write that is done, and a read that is
+
+module _ (g : Graph) (before : List ℕ) (ok : judged g ≡ Done) (room : length (bytesOf g) ≤ length before) where
+  done : judgedWrite g (length before) ≡ Done
+  unfolding judgedWrite
+  done = done-then ok (ap (λ (b : Bool). when b then BufferTooSmall else Done) (le-ltb (length before) (length (bytesOf g)) room))
+
+  written : writtenOf g (length before) ≡ record { answer = Done; length = length (bytesOf g) }
+  unfolding writtenOf
+  written = ap (λ (a : Answer). record { answer = a; length = when isDone a then length (bytesOf g) else 0 }) done
+
+  buffer : bufferAfter g before ≡ bytesOf g ++ drop (length (bytesOf g)) before
+  unfolding bufferAfter
+  buffer = ap (λ (a : Answer). when isDone a then bytesOf g ++ drop (length (bytesOf g)) before else before) done
+
+read-done : (bytes : List ℕ) → judgedFile bytes ≡ Done → readOf bytes ≡ record { answer = Done; graph = graphIn bytes }
+unfolding readOf
+read-done bytes ok = ap (λ (a : Answer). record { answer = a; graph = when isDone a then graphIn bytes else emptyGraph }) ok
+
+-- ---- the functions: w and after are what `write` gives and leaves, r is what `read` gives
+
+-- every acceptable graph, written into a buffer that is large enough and read again, is that graph
+pub written-then-read : (g : Graph) (before after : List ℕ) (w : Written) (r : Reading)
+    → Machine g → judged g ≡ Done → length (bytesOf g) ≤ length before
+    → w ≡ writtenOf g (length before) → after ≡ bufferAfter g before → r ≡ readOf (take (w .length) after)
+    → r ≡ record { answer = Done; graph = g }
+written-then-read g before after w r machine ok room hw ha hr =
+    let long : w .length ≡ length (bytesOf g) = ap (λ (x : Written). x .length) (hw ∙ written g before ok room) in
+    let file : take (w .length) after ≡ bytesOf g =
+    ap₂ take long (ha ∙ buffer g before ok room) ∙ take-at (bytesOf g) (drop (length (bytesOf g)) before) (length (bytesOf g)) refl in
+    hr
+    ∙ ap readOf file
+    ∙ read-done (bytesOf g) (file-done g machine ok)
+    ∙ ap (λ (x : Graph). record { answer = Done; graph = x }) (graph-forth g machine ok)
+
+-- every accepted file, read and written again, is that file byte for byte
+pub read-then-written : (bytes before after : List ℕ) (r : Reading) (w : Written)
+    → Bytes bytes → r ≡ readOf bytes → r .answer ≡ Done → length bytes ≤ length before
+    → w ≡ writtenOf (r .graph) (length before) → after ≡ bufferAfter (r .graph) before
+    → (w ≡ record { answer = Done; length = length bytes }) × (after ≡ bytes ++ drop (length bytes) before)
+unfolding readOf
+read-then-written bytes before after r w small hr ok room hw ha =
+    let accept : judgedFile bytes ≡ Done = ap (λ (x : Reading). x .answer) (sym hr) ∙ ok in
+    let graph : r .graph ≡ graphIn bytes = ap (λ (x : Reading). x .graph) (hr ∙ read-done bytes accept) in
+    let same : bytesOf (graphIn bytes) ≡ bytes = file-back bytes small (accepted bytes accept) in
+    let room′ = subst (λ (l : List ℕ). length l ≤ length before) (sym same) room in
+    let legal = graph-back bytes small (accepted bytes accept) in (
+      hw ∙ ap (λ (g : Graph). writtenOf g (length before)) graph ∙ written (graphIn bytes) before legal room′ ∙ ap (λ (l : List ℕ). record { answer = Done; length = length l }) same,
+      ha ∙ ap (λ (g : Graph). bufferAfter g before) graph ∙ buffer (graphIn bytes) before legal room′ ∙ ap (λ (l : List ℕ). l ++ drop (length l) before) same,
+    )
+
+-- ---- 01's graph G: C 0 1, 0 2; R 0 2, 1 2; I 0 1; E 0 0, 1 1, 2 1, 2 2
+
+abbrev pub exampleG : Graph
+exampleG =
+    graphOf 3 (record { bits = 7 }) (openingOf (record { bits = 7 }))
+    (0 ∷ 1 ∷ 1 ∷ replicate 61 0) (4 ∷ 4 ∷ replicate 62 0) (2 ∷ replicate 63 0) (1 ∷ 2 ∷ 6 ∷ replicate 61 0)
+
+abbrev pub fileOfG : List ℕ
+fileOfG =
+    66 ∷ 71 ∷ 1 ∷ 3
+    ∷ 7 ∷ 0 ∷ 0 ∷ 0 ∷ 0 ∷ 0 ∷ 0 ∷ 0
+    ∷ 0 ∷ 0 ∷ 0 ∷ 0 ∷ 0 ∷ 0 ∷ 0 ∷ 0
+    ∷ 0 ∷ 0 ∷ 0 ∷ 0 ∷ 0 ∷ 0 ∷ 0 ∷ 0
+    ∷ 7 ∷ 0 ∷ 0 ∷ 0 ∷ 0 ∷ 0 ∷ 0 ∷ 0
+    ∷ 0 ∷ 0 ∷ 2 ∷ 0
+    ∷ 18 ∷ 0 ∷ 2 ∷ 0
+    ∷ 36 ∷ 0 ∷ 1 ∷ 0
+    ∷ 45 ∷ 0 ∷ 3 ∷ 0
+    ∷ 1 ∷ 1 ∷ 0 ∷ 0 ∷ 0 ∷ 0 ∷ 0 ∷ 0 ∷ 0
+    ∷ 2 ∷ 1 ∷ 0 ∷ 0 ∷ 0 ∷ 0 ∷ 0 ∷ 0 ∷ 0
+    ∷ 0 ∷ 4 ∷ 0 ∷ 0 ∷ 0 ∷ 0 ∷ 0 ∷ 0 ∷ 0
+    ∷ 1 ∷ 4 ∷ 0 ∷ 0 ∷ 0 ∷ 0 ∷ 0 ∷ 0 ∷ 0
+    ∷ 0 ∷ 2 ∷ 0 ∷ 0 ∷ 0 ∷ 0 ∷ 0 ∷ 0 ∷ 0
+    ∷ 0 ∷ 1 ∷ 0 ∷ 0 ∷ 0 ∷ 0 ∷ 0 ∷ 0 ∷ 0
+    ∷ 1 ∷ 2 ∷ 0 ∷ 0 ∷ 0 ∷ 0 ∷ 0 ∷ 0 ∷ 0
+    ∷ 2 ∷ 6 ∷ 0 ∷ 0 ∷ 0 ∷ 0 ∷ 0 ∷ 0 ∷ 0
+    ∷ []
+
+pub file-of-G : (bytesOf exampleG ≡ fileOfG) × (length fileOfG ≡ 124)
+unfolding bytesOf openingBytes markingBytes entriesBytes relationsBytes rowsFrom countFrom rowOf rowsFor littleEndian rowAt isEmpty everyBelow bit non _and_
+file-of-G = (refl, refl)

@@ -1,0 +1,62 @@
+-- What stands where in a graph file (01, "Two files, contents first": Graph).
+use mathlib.Core.List.{List, [], _∷_}
+use Prim.Native.Nat.{ℕ, zero, suc, _+_, _*_}
+use lib.ListN.{getD}
+use Rattle.sets.specs.declared.set.Set.{Set}
+use Rattle.engine.specs.declared.marking.Marking.{Marking}
+use Rattle.engine.specs.Markings.{markingOf}
+use Rattle.graphfile.specs.Numbers.{numberAt}
+
+-- the two letters and the edition
+abbrev pub letters : List ℕ
+letters = 66 ∷ 71 ∷ 1 ∷ []
+
+-- the letters, the edition, A, four sets of 8 bytes, four entries of 4
+abbrev pub headLength : ℕ
+headLength = 52
+
+-- a key, and a set of 8 bytes
+abbrev pub rowLength : ℕ
+rowLength = 9
+
+-- conditions, responses, includes, excludes, numbered from 0
+abbrev pub relationCount : ℕ
+relationCount = 4
+
+-- A
+abbrev pub activitiesIn : List ℕ → ℕ
+activitiesIn bytes = getD bytes 3 0
+
+-- the set in the 8 bytes from a place on
+abbrev pub setAt : List ℕ → ℕ → Set
+setAt bytes at = record { bits = numberAt 8 bytes at }
+
+abbrev pub eventsIn : List ℕ → Set
+eventsIn bytes = setAt bytes 4
+
+-- executed, pending, included
+abbrev pub markingIn : List ℕ → Marking
+markingIn bytes = markingOf (setAt bytes 12) (setAt bytes 20) (setAt bytes 28)
+
+-- entry r: an offset, then the number of rows
+abbrev pub offsetIn : List ℕ → ℕ → ℕ
+offsetIn bytes r = numberAt 2 bytes (36 + 4 * r)
+
+abbrev pub countIn : List ℕ → ℕ → ℕ
+countIn bytes r = numberAt 2 bytes (38 + 4 * r)
+
+-- the rows of the relations before r; of all four where r is 4
+unfoldable pub earlierRows : List ℕ → ℕ → ℕ
+earlierRows bytes zero = 0
+earlierRows bytes (suc r) = earlierRows bytes r + countIn bytes r
+
+-- row k of the file, counted over the four relations: a key, then a set
+abbrev pub keyIn : List ℕ → ℕ → ℕ
+keyIn bytes k = getD bytes (headLength + rowLength * k) 0
+
+abbrev pub rowIn : List ℕ → ℕ → Set
+rowIn bytes k = setAt bytes (headLength + rowLength * k + 1)
+
+-- where the last row ends
+abbrev pub endOf : List ℕ → ℕ
+endOf bytes = headLength + rowLength * earlierRows bytes relationCount

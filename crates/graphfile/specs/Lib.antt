@@ -1,0 +1,5 @@
+pub mod Numbers
+pub mod Layout
+pub mod Refusals
+pub mod Held
+pub mod Writing

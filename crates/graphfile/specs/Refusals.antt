@@ -1,0 +1,86 @@
+-- When bytes are no graph file, and which number they get (01, "Numbers given back", the order for a graph file).
+use mathlib.Core.Bool.{Bool, true, false}
+use mathlib.Core.List.{List, [], _∷_}
+use Prim.Native.Nat.{ℕ, zero, suc, _+_, _*_}
+use lib.Dec.{eqb, ltb}
+use lib.ListN.{length, take}
+use Rattle.sets.specs.Tests.{_and_, _or_, non, when_then_else_}
+use Rattle.sets.specs.Members.{mem, those, isEmpty, within}
+use Rattle.sets.specs.declared.answer.Answer.{Answer}
+use Rattle.sets.specs.declared.answer.Answer.the-variants.{Done, TooShort, WrongLetters, AboveLimit, WrongOffset, Outside, BadRow}
+use Rattle.engine.specs.Judged.{mostActivities, markingWithin, thenAsk}
+use Rattle.graphfile.specs.Layout.{letters, headLength, rowLength, relationCount, activitiesIn, eventsIn, markingIn, offsetIn, countIn, earlierRows, keyIn, rowIn, endOf}
+
+-- the limit on a relation's rows, whatever A is
+abbrev pub mostRows : ℕ
+mostRows = 64
+
+-- the same bytes
+unfoldable pub same : List ℕ → List ℕ → Bool
+same [] [] = true
+same [] (y ∷ ys) = false
+same (x ∷ xs) [] = false
+same (x ∷ xs) (y ∷ ys) = eqb x y and same xs ys
+
+-- n questions from number i on, each asked where those before it were done: the first refusal
+unfoldable pub inTurn : (ℕ → Answer) → ℕ → ℕ → Answer
+inTurn ask zero i = Done
+inTurn ask (suc n) i = thenAsk (ask i) (inTurn ask n (suc i))
+
+-- 2; 3 for A; 5 for an event not below A, then for the marking
+unfoldable pub judgedHead : List ℕ → Answer
+judgedHead bytes =
+    when non (same (take 3 bytes) letters) then WrongLetters
+    else when ltb mostActivities (activitiesIn bytes) then AboveLimit
+    else when non (within (eventsIn bytes) (those (λ a. ltb a (activitiesIn bytes)))) then Outside
+    else when non (markingWithin (eventsIn bytes) (markingIn bytes)) then Outside
+    else Done
+
+-- an entry: 3 for its number of rows, then 4 for its offset, which is in bytes from the first row on
+unfoldable pub judgedEntry : List ℕ → ℕ → Answer
+judgedEntry bytes r =
+    when ltb mostRows (countIn bytes r) then AboveLimit
+    else when non (eqb (offsetIn bytes r) (rowLength * earlierRows bytes r)) then WrongOffset
+    else Done
+
+-- the end: 1 where bytes are missing, 4 where there are more
+unfoldable pub judgedEnd : List ℕ → Answer
+judgedEnd bytes =
+    when ltb (length bytes) (endOf bytes) then TooShort
+    else when ltb (endOf bytes) (length bytes) then WrongOffset
+    else Done
+
+-- the key of a relation's row j is above the one before; a relation's first row has none before it
+unfoldable pub rises : List ℕ → ℕ → ℕ → Bool
+rises bytes first zero = true
+rises bytes first (suc j) = ltb (keyIn bytes (first + j)) (keyIn bytes (first + suc j))
+
+-- row k of the file has a key that is no event, or a set outside the events
+unfoldable pub rowOutside : List ℕ → ℕ → Bool
+rowOutside bytes k = non (mem (eventsIn bytes) (keyIn bytes k)) or non (within (rowIn bytes k) (eventsIn bytes))
+
+-- row j of the relation whose first row is given is empty, or its key is not above the one before
+unfoldable pub rowBad : List ℕ → ℕ → ℕ → Bool
+rowBad bytes first j = isEmpty (rowIn bytes (first + j)) or non (rises bytes first j)
+
+-- 5, then 6
+abbrev pub rowAnswer : Bool → Bool → Answer
+rowAnswer outside bad = when outside then Outside else when bad then BadRow else Done
+
+-- row j of the relation whose first row is given
+unfoldable pub judgedRow : List ℕ → ℕ → ℕ → Answer
+judgedRow bytes first j = rowAnswer (rowOutside bytes (first + j)) (rowBad bytes first j)
+
+-- a relation, row by row
+unfoldable pub judgedRelation : List ℕ → ℕ → Answer
+judgedRelation bytes r = inTurn (judgedRow bytes (earlierRows bytes r)) (countIn bytes r) 0
+
+-- 1 under the length of the head; the head; entry by entry; the end; row by row
+unfoldable pub judgedFile : List ℕ → Answer
+judgedFile bytes =
+    when ltb (length bytes) headLength then TooShort
+    else
+    thenAsk (judgedHead bytes)
+    (thenAsk (inTurn (judgedEntry bytes) relationCount 0)
+    (thenAsk (judgedEnd bytes)
+    (inTurn (judgedRelation bytes) relationCount 0)))

@@ -1,0 +1,91 @@
+-- The file of a graph, and what a write gives and leaves in the buffer.
+use mathlib.Core.List.{List, [], _∷_, _++_}
+use Prim.Native.Nat.{ℕ, zero, suc, _+_, _*_}
+use lib.Dec.{ltb}
+use lib.ListN.{length, drop}
+use Rattle.sets.specs.Tests.{when_then_else_}
+use Rattle.sets.specs.Members.{width, isEmpty}
+use Rattle.sets.specs.Rows.{rowAt}
+use Rattle.sets.specs.Answers.{isDone}
+use Rattle.sets.specs.declared.set.Set.{Set}
+use Rattle.sets.specs.declared.answer.Answer.{Answer}
+use Rattle.sets.specs.declared.answer.Answer.the-variants.{Done, BufferTooSmall}
+use Rattle.engine.specs.declared.marking.Marking.{Marking}
+use Rattle.engine.specs.declared.graph.Graph.{Graph}
+use Rattle.engine.specs.Judged.{judged, thenAsk}
+use Rattle.graphfile.specs.declared.writer.Written.{Written}
+use Rattle.graphfile.specs.Numbers.{littleEndian}
+use Rattle.graphfile.specs.Layout.{letters, rowLength}
+
+abbrev pub setBytes : Set → List ℕ
+setBytes s = littleEndian 8 (s .bits)
+
+-- the row of an activity: a key and a set; nothing where the set is empty
+unfoldable pub rowOf : ℕ → Set → List ℕ
+rowOf a s = when isEmpty s then [] else a ∷ setBytes s
+
+unfoldable pub rowsFor : Set → ℕ
+rowsFor s = when isEmpty s then 0 else 1
+
+-- the rows of n activities from a on, so that keys rise; and how many there are
+unfoldable pub rowsFrom : List ℕ → ℕ → ℕ → List ℕ
+rowsFrom rows zero a = []
+rowsFrom rows (suc n) a = rowOf a (rowAt rows a) ++ rowsFrom rows n (suc a)
+
+unfoldable pub countFrom : List ℕ → ℕ → ℕ → ℕ
+countFrom rows zero a = 0
+countFrom rows (suc n) a = rowsFor (rowAt rows a) + countFrom rows n (suc a)
+
+-- a relation's rows in the file, and how many there are
+abbrev pub relationBytes : List ℕ → List ℕ
+relationBytes rows = rowsFrom rows width 0
+
+abbrev pub rowCount : List ℕ → ℕ
+rowCount rows = countFrom rows width 0
+
+-- how many rows the file has
+abbrev pub rowTotal : Graph → ℕ
+rowTotal g = rowCount (g .conditions) + rowCount (g .responses) + rowCount (g .includes) + rowCount (g .excludes)
+
+-- an entry: 9 times the earlier rows, and the number of rows
+abbrev pub entryBytes : ℕ → ℕ → List ℕ
+entryBytes earlier count = littleEndian 2 (rowLength * earlier) ++ littleEndian 2 count
+
+-- the four entries, of relations with so many rows
+unfoldable pub entriesBytes : ℕ → ℕ → ℕ → ℕ → List ℕ
+entriesBytes c r i e = entryBytes 0 c ++ entryBytes c r ++ entryBytes (c + r) i ++ entryBytes (c + r + i) e
+
+-- executed, pending, included
+unfoldable pub markingBytes : Marking → List ℕ
+markingBytes m = setBytes (m .executed) ++ setBytes (m .pending) ++ setBytes (m .included)
+
+-- the letters, the edition, A and the four sets
+unfoldable pub openingBytes : ℕ → Set → Marking → List ℕ
+openingBytes activities events m = letters ++ (activities ∷ []) ++ setBytes events ++ markingBytes m
+
+-- the rows of the four relations
+unfoldable pub relationsBytes : List ℕ → List ℕ → List ℕ → List ℕ → List ℕ
+relationsBytes c r i e = relationBytes c ++ relationBytes r ++ relationBytes i ++ relationBytes e
+
+-- the whole file
+unfoldable pub bytesOf : Graph → List ℕ
+bytesOf g =
+    openingBytes (g .activities) (g .events) (g .opening)
+    ++ entriesBytes (rowCount (g .conditions)) (rowCount (g .responses)) (rowCount (g .includes)) (rowCount (g .excludes))
+    ++ relationsBytes (g .conditions) (g .responses) (g .includes) (g .excludes)
+
+-- a write into so many bytes: 3 and 5 for the graph, then 7
+unfoldable pub judgedWrite : Graph → ℕ → Answer
+judgedWrite g space = thenAsk (judged g) (when ltb space (length (bytesOf g)) then BufferTooSmall else Done)
+
+-- the answer, and the file's length; 0 where refused
+unfoldable pub writtenOf : Graph → ℕ → Written
+writtenOf g space =
+    record {
+      answer = judgedWrite g space;
+      length = when isDone (judgedWrite g space) then length (bytesOf g) else 0;
+    }
+
+-- the buffer after it: the file, then what was there; all as it was where refused
+unfoldable pub bufferAfter : Graph → List ℕ → List ℕ
+bufferAfter g buffer = when isDone (judgedWrite g (length buffer)) then bytesOf g ++ drop (length (bytesOf g)) buffer else buffer

@@ -1,0 +1,111 @@
+// What stands where in a graph file.
+ghost use mathlib.Core.Path.{_≡_};
+ghost use Prim.Native.Nat.{_+_, _*_, _≤_, _<_};
+ghost use lib.ListN.{length, take};
+ghost use Rattle.graphfile.specs.Layout.{letters, headLength, rowLength, relationCount, setAt, markingIn, offsetIn, countIn, earlierRows, keyIn, rowIn};
+ghost use Rattle.graphfile.specs.Refusals.{same};
+use crate::number::number_at;
+use engine::Marking;
+use sets::Set;
+
+// The two letters and the edition.
+pub const LETTERS: [u8; 3] = *b"BG\x01";
+// The bytes before the first row, and those of a row.
+pub const HEAD: usize = 52;
+
+pub const ROW: usize = 9;
+// Conditions, responses, includes, excludes.
+pub const RELATIONS: usize = 4;
+// Where the four sets stand.
+pub const EVENTS: usize = 4;
+
+pub const EXECUTED: usize = 12;
+
+pub const PENDING: usize = 20;
+
+pub const INCLUDED: usize = 28;
+// Where the first entry's offset and number of rows stand, and the bytes of an entry.
+pub const OFFSETS: usize = 36;
+
+pub const COUNTS: usize = 38;
+
+pub const ENTRY: usize = 4;
+
+// Whether the bytes open with the letters and the edition.
+pub fn opens_right(bytes: &[u8]) -> bool
+    requires { ⌜ 3 ≤ length (now bytes) ⌝ }
+    ensures { λ r. ⌜ r ≡ same (take 3 (now (bytes .entry))) letters ⌝ }
+{
+    let wanted = LETTERS;
+    if bytes[0] != wanted[0] {
+        return false;
+    }
+    if bytes[1] != wanted[1] {
+        return false;
+    }
+    bytes[2] == wanted[2]
+}
+
+// The set in 8 bytes from a place on.
+pub fn set_at(bytes: &[u8], at: usize) -> Set
+    requires { ⌜ at + 8 ≤ length (now bytes) ⌝ }
+    ensures { λ r. ⌜ r ≡ setAt (now (bytes .entry)) at ⌝ }
+{
+    Set {
+        bits: number_at(bytes, at, 8),
+    }
+}
+
+pub fn marking_in(bytes: &[u8]) -> Marking
+    requires { ⌜ headLength ≤ length (now bytes) ⌝ }
+    ensures { λ r. ⌜ r ≡ markingIn (now (bytes .entry)) ⌝ }
+{
+    let executed = set_at(bytes, EXECUTED);
+    let pending = set_at(bytes, PENDING);
+    let included = set_at(bytes, INCLUDED);
+    Marking::of(executed, pending, included)
+}
+
+pub fn offset_in(bytes: &[u8], r: usize) -> usize
+    requires { ⌜ (r < relationCount) × (headLength ≤ length (now bytes)) ⌝ }
+    ensures { λ n. ⌜ n ≡ offsetIn (now (bytes .entry)) r ⌝ }
+{
+    number_at(bytes, OFFSETS + ENTRY * r, 2) as usize
+}
+
+pub fn count_in(bytes: &[u8], r: usize) -> usize
+    requires { ⌜ (r < relationCount) × (headLength ≤ length (now bytes)) ⌝ }
+    ensures { λ n. ⌜ n ≡ countIn (now (bytes .entry)) r ⌝ }
+    ensures { λ n. ⌜ n < 65536 ⌝ }
+{
+    number_at(bytes, COUNTS + ENTRY * r, 2) as usize
+}
+
+// How many rows the relations before r have.
+pub fn earlier_rows(bytes: &[u8], r: usize) -> usize
+    requires { ⌜ (r ≤ relationCount) × (headLength ≤ length (now bytes)) ⌝ }
+    ensures { λ n. ⌜ n ≡ earlierRows (now (bytes .entry)) r ⌝ }
+    ensures { λ n. ⌜ n ≤ 65536 * r ⌝ }
+{
+    let mut rows = 0;
+    let mut i = 0;
+    while i < r {
+        rows += count_in(bytes, i);
+        i += 1;
+    }
+    rows
+}
+
+pub fn key_in(bytes: &[u8], k: usize) -> u8
+    requires { ⌜ headLength + rowLength * k < length (now bytes) ⌝ }
+    ensures { λ r. ⌜ r ≡ keyIn (now (bytes .entry)) k ⌝ }
+{
+    bytes[HEAD + ROW * k]
+}
+
+pub fn row_in(bytes: &[u8], k: usize) -> Set
+    requires { ⌜ headLength + rowLength * k + rowLength ≤ length (now bytes) ⌝ }
+    ensures { λ r. ⌜ r ≡ rowIn (now (bytes .entry)) k ⌝ }
+{
+    set_at(bytes, HEAD + ROW * k + 1)
+}

@@ -1,0 +1,11 @@
+// Graph files (01, "Two files, contents first": Graph): from bytes to a graph and back.
+mod layout;
+mod number;
+pub mod reader;
+mod refusal;
+pub mod writer;
+
+pub use reader::Reading;
+pub use reader::read;
+pub use writer::Written;
+pub use writer::write;
