@@ -10,11 +10,12 @@ use lib.Dec.{T, eqb, ltb}
 use lib.ListN.{length, take}
 use Rattle.sets.specs.Tests.{_and_, _or_, non, when_then_else_}
 use Rattle.sets.specs.Members.{those, within}
-use Rattle.sets.specs.Answers.{isDone}
+use Rattle.sets.specs.Answers.{isDone, thenAsk}
 use Rattle.sets.specs.declared.answer.Answer.{Answer}
 use Rattle.sets.specs.declared.answer.Answer.the-variants.{Done, TooShort, WrongLetters, AboveLimit, WrongOffset, Outside, BadRow, BufferTooSmall, NoEvent, NotIncluded, Waiting, NoTrace}
 use Rattle.sets.proofs.Tests.{split, either, T→true, F→false, true→T, non-false}
-use Rattle.engine.specs.Judged.{mostActivities, markingWithin, thenAsk}
+use Rattle.engine.specs.Judged.{markingWithin}
+use Rattle.sets.specs.Sizes.{mostActivities}
 use Rattle.graphfile.specs.Layout.{letters, headLength, rowLength, relationCount, activitiesIn, eventsIn, markingIn, offsetIn, countIn, earlierRows, endOf}
 use Rattle.graphfile.specs.Refusals.{mostRows, same, inTurn, judgedHead, judgedEntry, judgedEnd, judgedRow, judgedRelation, judgedFile}
 

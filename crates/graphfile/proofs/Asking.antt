@@ -9,10 +9,9 @@ use native.Mathlib.Omega.{arith}
 use borrow.Author.Tests.{lt-ltb, le-ltb, not-true, not-false}
 use lib.ListN.{length}
 use Rattle.sets.specs.Tests.{_and_, _or_, when_then_else_}
-use Rattle.sets.specs.Answers.{isDone}
+use Rattle.sets.specs.Answers.{isDone, thenAsk}
 use Rattle.sets.specs.declared.answer.Answer.{Answer}
 use Rattle.sets.specs.declared.answer.Answer.the-variants.{Done, TooShort}
-use Rattle.engine.specs.Judged.{thenAsk}
 use Rattle.graphfile.specs.Layout.{headLength, relationCount}
 use Rattle.graphfile.specs.Refusals.{inTurn, judgedHead, judgedEntry, judgedEnd, judgedRelation, judgedFile}
 

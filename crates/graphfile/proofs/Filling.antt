@@ -17,7 +17,8 @@ use Rattle.engine.specs.declared.graph.Graph.{Graph}
 use Rattle.graphfile.specs.declared.reader.Reading.{Reading}
 use Rattle.graphfile.specs.Layout.{activitiesIn, eventsIn, markingIn, countIn, earlierRows, keyIn, rowIn}
 use Rattle.graphfile.specs.Refusals.{judgedFile}
-use Rattle.graphfile.specs.Held.{filled, relationIn, graphIn, emptyGraph, readOf}
+use Rattle.graphfile.specs.Held.{filled, relationIn, graphIn, readOf}
+use Rattle.engine.specs.Relations.{emptyGraph}
 
 -- ---- row by row: what is left to fill in, filled in, gives the whole
 

@@ -13,7 +13,8 @@ use Rattle.sets.specs.declared.set.Set.{Set}
 use Rattle.sets.specs.declared.answer.Answer.{Answer}
 use Rattle.sets.specs.declared.answer.Answer.the-variants.{Done, TooShort, WrongLetters, AboveLimit, WrongOffset, Outside}
 use Rattle.sets.proofs.Tests.{not-non}
-use Rattle.engine.specs.Judged.{mostActivities, markingWithin}
+use Rattle.engine.specs.Judged.{markingWithin}
+use Rattle.sets.specs.Sizes.{mostActivities}
 use Rattle.engine.specs.declared.marking.Marking.{Marking}
 use Rattle.graphfile.specs.Layout.{letters, headLength, rowLength, relationCount, activitiesIn, eventsIn, markingIn, offsetIn, countIn, earlierRows, keyIn, rowIn, endOf}
 use Rattle.graphfile.specs.Refusals.{mostRows, same, inTurn, judgedHead, judgedEntry, judgedEnd, rises, rowOutside, rowBad, rowAnswer, judgedRow, judgedRelation}

@@ -13,14 +13,14 @@ use Rattle.sets.specs.Answers.{isDone}
 use Rattle.sets.specs.declared.answer.Answer.{Answer}
 use Rattle.sets.specs.declared.answer.Answer.the-variants.{Done, BufferTooSmall}
 use Rattle.engine.specs.Markings.{openingOf}
-use Rattle.engine.specs.Relations.{graphOf}
+use Rattle.engine.specs.Relations.{graphOf, emptyGraph}
 use Rattle.engine.specs.declared.graph.Graph.{Graph}
 use Rattle.engine.specs.Judged.{judged}
 use Rattle.graphfile.specs.declared.reader.Reading.{Reading}
 use Rattle.graphfile.specs.declared.writer.Written.{Written}
 use Rattle.graphfile.specs.Numbers.{littleEndian}
 use Rattle.graphfile.specs.Refusals.{judgedFile}
-use Rattle.graphfile.specs.Held.{graphIn, emptyGraph, readOf}
+use Rattle.graphfile.specs.Held.{graphIn, readOf}
 use Rattle.graphfile.specs.Writing.{rowOf, rowsFor, rowsFrom, countFrom, entriesBytes, markingBytes, openingBytes, relationsBytes, bytesOf, judgedWrite, writtenOf, bufferAfter}
 use Rattle.graphfile.proofs.Codec.{Bytes}
 use Rattle.graphfile.proofs.Accepted.{accepted, done-then}

@@ -5,7 +5,7 @@ use Rattle.sets.specs.Tests.{when_then_else_}
 use Rattle.sets.specs.Rows.{noRows, withRow}
 use Rattle.sets.specs.Answers.{isDone}
 use Rattle.engine.specs.Markings.{noSet, emptyMarking}
-use Rattle.engine.specs.Relations.{graphOf}
+use Rattle.engine.specs.Relations.{graphOf, emptyGraph}
 use Rattle.engine.specs.declared.graph.Graph.{Graph}
 use Rattle.graphfile.specs.declared.reader.Reading.{Reading}
 use Rattle.graphfile.specs.Layout.{activitiesIn, eventsIn, markingIn, countIn, earlierRows, keyIn, rowIn}
@@ -25,10 +25,6 @@ unfoldable pub graphIn : List ℕ → Graph
 graphIn bytes =
     graphOf (activitiesIn bytes) (eventsIn bytes) (markingIn bytes)
     (relationIn bytes 0) (relationIn bytes 1) (relationIn bytes 2) (relationIn bytes 3)
-
--- A 0, empty sets, empty rows
-abbrev pub emptyGraph : Graph
-emptyGraph = graphOf 0 noSet emptyMarking noRows noRows noRows noRows
 
 -- a read: the file's answer, and its graph; the empty graph where refused (01, "Nothing else")
 unfoldable pub readOf : List ℕ → Reading

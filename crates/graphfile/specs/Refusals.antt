@@ -8,7 +8,9 @@ use Rattle.sets.specs.Tests.{_and_, _or_, non, when_then_else_}
 use Rattle.sets.specs.Members.{mem, those, isEmpty, within}
 use Rattle.sets.specs.declared.answer.Answer.{Answer}
 use Rattle.sets.specs.declared.answer.Answer.the-variants.{Done, TooShort, WrongLetters, AboveLimit, WrongOffset, Outside, BadRow}
-use Rattle.engine.specs.Judged.{mostActivities, markingWithin, thenAsk}
+use Rattle.engine.specs.Judged.{markingWithin}
+use Rattle.sets.specs.Answers.{thenAsk}
+use Rattle.sets.specs.Sizes.{mostActivities}
 use Rattle.graphfile.specs.Layout.{letters, headLength, rowLength, relationCount, activitiesIn, eventsIn, markingIn, offsetIn, countIn, earlierRows, keyIn, rowIn, endOf}
 
 -- the limit on a relation's rows, whatever A is

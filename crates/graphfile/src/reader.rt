@@ -4,7 +4,7 @@ ghost use Prim.Native.Nat.{_+_, _*_, _≤_, _<_};
 ghost use lib.ListN.{length};
 ghost use Rattle.sets.specs.Rows.{noRows};
 ghost use Rattle.graphfile.specs.Layout.{headLength, rowLength, relationCount, endOf};
-ghost use Rattle.graphfile.specs.Held.{filled, relationIn, graphIn, emptyGraph, readOf};
+ghost use Rattle.graphfile.specs.Held.{filled, relationIn, graphIn, readOf};
 use crate::layout;
 use crate::refusal::judge;
 use engine::Graph;
@@ -67,20 +67,6 @@ fn graph_in(bytes: &[u8]) -> Graph
     }
 }
 
-fn empty_graph() -> Graph
-    ensures { λ r. ⌜ r ≡ emptyGraph ⌝ }
-{
-    Graph {
-        activities: 0,
-        events: Set::EMPTY,
-        opening: Marking::EMPTY,
-        conditions: rows::empty(),
-        responses: rows::empty(),
-        includes: rows::empty(),
-        excludes: rows::empty(),
-    }
-}
-
 // Reads a graph file.
 pub fn read(bytes: &[u8]) -> Reading
     ensures { λ r. ⌜ r ≡ readOf (now (bytes .entry)) ⌝ }
@@ -89,7 +75,7 @@ pub fn read(bytes: &[u8]) -> Reading
     if !answer.is_done() {
         return Reading {
             answer,
-            graph: empty_graph(),
+            graph: Graph::empty(),
         };
     }
     Reading {

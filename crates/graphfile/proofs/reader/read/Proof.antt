@@ -10,8 +10,8 @@ judge-requires c κs = search needs
 is-done-requires : tie.Need-is-done-requires
 is-done-requires c κs = search needs
 
-empty-graph-requires : tie.Need-empty-graph-requires
-empty-graph-requires c κs = search needs
+empty-requires : tie.Need-empty-requires
+empty-requires c κs = search needs
 
 returns : tie.Need-returns
 returns c = search (reads, needs)
@@ -28,7 +28,7 @@ read-spec =
     (tie.spec
     judge-requires
     is-done-requires
-    empty-graph-requires
+    empty-requires
     returns
     graph-in-requires
     returns-2)
