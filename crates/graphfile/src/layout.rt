@@ -32,7 +32,7 @@ pub const COUNTS: usize = 38;
 pub const ENTRY: usize = 4;
 
 // Whether the bytes open with the letters and the edition.
-pub fn opens_right(bytes: &[u8]) -> bool
+pub(crate) fn opens_right(bytes: &[u8]) -> bool
     requires { ⌜ 3 ≤ length (now bytes) ⌝ }
     ensures { λ r. ⌜ r ≡ same (take 3 (now (bytes .entry))) letters ⌝ }
 {
@@ -47,7 +47,7 @@ pub fn opens_right(bytes: &[u8]) -> bool
 }
 
 // The set in 8 bytes from a place on.
-pub fn set_at(bytes: &[u8], at: usize) -> Set
+pub(crate) fn set_at(bytes: &[u8], at: usize) -> Set
     requires { ⌜ at + 8 ≤ length (now bytes) ⌝ }
     ensures { λ r. ⌜ r ≡ setAt (now (bytes .entry)) at ⌝ }
 {
@@ -56,7 +56,7 @@ pub fn set_at(bytes: &[u8], at: usize) -> Set
     }
 }
 
-pub fn marking_in(bytes: &[u8]) -> Marking
+pub(crate) fn marking_in(bytes: &[u8]) -> Marking
     requires { ⌜ headLength ≤ length (now bytes) ⌝ }
     ensures { λ r. ⌜ r ≡ markingIn (now (bytes .entry)) ⌝ }
 {
@@ -66,14 +66,14 @@ pub fn marking_in(bytes: &[u8]) -> Marking
     Marking::of(executed, pending, included)
 }
 
-pub fn offset_in(bytes: &[u8], r: usize) -> usize
+pub(crate) fn offset_in(bytes: &[u8], r: usize) -> usize
     requires { ⌜ (r < relationCount) × (headLength ≤ length (now bytes)) ⌝ }
     ensures { λ n. ⌜ n ≡ offsetIn (now (bytes .entry)) r ⌝ }
 {
     number_at(bytes, OFFSETS + ENTRY * r, 2) as usize
 }
 
-pub fn count_in(bytes: &[u8], r: usize) -> usize
+pub(crate) fn count_in(bytes: &[u8], r: usize) -> usize
     requires { ⌜ (r < relationCount) × (headLength ≤ length (now bytes)) ⌝ }
     ensures { λ n. ⌜ n ≡ countIn (now (bytes .entry)) r ⌝ }
     ensures { λ n. ⌜ n < 65536 ⌝ }
@@ -82,7 +82,7 @@ pub fn count_in(bytes: &[u8], r: usize) -> usize
 }
 
 // How many rows the relations before r have.
-pub fn earlier_rows(bytes: &[u8], r: usize) -> usize
+pub(crate) fn earlier_rows(bytes: &[u8], r: usize) -> usize
     requires { ⌜ (r ≤ relationCount) × (headLength ≤ length (now bytes)) ⌝ }
     ensures { λ n. ⌜ n ≡ earlierRows (now (bytes .entry)) r ⌝ }
     ensures { λ n. ⌜ n ≤ 65536 * r ⌝ }
@@ -96,14 +96,14 @@ pub fn earlier_rows(bytes: &[u8], r: usize) -> usize
     rows
 }
 
-pub fn key_in(bytes: &[u8], k: usize) -> u8
+pub(crate) fn key_in(bytes: &[u8], k: usize) -> u8
     requires { ⌜ headLength + rowLength * k < length (now bytes) ⌝ }
     ensures { λ r. ⌜ r ≡ keyIn (now (bytes .entry)) k ⌝ }
 {
     bytes[HEAD + ROW * k]
 }
 
-pub fn row_in(bytes: &[u8], k: usize) -> Set
+pub(crate) fn row_in(bytes: &[u8], k: usize) -> Set
     requires { ⌜ headLength + rowLength * k + rowLength ≤ length (now bytes) ⌝ }
     ensures { λ r. ⌜ r ≡ rowIn (now (bytes .entry)) k ⌝ }
 {

@@ -13,7 +13,7 @@ fn wide(b: u8) -> u64
 }
 
 // The number in n bytes from a place on.
-pub fn number_at(bytes: &[u8], at: usize, n: usize) -> u64
+pub(crate) fn number_at(bytes: &[u8], at: usize, n: usize) -> u64
     requires { ⌜ (n ≤ 8) × (at + n ≤ length (now bytes)) ⌝ }
     ensures { λ r. ⌜ r ≡ numberAt n (now (bytes .entry)) at ⌝ }
     ensures { λ r. ⌜ r < 256 ^ n ⌝ }
@@ -28,7 +28,7 @@ pub fn number_at(bytes: &[u8], at: usize, n: usize) -> u64
 }
 
 // Stores a number into n bytes from a place on.
-pub fn put_number(out: &mut [u8], at: usize, n: usize, x: u64)
+pub(crate) fn put_number(out: &mut [u8], at: usize, n: usize, x: u64)
     requires { ⌜ at + n ≤ length (now out) ⌝ }
     ensures { λ _. ⌜ now (out .exit) ≡ sets (now (out .entry)) at (littleEndian n x) ⌝ }
 {
