@@ -2,23 +2,27 @@
 use mathlib.Core.Path.{_≡_, refl, sym, ap, ap₂, _∙_}
 use mathlib.Core.Bool.{Bool, true, false, not}
 use mathlib.Core.List.{List}
-use Prim.Native.Nat.{ℕ, _+_, _*_, _%_, _^_, _<_}
+use Prim.Native.Nat.{ℕ, _+_, _*_, _%_, _^_, _≤_, _<_}
 use native.Mathlib.Omega.{arith}
-use borrow.Author.Tests.{not-true, not-false}
+use borrow.Author.Tests.{not-true, not-false, lt-ltb, le-ltb}
 use lib.ListN.{length}
 use Rattle.sets.specs.Tests.{when_then_else_}
 use Rattle.sets.specs.Answers.{numberOf, isDone}
 use Rattle.sets.specs.declared.answer.Answer.{Answer}
-use Rattle.engine.specs.Replay.{replayOf}
+use Rattle.sets.specs.declared.answer.Answer.the-variants.{BufferTooSmall}
+use Rattle.engine.specs.Replay.{replayOf, steppedOf}
+use Rattle.engine.specs.declared.marking.Marking.{Marking}
+use Rattle.engine.specs.declared.step.Stepped.{Stepped}
 use Rattle.engine.specs.declared.graph.Graph.{Graph}
 use Rattle.engine.specs.declared.replay.Replayed.{Replayed}
 use Rattle.graphfile.specs.Held.{readOf}
 use Rattle.graphfile.specs.Writing.{writtenOf, bufferAfter}
 use Rattle.graphfile.specs.declared.reader.Reading.{Reading}
 use Rattle.graphfile.specs.declared.writer.Written.{Written}
+use Rattle.graphfile.specs.Markings.{markingFrom, markingInto}
 use Rattle.miner.specs.Mine.{minedOf}
 use Rattle.miner.specs.declared.mining.Mined.{Mined}
-use Rattle.port.specs.Port.{packedOf, putNumber, putBuffer, replayNumber}
+use Rattle.port.specs.Port.{packedOf, putNumber, putBuffer, replayNumber, refusedStep, stepOf, stepBytes}
 
 pub packed-is : (a : Answer) (n low : ℕ) → low ≡ numberOf a → low + 256 * (n % 16777216) ≡ packedOf a n
 unfolding packedOf
@@ -109,3 +113,52 @@ module _ (file trace : List ℕ) (r : Reading) (hr : r ≡ readOf file) (d : Boo
         ∙ sym (ap shown (file-done true (not-false d h)))
 
 pub ruleset replaying = (replay-refused, replay-accepting, replay-other)
+
+-- ---- a step
+
+module _ (file bytes : List ℕ) (a : ℕ) where
+  abbrev judgedStep : Bool → Stepped
+  judgedStep t = when t then steppedOf (readOf file .graph) (markingFrom bytes) a else refusedStep (readOf file .answer)
+
+  long : 24 ≤ length bytes → stepOf file bytes a ≡ judgedStep (isDone (readOf file .answer))
+  unfolding stepOf
+  long h = ap (λ (t : Bool). when t then refusedStep BufferTooSmall else judgedStep (isDone (readOf file .answer))) (le-ltb (length bytes) 24 h)
+
+  pub step-short : length bytes < 24 → refusedStep BufferTooSmall ≡ stepOf file bytes a
+  unfolding stepOf
+  step-short h = sym (ap (λ (t : Bool). when t then refusedStep BufferTooSmall else judgedStep (isDone (readOf file .answer))) (lt-ltb (length bytes) 24 h))
+
+  module _ (r : Reading) (d : Bool) (hr : r ≡ readOf file) (hd : d ≡ isDone (r .answer)) (h : 24 ≤ length bytes) where
+    file-is : (t : Bool) → d ≡ t → isDone (readOf file .answer) ≡ t
+    file-is t e = sym (ap (λ (x : Reading). isDone (x .answer)) hr) ∙ sym hd ∙ e
+
+    pub step-refused : not d ≡ true → refusedStep (r .answer) ≡ stepOf file bytes a
+    step-refused n = ap (λ (x : Reading). refusedStep (x .answer)) hr ∙ sym (ap judgedStep (file-is false (not-true d n))) ∙ sym (long h)
+
+    pub step-taken : (m : Marking) (s : Stepped) → not d ≡ false → m ≡ markingFrom bytes → s ≡ steppedOf (r .graph) m a → s ≡ stepOf file bytes a
+    step-taken m s n hm hs =
+        hs
+        ∙ ap₂ (λ (x : Reading) (y : Marking). steppedOf (x .graph) y a) hr hm
+        ∙ sym (ap judgedStep (file-is true (not-false d n)))
+        ∙ sym (long h)
+
+  -- the lent bytes after it
+  module _ (s : Stepped) (d : Bool) (hs : s ≡ stepOf file bytes a) (hd : d ≡ isDone (s .answer)) where
+    said : (t : Bool) → d ≡ t → isDone (stepOf file bytes a .answer) ≡ t
+    said t e = sym (ap (λ (x : Stepped). isDone (x .answer)) hs) ∙ sym hd ∙ e
+
+    pub step-stored : (bytes′ : List ℕ) → not d ≡ false → bytes′ ≡ markingInto (s .marking) bytes → bytes′ ≡ stepBytes file bytes a
+    unfolding stepBytes
+    step-stored bytes′ n e =
+        e
+        ∙ ap (λ (x : Stepped). markingInto (x .marking) bytes) hs
+        ∙ sym (ap (λ (t : Bool). when t then markingInto (stepOf file bytes a .marking) bytes else bytes) (said true (not-false d n)))
+
+    pub step-kept : not d ≡ true → bytes ≡ stepBytes file bytes a
+    unfolding stepBytes
+    step-kept n = sym (ap (λ (t : Bool). when t then markingInto (stepOf file bytes a .marking) bytes else bytes) (said false (not-true d n)))
+
+    pub step-number : (n : ℕ) → n ≡ numberOf (s .answer) → n ≡ numberOf (stepOf file bytes a .answer)
+    step-number n e = e ∙ ap (λ (x : Stepped). numberOf (x .answer)) hs
+
+pub ruleset stepping = (step-short, step-refused, step-taken, step-stored, step-kept, step-number)

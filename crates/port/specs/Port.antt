@@ -1,13 +1,19 @@
 -- The numbers that the port gives back, and what it leaves in lent memory.
 use mathlib.Core.List.{List}
 use Prim.Native.Nat.{ℕ, _+_, _*_, _%_, _^_}
+use lib.Dec.{ltb}
+use lib.ListN.{length}
 use Rattle.sets.specs.Tests.{when_then_else_}
 use Rattle.sets.specs.Answers.{numberOf, isDone}
 use Rattle.sets.specs.declared.answer.Answer.{Answer}
-use Rattle.engine.specs.Replay.{replayOf}
+use Rattle.sets.specs.declared.answer.Answer.the-variants.{BufferTooSmall}
+use Rattle.engine.specs.Markings.{emptyMarking}
+use Rattle.engine.specs.Replay.{replayOf, steppedOf}
+use Rattle.engine.specs.declared.step.Stepped.{Stepped}
 use Rattle.engine.specs.declared.graph.Graph.{Graph}
 use Rattle.graphfile.specs.Held.{readOf}
 use Rattle.graphfile.specs.Writing.{writtenOf, bufferAfter}
+use Rattle.graphfile.specs.Markings.{markingFrom, markingInto}
 use Rattle.miner.specs.Mine.{minedOf}
 
 -- a number of 01, and 256 times what goes with it; that has 24 bits
@@ -42,3 +48,17 @@ replayNumber file trace =
     packedOf (replayOf (readOf file .graph) trace .answer) (replayOf (readOf file .graph) trace .place .0)
     + (when replayOf (readOf file .graph) trace .accepting then 2 ^ 32 else 0)
     else packedOf (readOf file .answer) 0
+
+abbrev pub refusedStep : Answer → Stepped
+refusedStep a = record { answer = a; marking = emptyMarking }
+
+-- skelfora_step: 7 where the marking has too few bytes, then the file's refusals, then the step's; nothing beside the number but of a step
+unfoldable pub stepOf : List ℕ → List ℕ → ℕ → Stepped
+stepOf file bytes a =
+    when ltb (length bytes) 24 then refusedStep BufferTooSmall
+    else when isDone (readOf file .answer) then steppedOf (readOf file .graph) (markingFrom bytes) a
+    else refusedStep (readOf file .answer)
+
+-- the marking's bytes after it: as they were where refused
+unfoldable pub stepBytes : List ℕ → List ℕ → ℕ → List ℕ
+stepBytes file bytes a = when isDone (stepOf file bytes a .answer) then markingInto (stepOf file bytes a .marking) bytes else bytes

@@ -3,8 +3,12 @@
 ghost use mathlib.Core.Path.{_≡_};
 ghost use Prim.Native.Nat.{_^_, _<_};
 ghost use lib.ListN.{length};
-ghost use Rattle.port.specs.Port.{packedOf, putNumber, putBuffer, mineNumber, mineBuffer, rewriteNumber, rewriteBuffer, replayNumber};
+ghost use Rattle.port.specs.Port.{packedOf, putNumber, putBuffer, mineNumber, mineBuffer, rewriteNumber, rewriteBuffer, replayNumber, stepOf, stepBytes};
+ghost use Rattle.sets.specs.Answers.{numberOf};
 use engine::Graph;
+use engine::Marking;
+use engine::Stepped;
+use sets::Activity;
 use sets::Answer;
 
 // The number, and a length or place above it: 256 times. No length or place here reaches the 24 bits that it has.
@@ -72,4 +76,43 @@ pub extern "C" fn skelfora_replay(file: &[u8], trace: &[u8]) -> u64
         return low + 4294967296;
     }
     low
+}
+
+// A step on the graph of a file: 7 where the marking has too few bytes, then the file's refusals, then the step's.
+fn stepped<'a>(file: &'a [u8], marking: &'a [u8], a: Activity) -> Stepped
+    ensures { λ r. ⌜ r ≡ stepOf (now (file .entry)) (now (marking .entry)) (a .0) ⌝ }
+{
+    if marking.len() < graphfile::marking::LENGTH {
+        return Stepped {
+            answer: Answer::BufferTooSmall,
+            marking: Marking::EMPTY,
+        };
+    }
+    let r = graphfile::read(file);
+    let answer = r.answer;
+    if !answer.is_done() {
+        return Stepped {
+            answer,
+            marking: Marking::EMPTY,
+        };
+    }
+    let g = r.graph;
+    let m = graphfile::marking::read_marking(marking);
+    engine::step::step(g, m, a)
+}
+
+// One step at a marking of 24 lent bytes, executed, pending, included; they stay as they were where it is refused.
+#[no_mangle]
+pub extern "C" fn skelfora_step(file: &[u8], marking: &mut [u8], activity: u8) -> u64
+    ensures { λ r. ⌜ r ≡ numberOf (stepOf (now (file .entry)) (now (marking .entry)) activity .answer) ⌝ }
+    ensures { λ _. ⌜ now (marking .exit) ≡ stepBytes (now (file .entry)) (now (marking .entry)) activity ⌝ }
+{
+    let s = stepped(file, marking, Activity(activity));
+    let answer = s.answer;
+    if !answer.is_done() {
+        return answer.number() as u64;
+    }
+    let after = s.marking;
+    graphfile::marking::write_marking(after, marking);
+    answer.number() as u64
 }
