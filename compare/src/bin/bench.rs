@@ -1,0 +1,147 @@
+//! The benchmark: ns an event for judging, mining and replaying, on six shapes of log and
+//! at growing sizes; the yardstick, and beside it the proved code where it is linked.
+//!
+//! All calls go through the five functions of `port`, so both do the same work from the
+//! same bytes. Lent buffers are not cleared between calls. The implementations take turns,
+//! a tenth of a millisecond each, and the best turn counts: other work on the machine then
+//! disturbs both alike, and the best turns hardly at all.
+use compare::door::{Door, GRAPH_ROOM};
+use compare::seeds::shapes::{of_size, small, SHAPES, SIZES};
+use compare::{judge, port, yardstick};
+use std::hint::black_box;
+use std::time::Instant;
+
+const TURNS: usize = 300;
+const TURN_NS: f64 = 100_000.0;
+
+struct Sample {
+    name: String,
+    log: Vec<u8>,
+    /// The same log with its last byte bad: all of it is judged and nothing is mined.
+    bad: Vec<u8>,
+    file: Vec<u8>,
+    traces: Vec<Vec<u8>>,
+    events: usize,
+}
+
+fn sample(name: &str, log: Vec<u8>) -> Sample {
+    let sound = judge::log::read(&log).expect("shapes are accepted");
+    let mut bad = log.clone();
+    *bad.last_mut().expect("shapes have events") = sound.a;
+    let mut file = vec![0; GRAPH_ROOM];
+    let result = (yardstick::door::DOOR.mine)(&log, &mut file);
+    file.truncate((result / 256) as usize);
+    let events = sound.traces.iter().map(Vec::len).sum();
+    let name = name.to_string();
+    let traces = sound.traces;
+    Sample {
+        name,
+        log,
+        bad,
+        file,
+        traces,
+        events,
+    }
+}
+
+/// The ns of some calls.
+fn timed(calls: usize, call: &mut dyn FnMut()) -> f64 {
+    let start = Instant::now();
+    for _ in 0..calls {
+        call();
+    }
+    start.elapsed().as_nanos() as f64
+}
+
+/// The best ns of one call, for each implementation.
+fn best(doors: &[Door], mut call: impl FnMut(&Door)) -> Vec<f64> {
+    let mut least = vec![f64::MAX; doors.len()];
+    let mut calls = vec![1; doors.len()];
+    for (door, calls) in doors.iter().zip(&mut calls) {
+        let once = timed(3, &mut || call(door)) / 3.0;
+        *calls = (TURN_NS / once).max(1.0) as usize;
+    }
+    for _ in 0..TURNS {
+        for (k, door) in doors.iter().enumerate() {
+            let ns = timed(calls[k], &mut || call(door)) / calls[k] as f64;
+            least[k] = least[k].min(ns);
+        }
+    }
+    least
+}
+
+const COLUMNS: [&str; 5] = ["judge", "mine", "replay", "net replay", "read file"];
+
+/// For each column the figures of the implementations: judging, mining (with judging and
+/// writing), replaying (with the file read for each trace), replaying less the reading, in
+/// ns an event; reading in ns a file.
+fn figures(doors: &[Door], sample: &Sample) -> [Vec<f64>; 5] {
+    let mut room = vec![0; GRAPH_ROOM];
+    let judging = best(doors, |door| {
+        assert_eq!((door.mine)(black_box(&sample.bad), &mut room), 5);
+    });
+    let mining = best(doors, |door| {
+        black_box((door.mine)(black_box(&sample.log), &mut room));
+    });
+    let replaying = best(doors, |door| {
+        for trace in &sample.traces {
+            black_box((door.replay)(black_box(&sample.file), black_box(trace)));
+        }
+    });
+    let reading = best(doors, |door| {
+        for _ in &sample.traces {
+            black_box((door.replay)(black_box(&sample.file), black_box(&[])));
+        }
+    });
+    let each = |all: &[f64], n: usize| all.iter().map(|ns| ns / n as f64).collect();
+    let net: Vec<f64> = replaying
+        .iter()
+        .zip(&reading)
+        .map(|(all, read)| all - read)
+        .collect();
+    let n = sample.events;
+    let files = each(&reading, sample.traces.len());
+    [
+        each(&judging, n),
+        each(&mining, n),
+        each(&replaying, n),
+        each(&net, n),
+        files,
+    ]
+}
+
+fn head(linked: bool) {
+    println!("ns an event, read file in ns a file; port linked: {linked}");
+    let mut line = format!("{:<14}{:>7}{:>7}", "shape", "events", "traces");
+    for column in COLUMNS {
+        line += &format!("{column:>12}");
+        if linked {
+            line += &format!("{:>9}{:>7}", "port", "ratio");
+        }
+    }
+    println!("{line}");
+}
+
+fn row(doors: &[Door], sample: &Sample) {
+    let mut line = format!("{:<14}{:>7}", sample.name, sample.events);
+    line += &format!("{:>7}", sample.traces.len());
+    for column in figures(doors, sample) {
+        line += &format!("{:>12.2}", column[0]);
+        for theirs in &column[1..] {
+            line += &format!("{theirs:>9.2}{:>7.2}", theirs / column[0]);
+        }
+    }
+    println!("{line}");
+}
+
+fn main() {
+    let mut doors = vec![yardstick::door::DOOR];
+    doors.extend(port::door());
+    head(doors.len() == 2);
+    row(&doors, &sample("small", small(3)));
+    for (name, shape) in SHAPES {
+        for size in SIZES {
+            row(&doors, &sample(name, of_size(shape, size, 11)));
+        }
+    }
+}

@@ -1,0 +1,58 @@
+//! The comparison: `compare [ROUNDS] [--need-port]`.
+//! Fails on a difference, on a number that was never seen, and, with `--need-port`, where
+//! the proved code is not linked.
+use compare::comparison::{rounds, Comparison};
+use compare::{port, yardstick};
+use std::process::ExitCode;
+use std::time::Instant;
+
+/// Well under a minute on one core.
+const ROUNDS: u64 = 600;
+
+fn main() -> ExitCode {
+    let mut count = ROUNDS;
+    let mut need_port = false;
+    for argument in std::env::args().skip(1) {
+        match argument.parse() {
+            Ok(number) => count = number,
+            Err(_) if argument == "--need-port" => need_port = true,
+            Err(_) => {
+                eprintln!("compare [ROUNDS] [--need-port]");
+                return ExitCode::from(2);
+            }
+        }
+    }
+    let mut others = vec![yardstick::door::DOOR];
+    others.extend(port::door());
+    let linked = others.len() == 2;
+    let named: Vec<&str> = others.iter().map(|door| door.name).collect();
+    println!(
+        "judge against {}; port linked: {linked}; {count} rounds",
+        named.join(", ")
+    );
+    if need_port && !linked {
+        println!("the port is needed and ../target/staticlib/libport.a was not there at build");
+        return ExitCode::FAILURE;
+    }
+    if run(others, count) {
+        ExitCode::SUCCESS
+    } else {
+        ExitCode::FAILURE
+    }
+}
+
+fn run(others: Vec<compare::door::Door>, count: u64) -> bool {
+    let start = Instant::now();
+    let mut comparison = Comparison::with(others);
+    rounds::once(&mut comparison);
+    println!(
+        "fixed inputs done after {:.1} s",
+        start.elapsed().as_secs_f64()
+    );
+    for seed in 0..count {
+        rounds::round(&mut comparison, seed);
+    }
+    let well = comparison.report();
+    println!("took {:.1} s", start.elapsed().as_secs_f64());
+    well
+}

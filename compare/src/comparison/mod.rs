@@ -1,0 +1,133 @@
+//! The judge set against every other implementation, to the byte and to the number.
+use crate::door::Door;
+use std::collections::BTreeMap;
+
+pub mod doors;
+pub mod rounds;
+pub mod values;
+
+/// The numbers that each function can give back, so that a run which never saw one of them
+/// is not taken for a full one.
+const EXPECTED: [(&str, &[u8]); 13] = [
+    ("mine", &[0, 1, 2, 3, 4, 5, 7]),
+    ("listing", &[0, 1, 2, 3, 4, 5]),
+    ("replay", &[0, 1, 2, 3, 4, 5, 6, 8, 9, 10]),
+    ("rewrite", &[0, 1, 2, 3, 4, 5, 6, 7]),
+    ("step", &[0, 1, 2, 3, 4, 5, 6, 8, 9, 10]),
+    ("mine, no step 6", &[0, 1, 2, 3, 4, 5]),
+    ("value read", &[0, 1, 2, 3, 4, 5, 6]),
+    ("value write", &[0, 3, 5, 7]),
+    ("value enabled", &[0, 3, 5, 8, 9, 10]),
+    ("value execute", &[0, 3, 5, 8, 9, 10]),
+    ("value accepting", &[0, 3, 5]),
+    ("value replay", &[0, 3, 5, 8, 9, 10]),
+    ("reader", &[0, 1, 2, 3, 4, 5, 11]),
+];
+
+pub struct Comparison {
+    /// everything but the judge
+    pub others: Vec<Door>,
+    inputs: BTreeMap<&'static str, u64>,
+    numbers: BTreeMap<&'static str, [u64; 12]>,
+    differences: u64,
+    first: Option<String>,
+    /// the one that takes least room to print
+    shortest: Option<String>,
+}
+
+impl Comparison {
+    pub fn with(others: Vec<Door>) -> Comparison {
+        Comparison {
+            others,
+            inputs: BTreeMap::new(),
+            numbers: BTreeMap::new(),
+            differences: 0,
+            first: None,
+            shortest: None,
+        }
+    }
+
+    pub fn input(&mut self, kind: &'static str) {
+        *self.inputs.entry(kind).or_default() += 1;
+    }
+
+    /// The judge's number of one call.
+    pub fn saw(&mut self, function: &'static str, number: u8) {
+        self.numbers.entry(function).or_default()[usize::from(number)] += 1;
+    }
+
+    pub fn differ(&mut self, function: &str, other: &str, what: impl FnOnce() -> String) {
+        self.differences += 1;
+        let text = format!("{function}: judge and {other} differ\n{}", what());
+        if self.first.is_none() {
+            self.first = Some(text.clone());
+        }
+        if self
+            .shortest
+            .as_ref()
+            .is_none_or(|least| text.len() < least.len())
+        {
+            self.shortest = Some(text);
+        }
+    }
+
+    /// The numbers that should have been seen and were not.
+    pub fn unseen(&self) -> Vec<(&'static str, u8)> {
+        let mut missing = Vec::new();
+        for (function, numbers) in EXPECTED {
+            let seen = self.numbers.get(function).copied().unwrap_or_default();
+            for &number in numbers {
+                if seen[usize::from(number)] == 0 {
+                    missing.push((function, number));
+                }
+            }
+        }
+        missing
+    }
+
+    /// Prints what was compared. Yes where all is well.
+    pub fn report(&self) -> bool {
+        println!("inputs");
+        for (kind, count) in &self.inputs {
+            println!("  {kind:<24}{count:>9}");
+        }
+        self.print_numbers();
+        for (function, number) in self.unseen() {
+            println!("never seen: {function} {number}");
+        }
+        if let Some(first) = &self.first {
+            println!("first difference, {first}");
+        }
+        if self.shortest != self.first {
+            println!("shortest, {}", self.shortest.as_deref().unwrap_or_default());
+        }
+        println!("differences {}", self.differences);
+        self.differences == 0 && self.unseen().is_empty()
+    }
+
+    fn print_numbers(&self) {
+        let mut total = [0; 12];
+        let mut head = format!("{:<18}", "calls by number");
+        (0..12).for_each(|number| head += &format!("{number:>9}"));
+        println!("{head}");
+        for (function, counts) in &self.numbers {
+            let mut line = format!("  {function:<16}");
+            for (sum, count) in total.iter_mut().zip(counts) {
+                *sum += count;
+                line += &format!("{count:>9}");
+            }
+            println!("{line}");
+        }
+        let line: String = total.iter().map(|count| format!("{count:>9}")).collect();
+        println!("  {:<16}{line}", "all");
+    }
+}
+
+/// Bytes in decimal, as 01 writes them.
+pub fn decimal(bytes: &[u8]) -> String {
+    bytes
+        .iter()
+        .map(|byte| byte.to_string())
+        .collect::<Vec<_>>()
+        .join(" ")
+}

@@ -1,0 +1,145 @@
+//! Which inputs are tried: some sets of logs once, then rounds of seeded ones.
+use super::Comparison;
+use crate::door::GRAPH_ROOM;
+use crate::seeds::{damage, graphs, logs, shapes, Prng};
+use crate::{judge, seeds};
+
+/// How many damaged files are made of each sound one.
+const DAMAGES: usize = 3;
+
+pub fn once(comparison: &mut Comparison) {
+    let mut prng = Prng::new(1);
+    for log in logs::exhaustive(6) {
+        on_log(comparison, &mut prng, "log: exhaustive", &log);
+    }
+    for (number, log) in logs::borders(&mut prng) {
+        let judged = judge::log::read(&log).err().unwrap_or(0);
+        if judged != number {
+            comparison.differ("border", "01", || {
+                format!("wanted {number}, judge {judged}")
+            });
+        }
+        on_log(comparison, &mut prng, "log: border", &log);
+    }
+    for (_, shape) in shapes::SHAPES {
+        let log = shapes::of_size(shape, 4096, 7);
+        on_log(comparison, &mut prng, "log: benchmark shape", &log);
+    }
+    for seed in 0..20 {
+        on_log(
+            comparison,
+            &mut prng,
+            "log: benchmark small",
+            &shapes::small(seed),
+        );
+    }
+}
+
+pub fn round(comparison: &mut Comparison, seed: u64) {
+    let mut prng = Prng::new(seed.wrapping_mul(0x1234_5678_9ABC_DEF1));
+    for (kind, count, make) in logs::KINDS {
+        for _ in 0..count {
+            let log = make(&mut prng);
+            on_log(comparison, &mut prng, kind, &log);
+            let damaged = damage::log(&mut prng, &log);
+            on_damaged_log(comparison, &mut prng, &damaged);
+        }
+    }
+    for _ in 0..4 {
+        on_random_graph(comparison, &mut prng);
+    }
+}
+
+fn on_log(comparison: &mut Comparison, prng: &mut Prng, kind: &'static str, log: &[u8]) {
+    comparison.input(kind);
+    comparison.listing(log);
+    comparison.mine_light(log);
+    on_reader(comparison, prng, log);
+    let Some(file) = comparison.mine(log, GRAPH_ROOM) else {
+        return;
+    };
+    if log.len() < 400 {
+        let room = prng.one_of(&[0, 51, file.len() - 1, file.len()]);
+        comparison.mine(log, room);
+    }
+    let sound = judge::log::read(log).expect("accepted above");
+    for trace in sound.traces.iter().take(4) {
+        comparison.replay(&file, trace);
+        let changed = graphs::changed_trace(prng, trace, sound.a);
+        comparison.replay(&file, &changed);
+    }
+    on_graph_file(comparison, prng, "graph: mined", &file);
+}
+
+fn on_damaged_log(comparison: &mut Comparison, prng: &mut Prng, log: &[u8]) {
+    comparison.input("log: damaged");
+    comparison.mine(log, GRAPH_ROOM);
+    comparison.listing(log);
+    comparison.mine_light(log);
+    on_reader(comparison, prng, log);
+}
+
+/// The first reader starts where a reader does; another may have been put together by hand.
+fn on_reader(comparison: &mut Comparison, prng: &mut Prng, log: &[u8]) {
+    let any = [0, 1, 2, 3, 1023, 1024, 65536, usize::MAX];
+    let requests: Vec<Option<usize>> = (0..5)
+        .map(|_| prng.percent(50).then(|| prng.one_of(&any)))
+        .collect();
+    let next = if prng.percent(50) {
+        0
+    } else {
+        prng.one_of(&any)
+    };
+    comparison.reader(log, next, &requests);
+}
+
+fn on_graph_file(comparison: &mut Comparison, prng: &mut Prng, kind: &'static str, file: &[u8]) {
+    comparison.input(kind);
+    comparison.value_read(file);
+    comparison.rewrite(file, GRAPH_ROOM);
+    let room = prng.one_of(&[0, 51, file.len().saturating_sub(1), file.len()]);
+    comparison.rewrite(file, room);
+    let a = file.get(3).copied().unwrap_or(0);
+    let events = file.get(4..12).map_or(0, |set| {
+        u64::from_le_bytes(set.try_into().expect("eight bytes"))
+    });
+    let trace = graphs::trace(prng, a);
+    comparison.replay(file, &trace);
+    for _ in 0..2 {
+        let marking = graphs::any_marking(prng, events);
+        let activity = graphs::activity(prng, a);
+        comparison.step(file, graphs::marking_bytes(&marking), activity);
+    }
+}
+
+fn on_random_graph(comparison: &mut Comparison, prng: &mut Prng) {
+    let value = graphs::value(prng);
+    on_graph_value(comparison, prng, "graph value: sound", &value);
+    let file = seeds::graphs::file(&value);
+    on_graph_file(comparison, prng, "graph: random", &file);
+    for _ in 0..DAMAGES {
+        let damaged = damage::graph(prng, &file);
+        on_graph_file(comparison, prng, "graph: damaged", &damaged);
+        let damaged = graphs::damaged_value(prng);
+        on_graph_value(comparison, prng, "graph value: damaged", &damaged);
+    }
+}
+
+fn on_graph_value(
+    comparison: &mut Comparison,
+    prng: &mut Prng,
+    kind: &'static str,
+    value: &crate::value::GraphValue,
+) {
+    comparison.input(kind);
+    let length = seeds::graphs::file(value).len();
+    let room = prng.one_of(&[0, length - 1, length, length + 5]);
+    comparison.value_write(value, room);
+    let trace = graphs::trace(prng, value.a);
+    comparison.value_replay(value, &trace);
+    for _ in 0..3 {
+        let marking = graphs::any_marking(prng, value.events);
+        let activity = graphs::activity(prng, value.a);
+        comparison.value_step(value, &marking, activity);
+    }
+}

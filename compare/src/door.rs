@@ -1,0 +1,35 @@
+//! The five functions of the proved library `port`, as every implementation offers them.
+//! Numbers and bytes only, so that results can be compared to the byte.
+
+/// number + 256 x length; the lent buffer receives the file or the listing.
+pub type Fill = fn(&[u8], &mut [u8]) -> u64;
+
+#[derive(Clone, Copy)]
+pub struct Door {
+    pub name: &'static str,
+    /// log, graph file
+    pub mine: Fill,
+    /// log, listing; the number is the log's, the text is there in either case
+    pub listing: Fill,
+    /// graph file, trace -> number + 256 x place + 2^32 where accepting
+    pub replay: fn(&[u8], &[u8]) -> u64,
+    /// graph file, graph file
+    pub rewrite: Fill,
+    /// graph file, marking (executed, pending, included), activity -> number
+    pub step: fn(&[u8], &mut [u8; 24], u8) -> u64,
+}
+
+/// No listing is longer: four relations of 4,096 lines of 8 bytes, 1,024 lines of at
+/// most 17, and the first line.
+pub const LISTING_ROOM: usize = 4 * 4096 * 8 + 1024 * 17 + 128;
+
+/// No graph file is longer: 52 bytes and four times 64 rows of 9.
+pub const GRAPH_ROOM: usize = 52 + 4 * 64 * 9;
+
+pub fn filled(number: u8, length: usize) -> u64 {
+    u64::from(number) + 256 * length as u64
+}
+
+pub fn replayed(number: u8, place: usize, accepting: bool) -> u64 {
+    u64::from(number) + 256 * place as u64 + (u64::from(accepting) << 32)
+}

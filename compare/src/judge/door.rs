@@ -1,0 +1,63 @@
+//! The judge behind the five functions of `port`.
+use super::engine::{execute, replay as replay_graph};
+use super::graph_file::{self, read_marking, set_bytes};
+use super::listing::listing as list;
+use super::{log, miner};
+use crate::door::{filled, replayed, Door};
+
+pub const DOOR: Door = Door {
+    name: "judge",
+    mine,
+    listing,
+    replay,
+    rewrite,
+    step,
+};
+
+fn of_write(outcome: Result<usize, u8>) -> u64 {
+    match outcome {
+        Ok(length) => filled(0, length),
+        Err(number) => filled(number, 0),
+    }
+}
+
+fn mine(bytes: &[u8], file: &mut [u8]) -> u64 {
+    let written = log::read(bytes).and_then(|log| graph_file::write(&miner::mine(&log), file));
+    of_write(written)
+}
+
+fn listing(bytes: &[u8], out: &mut [u8]) -> u64 {
+    let listed = list(bytes);
+    let text = listed.text.as_bytes();
+    out[..text.len()].copy_from_slice(text);
+    filled(listed.number, text.len())
+}
+
+fn replay(file: &[u8], trace: &[u8]) -> u64 {
+    match graph_file::read(file) {
+        Err(number) => replayed(number, 0, false),
+        Ok(graph) => {
+            let done = replay_graph(&graph, trace);
+            replayed(done.number, done.place, done.accepting)
+        }
+    }
+}
+
+fn rewrite(file: &[u8], out: &mut [u8]) -> u64 {
+    of_write(graph_file::read(file).and_then(|graph| graph_file::write(&graph, out)))
+}
+
+fn step(file: &[u8], lent: &mut [u8; 24], activity: u8) -> u64 {
+    let graph = match graph_file::read(file) {
+        Err(number) => return u64::from(number),
+        Ok(graph) => graph,
+    };
+    let mut marking = read_marking(lent);
+    if let Err(number) = execute(&graph, &mut marking, activity) {
+        return u64::from(number);
+    }
+    lent[0..8].copy_from_slice(&set_bytes(&marking.executed));
+    lent[8..16].copy_from_slice(&set_bytes(&marking.pending));
+    lent[16..24].copy_from_slice(&set_bytes(&marking.included));
+    0
+}

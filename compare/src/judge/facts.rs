@@ -1,0 +1,176 @@
+//! What the mining rules ask of a log, found by looking from every place of every trace.
+//! A rule with "every" is kept by the pairs that break it, so that one look is enough.
+use super::log::Log;
+use super::Set;
+
+pub struct Facts {
+    pub traces: Vec<Vec<u8>>,
+    /// the activities that occur
+    pub events: Set,
+    /// s: some trace has s twice
+    pub twice: Set,
+    /// (s, t): s is before t in some trace
+    pub before: Table,
+    /// (s, t): in some trace s is before the first t
+    pub before_first: Table,
+    /// (s, t): some t has no s earlier in its trace
+    pub lacks_earlier: Table,
+    /// (s, t): some s has no t later in its trace
+    pub lacks_later: Table,
+    /// (s, t): some s is directly followed by t
+    pub directly_followed: Table,
+    /// (s, t): some t has something else, or nothing, directly before it
+    pub lacks_directly_before: Table,
+    /// (u, s): some s has no earlier u with no s between them
+    pub lacks_alternate: Table,
+    /// (s, u, t): u stands between an s and a later t in some trace
+    pub between: Triples,
+}
+
+/// Yes or no for each two activities: a set of pairs as a plain table, because a long log
+/// puts the same pairs in millions of times.
+pub struct Table {
+    ticked: Vec<bool>,
+}
+
+impl Table {
+    pub fn empty() -> Table {
+        Table {
+            ticked: vec![false; 64 * 64],
+        }
+    }
+
+    pub fn contains(&self, &(s, t): &(u8, u8)) -> bool {
+        self.ticked[usize::from(s) * 64 + usize::from(t)]
+    }
+
+    pub fn insert(&mut self, (s, t): (u8, u8)) {
+        self.ticked[usize::from(s) * 64 + usize::from(t)] = true;
+    }
+}
+
+/// The same for each three activities.
+pub struct Triples {
+    ticked: Vec<bool>,
+}
+
+impl Triples {
+    fn index(s: u8, u: u8, t: u8) -> usize {
+        (usize::from(s) * 64 + usize::from(u)) * 64 + usize::from(t)
+    }
+
+    pub fn has(&self, s: u8, u: u8, t: u8) -> bool {
+        self.ticked[Triples::index(s, u, t)]
+    }
+
+    fn tick(&mut self, s: u8, u: u8, t: u8) {
+        self.ticked[Triples::index(s, u, t)] = true;
+    }
+}
+
+pub fn gather(log: &Log) -> Facts {
+    let mut facts = nothing_seen(log);
+    for trace in &log.traces {
+        let later = what_stands_later(trace);
+        let mut earlier = Set::new();
+        for (place, &here) in trace.iter().enumerate() {
+            facts.look_back(&earlier, here);
+            facts.look_directly_back(trace[..place].last(), here);
+            facts.look_back_to_the_same(&trace[..place], here);
+            facts.look_ahead(here, &later[place]);
+            facts.look_both_ways(&earlier, here, &later[place]);
+            earlier.insert(here);
+        }
+    }
+    facts
+}
+
+/// For each place of the trace, the activities after it.
+fn what_stands_later(trace: &[u8]) -> Vec<Set> {
+    let mut sets = Vec::new();
+    let mut later = Set::new();
+    for &here in trace.iter().rev() {
+        sets.push(later.clone());
+        later.insert(here);
+    }
+    sets.reverse();
+    sets
+}
+
+fn nothing_seen(log: &Log) -> Facts {
+    Facts {
+        traces: log.traces.clone(),
+        events: log.traces.iter().flatten().copied().collect(),
+        twice: Set::new(),
+        before: Table::empty(),
+        before_first: Table::empty(),
+        lacks_earlier: Table::empty(),
+        lacks_later: Table::empty(),
+        directly_followed: Table::empty(),
+        lacks_directly_before: Table::empty(),
+        lacks_alternate: Table::empty(),
+        between: Triples {
+            ticked: vec![false; 64 * 64 * 64],
+        },
+    }
+}
+
+impl Facts {
+    fn look_back(&mut self, earlier: &Set, t: u8) {
+        if earlier.contains(&t) {
+            self.twice.insert(t);
+        }
+        for &s in &self.events {
+            if !earlier.contains(&s) {
+                self.lacks_earlier.insert((s, t));
+                continue;
+            }
+            self.before.insert((s, t));
+            if !earlier.contains(&t) {
+                self.before_first.insert((s, t));
+            }
+        }
+    }
+
+    fn look_directly_back(&mut self, previous: Option<&u8>, t: u8) {
+        for &s in &self.events {
+            if previous == Some(&s) {
+                self.directly_followed.insert((s, t));
+            } else {
+                self.lacks_directly_before.insert((s, t));
+            }
+        }
+    }
+
+    /// Only what stands after the last s counts as an earlier u with no s between.
+    fn look_back_to_the_same(&mut self, earlier: &[u8], s: u8) {
+        let mut since = Set::new();
+        for &u in earlier.iter().rev() {
+            if u == s {
+                break;
+            }
+            since.insert(u);
+        }
+        for &u in &self.events {
+            if !since.contains(&u) {
+                self.lacks_alternate.insert((u, s));
+            }
+        }
+    }
+
+    fn look_ahead(&mut self, s: u8, later: &Set) {
+        for &t in &self.events {
+            if !later.contains(&t) {
+                self.lacks_later.insert((s, t));
+            }
+        }
+    }
+
+    fn look_both_ways(&mut self, earlier: &Set, u: u8, later: &Set) {
+        for &s in earlier {
+            for &t in later {
+                self.between.tick(s, u, t);
+            }
+        }
+    }
+}

@@ -1,0 +1,34 @@
+//! The judge: document 01 written down as literally as Rust allows. Sets of numbers, sets
+//! of pairs, plain loops. Clarity decides, speed does not; nothing here is shared with the
+//! yardstick.
+use std::collections::BTreeSet;
+
+pub mod door;
+pub mod engine;
+pub mod facts;
+pub mod graph;
+pub mod graph_file;
+pub mod listing;
+pub mod log;
+pub mod miner;
+pub mod steps;
+
+/// A set of activities.
+pub type Set = BTreeSet<u8>;
+
+/// A relation: pairs of source and target.
+pub type Pairs = BTreeSet<(u8, u8)>;
+
+/// The four relations of a graph.
+#[derive(Clone, Default, PartialEq, Eq, Debug)]
+pub struct Relations {
+    pub conditions: Pairs,
+    pub responses: Pairs,
+    pub includes: Pairs,
+    pub excludes: Pairs,
+}
+
+/// Two bytes of a file as a number, the low byte first.
+pub fn two_bytes(bytes: &[u8], at: usize) -> usize {
+    usize::from(bytes[at]) + 256 * usize::from(bytes[at + 1])
+}

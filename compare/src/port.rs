@@ -1,0 +1,71 @@
+//! The proved code, where build.rs found `../target/staticlib/libport.a`.
+//! A `&[u8]` passes as a pointer and then a length. Nothing checks these declarations
+//! against the Rattle source: docs/PORT.md is what they are kept in step with.
+use crate::door::Door;
+
+#[cfg(port)]
+mod sys {
+    extern "C" {
+        pub fn skelfora_mine(log: *const u8, log_len: usize, file: *mut u8, room: usize) -> u64;
+        pub fn skelfora_listing(log: *const u8, log_len: usize, out: *mut u8, room: usize) -> u64;
+        pub fn skelfora_replay(
+            file: *const u8,
+            file_len: usize,
+            trace: *const u8,
+            trace_len: usize,
+        ) -> u64;
+        pub fn skelfora_rewrite(file: *const u8, file_len: usize, out: *mut u8, room: usize)
+            -> u64;
+        pub fn skelfora_step(
+            file: *const u8,
+            file_len: usize,
+            marking: *mut u8,
+            marking_len: usize,
+            activity: u8,
+        ) -> u64;
+    }
+}
+
+// Each call lends memory that Rust has borrowed for just that long, with its true length.
+#[cfg(port)]
+mod calls {
+    use super::sys;
+
+    pub fn mine(log: &[u8], file: &mut [u8]) -> u64 {
+        unsafe { sys::skelfora_mine(log.as_ptr(), log.len(), file.as_mut_ptr(), file.len()) }
+    }
+
+    pub fn listing(log: &[u8], out: &mut [u8]) -> u64 {
+        unsafe { sys::skelfora_listing(log.as_ptr(), log.len(), out.as_mut_ptr(), out.len()) }
+    }
+
+    pub fn replay(file: &[u8], trace: &[u8]) -> u64 {
+        unsafe { sys::skelfora_replay(file.as_ptr(), file.len(), trace.as_ptr(), trace.len()) }
+    }
+
+    pub fn rewrite(file: &[u8], out: &mut [u8]) -> u64 {
+        unsafe { sys::skelfora_rewrite(file.as_ptr(), file.len(), out.as_mut_ptr(), out.len()) }
+    }
+
+    pub fn step(file: &[u8], marking: &mut [u8; 24], activity: u8) -> u64 {
+        let lent = marking.as_mut_ptr();
+        unsafe { sys::skelfora_step(file.as_ptr(), file.len(), lent, 24, activity) }
+    }
+}
+
+#[cfg(port)]
+pub fn door() -> Option<Door> {
+    Some(Door {
+        name: "port",
+        mine: calls::mine,
+        listing: calls::listing,
+        replay: calls::replay,
+        rewrite: calls::rewrite,
+        step: calls::step,
+    })
+}
+
+#[cfg(not(port))]
+pub fn door() -> Option<Door> {
+    None
+}

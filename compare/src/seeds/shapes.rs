@@ -1,0 +1,103 @@
+//! The benchmark's shapes of log, each at a wished number of events.
+use super::process::{build, run_of, shuffled, Process};
+use super::{log_file, Prng};
+
+pub const SIZES: [usize; 4] = [4096, 8192, 16384, 32768];
+
+/// A maker of one trace, at most 512 events.
+type Trace = Box<dyn FnMut(&mut Prng) -> Vec<u8>>;
+/// Prepares what all traces of a log have in common.
+type Shape = fn(&mut Prng) -> (u8, Trace);
+
+pub const SHAPES: [(&str, Shape); 5] = [
+    ("process-like", process_like),
+    ("few variants", few_variants),
+    ("long traces", long_traces),
+    ("all distinct", all_distinct),
+    ("random", random),
+];
+
+/// Traces of this shape until there are just so many events.
+pub fn of_size(shape: Shape, events: usize, seed: u64) -> Vec<u8> {
+    let mut prng = Prng::new(seed);
+    let (a, mut make) = shape(&mut prng);
+    let mut traces = Vec::new();
+    let mut total = 0;
+    while total < events {
+        let mut trace = make(&mut prng);
+        trace.truncate(events - total);
+        total += trace.len();
+        traces.push(trace);
+    }
+    log_file(a, &traces)
+}
+
+/// The paper's Table 4: 40 traces of about 12 events over 30 to 48 activities.
+pub fn small(seed: u64) -> Vec<u8> {
+    let mut prng = Prng::new(seed);
+    let a = prng.within(30, 48) as u8;
+    let order = shuffled(&mut prng, a);
+    let process = build(&mut prng, &order);
+    let mut traces = Vec::new();
+    while traces.len() < 40 {
+        let most = prng.within(9, 15);
+        let run = run_of(&process, &mut prng, 512);
+        let start = prng.below(run.len().max(1));
+        let trace = run[start..]
+            .iter()
+            .chain(&run[..start])
+            .take(most)
+            .copied()
+            .collect();
+        traces.push(trace);
+    }
+    log_file(a, &traces)
+}
+
+/// With at most 1,024 traces a log of 32,768 events needs 32 a trace.
+fn at_least(process: &Process, prng: &mut Prng, least: usize) -> Vec<u8> {
+    let mut trace = Vec::new();
+    while trace.len() < least {
+        let before = trace.len();
+        process.run(prng, &mut trace);
+        if trace.len() == before {
+            trace.push(0);
+        }
+    }
+    trace.truncate(512);
+    trace
+}
+
+fn process_like(prng: &mut Prng) -> (u8, Trace) {
+    let order = shuffled(prng, 60);
+    let process = build(prng, &order);
+    (60, Box::new(move |prng| at_least(&process, prng, 33)))
+}
+
+fn few_variants(prng: &mut Prng) -> (u8, Trace) {
+    let (a, mut make) = process_like(prng);
+    let variants: Vec<Vec<u8>> = (0..8).map(|_| make(prng)).collect();
+    (a, Box::new(move |prng| variants[prng.below(8)].clone()))
+}
+
+fn long_traces(prng: &mut Prng) -> (u8, Trace) {
+    let order = shuffled(prng, 48);
+    let process = build(prng, &order);
+    (48, Box::new(move |prng| at_least(&process, prng, 512)))
+}
+
+/// No activity twice in a trace, and no two traces alike.
+fn all_distinct(_: &mut Prng) -> (u8, Trace) {
+    (64, Box::new(|prng| shuffled(prng, 64)))
+}
+
+fn random(_: &mut Prng) -> (u8, Trace) {
+    (
+        64,
+        Box::new(|prng| {
+            (0..prng.within(33, 63))
+                .map(|_| prng.below(64) as u8)
+                .collect()
+        }),
+    )
+}

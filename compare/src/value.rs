@@ -1,0 +1,61 @@
+//! Plain data that crosses between the implementations. No rule of 01 is decided here.
+
+/// One set for each activity number, bit a for activity a.
+pub type Rows = [u64; 64];
+
+#[derive(Clone, Copy, PartialEq, Eq, Debug, Default)]
+pub struct MarkingValue {
+    pub executed: u64,
+    pub pending: u64,
+    pub included: u64,
+}
+
+/// A graph as a value: nothing about it is promised, it may be one that 01 refuses.
+/// The rows of `conditions` are kept by target, the other three by source.
+#[derive(Clone, PartialEq, Eq, Debug)]
+pub struct GraphValue {
+    pub a: u8,
+    pub events: u64,
+    pub marking: MarkingValue,
+    pub conditions: Rows,
+    pub responses: Rows,
+    pub includes: Rows,
+    pub excludes: Rows,
+}
+
+impl GraphValue {
+    pub const EMPTY: GraphValue = GraphValue {
+        a: 0,
+        events: 0,
+        marking: MarkingValue {
+            executed: 0,
+            pending: 0,
+            included: 0,
+        },
+        conditions: [0; 64],
+        responses: [0; 64],
+        includes: [0; 64],
+        excludes: [0; 64],
+    };
+}
+
+/// What replay returns.
+#[derive(Clone, Copy, PartialEq, Eq, Debug)]
+pub struct Replayed {
+    pub number: u8,
+    pub place: usize,
+    pub marking: MarkingValue,
+    pub accepting: bool,
+}
+
+impl Replayed {
+    /// Refused before the first event was looked at.
+    pub fn refused(number: u8) -> Replayed {
+        Replayed {
+            number,
+            place: 0,
+            marking: MarkingValue::default(),
+            accepting: false,
+        }
+    }
+}

@@ -1,0 +1,66 @@
+//! The yardstick behind the five functions of `port`.
+use super::graph_file::{marking_at, read_into, write_judged};
+use super::{engine, listing as lister, log, miner};
+use crate::door::{filled, replayed, Door};
+use crate::value::GraphValue;
+
+pub const DOOR: Door = Door {
+    name: "yardstick",
+    mine,
+    listing,
+    replay,
+    rewrite,
+    step,
+};
+
+fn of_write(outcome: Result<usize, u8>) -> u64 {
+    match outcome {
+        Ok(length) => filled(0, length),
+        Err(number) => filled(number, 0),
+    }
+}
+
+fn mine(bytes: &[u8], file: &mut [u8]) -> u64 {
+    of_write(log::judge(bytes).and_then(|log| write_judged(&miner::mine(&log), file)))
+}
+
+fn listing(bytes: &[u8], out: &mut [u8]) -> u64 {
+    let (number, length) = lister::listing(bytes, out);
+    filled(number, length)
+}
+
+fn replay(file: &[u8], trace: &[u8]) -> u64 {
+    let mut graph = GraphValue::EMPTY;
+    if let Err(number) = read_into(file, &mut graph) {
+        return replayed(number, 0, false);
+    }
+    if trace.len() > 512 {
+        return replayed(3, 0, false);
+    }
+    let done = engine::replay_judged(&graph, trace);
+    replayed(done.number, done.place, done.accepting)
+}
+
+fn rewrite(file: &[u8], out: &mut [u8]) -> u64 {
+    let mut graph = GraphValue::EMPTY;
+    of_write(read_into(file, &mut graph).and_then(|()| write_judged(&graph, out)))
+}
+
+fn step(file: &[u8], lent: &mut [u8; 24], activity: u8) -> u64 {
+    let mut graph = GraphValue::EMPTY;
+    if let Err(number) = read_into(file, &mut graph) {
+        return u64::from(number);
+    }
+    let mut m = marking_at(lent, 0);
+    if (m.executed | m.pending | m.included) & !graph.events != 0 {
+        return 5;
+    }
+    match engine::step(&graph, m, activity) {
+        Err(number) => return u64::from(number),
+        Ok(after) => m = after,
+    }
+    lent[..8].copy_from_slice(&m.executed.to_le_bytes());
+    lent[8..16].copy_from_slice(&m.pending.to_le_bytes());
+    lent[16..].copy_from_slice(&m.included.to_le_bytes());
+    0
+}

@@ -1,0 +1,113 @@
+//! The engine on words.
+use super::{below, bit, index};
+use crate::value::{GraphValue, MarkingValue, Replayed};
+
+/// 3 for A, then 5 for the graph.
+pub fn judge(graph: &GraphValue) -> Result<(), u8> {
+    if graph.a > 64 {
+        return Err(3);
+    }
+    judge_members(graph)
+}
+
+fn judge_members(graph: &GraphValue) -> Result<(), u8> {
+    let m = &graph.marking;
+    let mut used = m.executed | m.pending | m.included;
+    let mut keys = 0;
+    for key in 0..64 {
+        let row = graph.conditions[key]
+            | graph.responses[key]
+            | graph.includes[key]
+            | graph.excludes[key];
+        used |= row;
+        keys |= u64::from(row != 0) << key;
+    }
+    if graph.events & !below(graph.a) != 0 || (used | keys) & !graph.events != 0 {
+        return Err(5);
+    }
+    Ok(())
+}
+
+fn judge_beside(graph: &GraphValue, m: &MarkingValue) -> Result<(), u8> {
+    judge(graph)?;
+    if (m.executed | m.pending | m.included) & !graph.events != 0 {
+        return Err(5);
+    }
+    Ok(())
+}
+
+/// 8, 9, 10, or the marking after e.
+#[inline(always)]
+pub fn step(graph: &GraphValue, m: MarkingValue, e: u8) -> Result<MarkingValue, u8> {
+    if e >= 64 || graph.events & bit(e) == 0 {
+        return Err(8);
+    }
+    if m.included & bit(e) == 0 {
+        return Err(9);
+    }
+    let k = index(e);
+    if graph.conditions[k] & m.included & !m.executed != 0 {
+        return Err(10);
+    }
+    Ok(MarkingValue {
+        executed: m.executed | bit(e),
+        pending: m.pending & !bit(e) | graph.responses[k],
+        included: m.included & !graph.excludes[k] | graph.includes[k],
+    })
+}
+
+pub fn enabled(graph: &GraphValue, marking: &MarkingValue, e: u8) -> Result<(), u8> {
+    judge_beside(graph, marking)?;
+    step(graph, *marking, e).map(|_| ())
+}
+
+pub fn execute(graph: &GraphValue, marking: &mut MarkingValue, e: u8) -> Result<(), u8> {
+    judge_beside(graph, marking)?;
+    *marking = step(graph, *marking, e)?;
+    Ok(())
+}
+
+#[inline(always)]
+fn at_rest(marking: &MarkingValue) -> bool {
+    marking.pending & marking.included == 0
+}
+
+pub fn accepting(graph: &GraphValue, marking: &MarkingValue) -> Result<bool, u8> {
+    judge_beside(graph, marking)?;
+    Ok(at_rest(marking))
+}
+
+pub fn replay(graph: &GraphValue, trace: &[u8]) -> Replayed {
+    if graph.a > 64 || trace.len() > 512 {
+        return Replayed::refused(3);
+    }
+    match judge_members(graph) {
+        Err(number) => Replayed::refused(number),
+        Ok(()) => replay_judged(graph, trace),
+    }
+}
+
+/// For a graph that was judged or mined, and a trace within its limit.
+#[inline]
+pub fn replay_judged(graph: &GraphValue, trace: &[u8]) -> Replayed {
+    let mut marking = graph.marking;
+    for (place, &e) in trace.iter().enumerate() {
+        match step(graph, marking, e) {
+            Ok(after) => marking = after,
+            Err(number) => {
+                return Replayed {
+                    number,
+                    place,
+                    marking,
+                    accepting: false,
+                }
+            }
+        }
+    }
+    Replayed {
+        number: 0,
+        place: trace.len(),
+        marking,
+        accepting: at_rest(&marking),
+    }
+}

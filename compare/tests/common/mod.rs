@@ -1,0 +1,85 @@
+//! What the tests share: log L and its graph's file as 01 gives them, and short calls.
+#![allow(dead_code)]
+use compare::door::{Door, GRAPH_ROOM, LISTING_ROOM};
+use compare::seeds::log_file;
+use compare::{judge, port, yardstick};
+
+/// Log L, byte by byte from 01.
+pub const L: [u8; 19] = [66, 76, 1, 3, 2, 0, 0, 0, 3, 0, 3, 0, 2, 0, 0, 1, 2, 0, 2];
+
+/// The file of G, put together by hand from L's listing and 01's layout.
+pub fn g_file() -> Vec<u8> {
+    let mut file = vec![66, 71, 1, 3];
+    for low in [7, 0, 0, 7] {
+        file.extend([low, 0, 0, 0, 0, 0, 0, 0]);
+    }
+    file.extend([0, 0, 2, 0, 18, 0, 2, 0, 36, 0, 1, 0, 45, 0, 3, 0]);
+    let rows = [
+        (1, 1),
+        (2, 1),
+        (0, 4),
+        (1, 4),
+        (0, 2),
+        (0, 1),
+        (1, 2),
+        (2, 6),
+    ];
+    for (key, low) in rows {
+        file.extend([key, low, 0, 0, 0, 0, 0, 0, 0]);
+    }
+    file
+}
+
+/// Judge, yardstick, and the proved code where it is linked.
+pub fn doors() -> Vec<Door> {
+    let mut all = vec![judge::door::DOOR, yardstick::door::DOOR];
+    all.extend(port::door());
+    all
+}
+
+pub fn log(a: u8, traces: &[&[u8]]) -> Vec<u8> {
+    let traces: Vec<Vec<u8>> = traces.iter().map(|trace| trace.to_vec()).collect();
+    log_file(a, &traces)
+}
+
+pub fn listing(door: &Door, log: &[u8]) -> String {
+    let mut out = vec![0; LISTING_ROOM];
+    let length = (door.listing)(log, &mut out) / 256;
+    String::from_utf8(out[..length as usize].to_vec()).expect("text")
+}
+
+/// The pairs of the listing, "C 0 1, R 0 2" and so on.
+pub fn pairs(door: &Door, log: &[u8]) -> String {
+    let text = listing(door, log);
+    let lines: Vec<&str> = text
+        .lines()
+        .skip(1)
+        .filter(|line| !line.starts_with('T'))
+        .collect();
+    lines.join(", ")
+}
+
+/// The pairs of one relation only.
+pub fn pairs_of(door: &Door, relation: char, log: &[u8]) -> String {
+    let all = pairs(door, log);
+    let kept: Vec<&str> = all
+        .split(", ")
+        .filter(|pair| pair.starts_with(relation))
+        .collect();
+    kept.join(", ")
+}
+
+pub fn has(door: &Door, log: &[u8], pair: &str) -> bool {
+    pairs(door, log).split(", ").any(|found| found == pair)
+}
+
+/// The number of mining into a buffer with room for any graph.
+pub fn mined_number(door: &Door, log: &[u8]) -> u64 {
+    (door.mine)(log, &mut vec![0; GRAPH_ROOM]) % 256
+}
+
+/// number, place, accepting
+pub fn replay(door: &Door, file: &[u8], trace: &[u8]) -> (u64, u64, bool) {
+    let result = (door.replay)(file, trace);
+    (result % 256, result % (1 << 32) / 256, result >> 32 == 1)
+}

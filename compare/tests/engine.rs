@@ -1,0 +1,280 @@
+//! Steps, replay and graphs as values, with results worked out by hand from 01.
+mod common;
+use common::*;
+use compare::judge::graph::{graph_of, marking_of, marking_value};
+use compare::seeds::graphs::{file, marking_bytes};
+use compare::value::{GraphValue, MarkingValue, Replayed};
+use compare::{judge, yardstick};
+
+/// number, place, accepting
+type Outcome = (u64, u64, bool);
+
+fn set(members: &[u8]) -> u64 {
+    members.iter().map(|a| 1u64 << a).sum()
+}
+
+fn marking(executed: &[u8], pending: &[u8], included: &[u8]) -> MarkingValue {
+    MarkingValue {
+        executed: set(executed),
+        pending: set(pending),
+        included: set(included),
+    }
+}
+
+/// Judge and yardstick on a step of a value.
+fn executed(graph: &GraphValue, from: MarkingValue, e: u8) -> [(Result<(), u8>, MarkingValue); 2] {
+    let mut sets = marking_of(&from);
+    let ours = judge::engine::execute(&graph_of(graph), &mut sets, e);
+    let mut words = from;
+    let theirs = yardstick::engine::execute(graph, &mut words, e);
+    [(ours, marking_value(&sets)), (theirs, words)]
+}
+
+fn replayed(graph: &GraphValue, trace: &[u8]) -> [Replayed; 2] {
+    let done = judge::engine::replay(&graph_of(graph), trace);
+    let ours = Replayed {
+        number: done.number,
+        place: done.place,
+        marking: marking_value(&done.marking),
+        accepting: done.accepting,
+    };
+    [ours, yardstick::engine::replay(graph, trace)]
+}
+
+fn g() -> GraphValue {
+    yardstick::graph_file::read(&g_file()).expect("G is accepted")
+}
+
+#[test]
+fn traces_on_g() {
+    let cases: [(&[u8], Outcome); 8] = [
+        (&[], (0, 0, true)),
+        (&[0], (0, 1, false)),
+        (&[2], (10, 0, false)),
+        (&[0, 0], (9, 1, false)),
+        (&[0, 2, 1], (9, 2, false)),
+        (&[3], (8, 0, false)),
+        (&[255], (8, 0, false)),
+        (&[0, 1, 2], (0, 3, true)),
+    ];
+    for (trace, wanted) in cases {
+        for door in doors() {
+            assert_eq!(
+                replay(&door, &g_file(), trace),
+                wanted,
+                "{} {trace:?}",
+                door.name
+            );
+        }
+    }
+}
+
+/// After 0 on G: 2 pending, 0 shut out. A refusal gives the marking before its event.
+#[test]
+fn reading_12_marking_of_a_replay() {
+    let after_0 = marking(&[0], &[2], &[1, 2]);
+    for done in replayed(&g(), &[0]) {
+        assert_eq!(
+            done,
+            Replayed {
+                number: 0,
+                place: 1,
+                marking: after_0,
+                accepting: false
+            }
+        );
+    }
+    for done in replayed(&g(), &[0, 0, 1]) {
+        assert_eq!(
+            done,
+            Replayed {
+                number: 9,
+                place: 1,
+                marking: after_0,
+                accepting: false
+            }
+        );
+    }
+}
+
+/// The paper's Table 3, strings read from the left.
+#[test]
+fn table_3() {
+    let mut graph = GraphValue {
+        a: 8,
+        events: 255,
+        ..GraphValue::EMPTY
+    };
+    graph.responses[4] = set(&[2]);
+    graph.includes[4] = set(&[2]);
+    graph.excludes[4] = set(&[7]);
+    let from = marking(&[0], &[1, 4], &[1, 4, 7]);
+    let then = marking(&[0, 4], &[1, 2], &[1, 2, 4]);
+    for outcome in executed(&graph, from, 4) {
+        assert_eq!(outcome, (Ok(()), then));
+    }
+    for door in doors() {
+        let mut lent = marking_bytes(&from);
+        assert_eq!((door.step)(&file(&graph), &mut lent, 4), 0, "{}", door.name);
+        assert_eq!(lent, marking_bytes(&then), "{}", door.name);
+    }
+}
+
+/// a, b, c, d of the paper's example are 0, 1, 2, 3.
+fn paper_graph() -> GraphValue {
+    let mut graph = GraphValue {
+        a: 4,
+        events: 15,
+        ..GraphValue::EMPTY
+    };
+    graph.marking = marking(&[], &[0], &[0, 2, 3]);
+    graph.conditions[1] = set(&[0]);
+    graph.conditions[0] = set(&[1]);
+    graph.responses[0] = set(&[1]);
+    graph.responses[1] = set(&[0]);
+    graph.includes[2] = set(&[1]);
+    graph.excludes[3] = set(&[1, 3]);
+    graph
+}
+
+#[test]
+fn the_papers_graph() {
+    let cases: [(&[u8], Outcome); 7] = [
+        (&[0], (0, 1, true)),
+        (&[0, 2, 1, 3, 0], (0, 5, true)),
+        (&[2, 3, 2], (0, 3, false)),
+        (&[2, 3, 2, 0], (10, 3, false)),
+        (&[2, 3, 2, 1], (10, 3, false)),
+        (&[2, 3, 2, 3], (9, 3, false)),
+        (&[], (0, 0, false)),
+    ];
+    let bytes = file(&paper_graph());
+    for (trace, wanted) in cases {
+        for door in doors() {
+            assert_eq!(
+                replay(&door, &bytes, trace),
+                wanted,
+                "{} {trace:?}",
+                door.name
+            );
+        }
+    }
+}
+
+/// An include wins over an exclude of the same pair; a self-response stays pending.
+#[test]
+fn order_of_the_effects() {
+    let mut graph = GraphValue {
+        a: 2,
+        events: 3,
+        ..GraphValue::EMPTY
+    };
+    graph.responses[0] = set(&[0]);
+    graph.includes[0] = set(&[1]);
+    graph.excludes[0] = set(&[0, 1]);
+    let from = marking(&[], &[0, 1], &[0]);
+    for outcome in executed(&graph, from, 0) {
+        assert_eq!(outcome, (Ok(()), marking(&[0], &[0, 1], &[1])));
+    }
+}
+
+#[test]
+fn lengths_512_and_513() {
+    let mut graph = GraphValue {
+        a: 1,
+        events: 1,
+        ..GraphValue::EMPTY
+    };
+    graph.marking.included = 1;
+    let bytes = file(&graph);
+    for door in doors() {
+        assert_eq!(
+            replay(&door, &bytes, &[0; 512]),
+            (0, 512, true),
+            "{}",
+            door.name
+        );
+        assert_eq!(
+            replay(&door, &bytes, &[0; 513]),
+            (3, 0, false),
+            "{}",
+            door.name
+        );
+    }
+    for done in replayed(&graph, &[0; 513]) {
+        assert_eq!(done, Replayed::refused(3));
+    }
+}
+
+/// Values that readings 10 and 11 refuse, and the empty row that they don't.
+#[test]
+fn readings_10_and_11_graph_values() {
+    let sound = GraphValue {
+        a: 3,
+        events: set(&[0, 2]),
+        ..GraphValue::EMPTY
+    };
+    let with = |change: fn(&mut GraphValue)| {
+        let mut graph = sound.clone();
+        change(&mut graph);
+        graph
+    };
+    let cases = [
+        (8, sound.clone()),
+        (3, with(|g| g.a = 65)),
+        (5, with(|g| g.a = 2)),
+        (5, with(|g| g.marking.executed = 2)),
+        (5, with(|g| g.marking.pending = 2)),
+        (5, with(|g| g.marking.included = 8)),
+        (5, with(|g| g.conditions[0] = 2)),
+        (5, with(|g| g.responses[1] = 1)),
+        (5, with(|g| g.includes[63] = 4)),
+        (5, with(|g| g.excludes[2] = 1 << 63)),
+        (8, with(|g| g.excludes[2] = 5)),
+    ];
+    for (wanted, graph) in cases {
+        for done in replayed(&graph, &[255]) {
+            assert_eq!((done.number, done.place), (wanted, 0), "{graph:?}");
+        }
+        for (outcome, _) in executed(&graph, MarkingValue::default(), 1) {
+            assert_eq!(outcome, Err(wanted), "{graph:?}");
+        }
+    }
+}
+
+/// The marking handed beside a graph: 5 after the graph's own, before 8; left as it was.
+#[test]
+fn a_marking_beside_the_graph() {
+    let stray = marking(&[], &[], &[0, 3]);
+    for outcome in executed(&g(), stray, 200) {
+        assert_eq!(outcome, (Err(5), stray));
+    }
+    for door in doors() {
+        let mut lent = marking_bytes(&stray);
+        assert_eq!((door.step)(&g_file(), &mut lent, 200), 5, "{}", door.name);
+        assert_eq!(lent, marking_bytes(&stray), "{}", door.name);
+    }
+    for (e, wanted) in [(3, 8), (0, 9), (2, 10)] {
+        let from = marking(&[], &[1], if e == 0 { &[1] } else { &[0, 1, 2] });
+        for outcome in executed(&g(), from, e) {
+            assert_eq!(outcome, (Err(wanted), from));
+        }
+    }
+}
+
+/// A write judges 3 and 5 before 7.
+#[test]
+fn reading_13_write() {
+    let mut large = g();
+    large.a = 65;
+    let mut stray = g();
+    stray.excludes[2] = 8;
+    for (graph, wanted) in [(large, 3), (stray, 5), (g(), 7)] {
+        let mut none = [];
+        assert_eq!(
+            judge::graph_file::write(&graph_of(&graph), &mut none),
+            Err(wanted)
+        );
+        assert_eq!(yardstick::graph_file::write(&graph, &mut none), Err(wanted));
+    }
+}

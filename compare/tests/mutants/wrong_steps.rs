@@ -1,0 +1,277 @@
+//! Mining steps with a slip in each, written beside the judge's.
+use compare::judge::facts::{Facts, Table};
+use compare::judge::steps::{held_up, pairs_of, reduced, smallest_sources, ALL};
+use compare::judge::{Pairs, Relations, Set};
+
+pub fn responses_of_first(facts: &Facts, stood: &Relations) -> Relations {
+    let mut lacks = Table::empty();
+    for trace in &facts.traces {
+        for &s in &facts.events {
+            let Some(first) = trace.iter().position(|&e| e == s) else {
+                continue;
+            };
+            for &t in &facts.events {
+                if !trace[first + 1..].contains(&t) {
+                    lacks.insert((s, t));
+                }
+            }
+        }
+    }
+    let mut after = ALL[1](facts, stood);
+    after.responses = pairs_of(&facts.events);
+    after
+        .responses
+        .retain(|&(s, t)| s != t && !lacks.contains(&(s, t)));
+    after
+}
+
+pub fn chain_but_for_starts(facts: &Facts, stood: &Relations) -> Relations {
+    let mut lacks = Table::empty();
+    for pair in facts.traces.iter().flat_map(|trace| trace.windows(2)) {
+        for &s in facts.events.iter().filter(|&&s| s != pair[0]) {
+            lacks.insert((s, pair[1]));
+        }
+    }
+    let mut after = stood.clone();
+    for (s, t) in pairs_of(&facts.events) {
+        if s != t && facts.directly_followed.contains(&(s, t)) && !lacks.contains(&(s, t)) {
+            after.includes.insert((s, t));
+            after.excludes.insert((t, t));
+        }
+    }
+    after
+}
+
+pub fn step3_includes_only(facts: &Facts, stood: &Relations) -> Relations {
+    let mut after = ALL[2](facts, stood);
+    after.excludes = stood.excludes.clone();
+    after
+}
+
+fn never_together(facts: &Facts) -> Pairs {
+    let mut found = pairs_of(&facts.events);
+    found.retain(|&(s, t)| {
+        s != t && !facts.before.contains(&(s, t)) && !facts.before.contains(&(t, s))
+    });
+    found
+}
+
+pub fn step4_all(facts: &Facts, stood: &Relations) -> Relations {
+    let mut after = stood.clone();
+    after.excludes.extend(never_together(facts));
+    after
+}
+
+pub fn step4_if_none(facts: &Facts, stood: &Relations) -> Relations {
+    let mut found = smallest_sources(&never_together(facts));
+    found.retain(|&(_, t)| stood.excludes.iter().all(|&(_, target)| target != t));
+    let mut after = stood.clone();
+    after.excludes.extend(found);
+    after
+}
+
+/// (t, s) where s is before t in some trace and after it in none.
+fn only_before(facts: &Facts) -> Pairs {
+    let mut found = pairs_of(&facts.events);
+    found.retain(|&(t, s)| facts.before.contains(&(s, t)) && !facts.before.contains(&(t, s)));
+    found
+}
+
+pub fn step5_any_s(facts: &Facts, stood: &Relations) -> Relations {
+    let mut after = stood.clone();
+    after.excludes.extend(smallest_sources(&only_before(facts)));
+    after
+}
+
+pub fn step5_turned(facts: &Facts, stood: &Relations) -> Relations {
+    let mut found = Pairs::new();
+    for (t, s) in only_before(facts) {
+        if !stood.excludes.contains(&(s, s)) {
+            found.insert((s, t));
+        }
+    }
+    let mut after = stood.clone();
+    after.excludes.extend(smallest_sources(&found));
+    after
+}
+
+pub fn step6_where(facts: &Facts, stood: &Relations, test: fn(u8, u8, u8) -> bool) -> Relations {
+    let mut after = ALL[5](facts, stood);
+    after.includes = stood.includes.clone();
+    for (s, t) in pairs_of(&facts.events) {
+        for &u in &facts.events {
+            let followed = facts.directly_followed.contains(&(s, t));
+            if !followed && facts.between.has(s, u, t) && test(s, u, t) {
+                after.includes.insert((u, t));
+            }
+        }
+    }
+    after
+}
+
+pub fn step6_next_t(facts: &Facts, stood: &Relations) -> Relations {
+    let mut after = ALL[5](facts, stood);
+    after.includes = stood.includes.clone();
+    for trace in &facts.traces {
+        for (place, &s) in trace.iter().enumerate() {
+            for &t in &facts.events {
+                let later = &trace[place + 1..];
+                let Some(next) = later.iter().position(|&e| e == t) else {
+                    continue;
+                };
+                if !facts.directly_followed.contains(&(s, t)) {
+                    after.includes.extend(later[..next].iter().map(|&u| (u, t)));
+                }
+            }
+        }
+    }
+    after
+}
+
+pub fn step7_in_place(facts: &Facts, stood: &Relations) -> Relations {
+    let mut after = stood.clone();
+    for &(s, t) in &stood.excludes {
+        let goes = facts
+            .events
+            .iter()
+            .any(|&u| after.excludes.contains(&(u, t)) && !facts.lacks_alternate.contains(&(u, s)));
+        if goes {
+            after.excludes.remove(&(s, t));
+        }
+    }
+    after
+}
+
+pub fn step7_other_u(facts: &Facts, stood: &Relations) -> Relations {
+    let test = |u, t| u != t && stood.excludes.contains(&(u, t));
+    step7_by(facts, stood, test, &facts.lacks_alternate)
+}
+
+pub fn step7_any_earlier(facts: &Facts, stood: &Relations) -> Relations {
+    let test = |u, t| stood.excludes.contains(&(u, t));
+    step7_by(facts, stood, test, &facts.lacks_earlier)
+}
+
+fn step7_by(
+    facts: &Facts,
+    stood: &Relations,
+    test: impl Fn(u8, u8) -> bool,
+    lacks: &Table,
+) -> Relations {
+    let mut after = stood.clone();
+    after.excludes.retain(|&(s, t)| {
+        !facts
+            .events
+            .iter()
+            .any(|&u| test(u, t) && !lacks.contains(&(u, s)))
+    });
+    after
+}
+
+fn reduced_in_place(events: &Set, stood: &Pairs) -> Pairs {
+    let mut after = stood.clone();
+    for &(s, t) in stood {
+        if events
+            .iter()
+            .any(|&u| after.contains(&(s, u)) && after.contains(&(u, t)))
+        {
+            after.remove(&(s, t));
+        }
+    }
+    after
+}
+
+pub fn step8_in_place(facts: &Facts, stood: &Relations) -> Relations {
+    let mut after = stood.clone();
+    after.responses = reduced_in_place(&facts.events, &stood.responses);
+    after.conditions = reduced_in_place(&facts.events, &stood.conditions);
+    after
+}
+
+pub fn step8_conditions_only(facts: &Facts, stood: &Relations) -> Relations {
+    let mut after = ALL[7](facts, stood);
+    after.responses = stood.responses.clone();
+    after
+}
+
+fn conditions_added(facts: &Facts, stood: &Relations, test: impl Fn(u8, u8) -> bool) -> Relations {
+    let mut after = stood.clone();
+    for (s, t) in pairs_of(&facts.events) {
+        if s != t && test(s, t) {
+            after.conditions.insert((s, t));
+        }
+    }
+    after
+}
+
+/// Where s follows t, something before that t must exclude s; where none follows, all is
+/// well. That is how 01 says line 33 is not to be read.
+pub fn step9_implication(facts: &Facts, stood: &Relations) -> Relations {
+    let mut breaks = Table::empty();
+    for trace in &facts.traces {
+        for (j, &t) in trace.iter().enumerate() {
+            for &s in &trace[j + 1..] {
+                if !trace[..j].iter().any(|&h| stood.excludes.contains(&(h, s))) {
+                    breaks.insert((s, t));
+                }
+            }
+        }
+    }
+    conditions_added(facts, stood, |s, t| {
+        facts.before_first.contains(&(s, t)) && !breaks.contains(&(s, t))
+    })
+}
+
+pub fn step9_exclusion_only(facts: &Facts, stood: &Relations) -> Relations {
+    let mut forgetful = stood.clone();
+    forgetful.includes.clear();
+    let held = held_up(facts, &forgetful);
+    conditions_added(facts, stood, |s, t| {
+        facts.before_first.contains(&(s, t)) && !held.contains(&(s, t))
+    })
+}
+
+/// A pair in both relations then shuts out, so it is no longer an include.
+pub fn step9_excludes_last(facts: &Facts, stood: &Relations) -> Relations {
+    let mut shut = stood.clone();
+    shut.includes.retain(|pair| !stood.excludes.contains(pair));
+    let held = held_up(facts, &shut);
+    conditions_added(facts, stood, |s, t| {
+        facts.before_first.contains(&(s, t)) && !held.contains(&(s, t))
+    })
+}
+
+pub fn step9_any_t(facts: &Facts, stood: &Relations) -> Relations {
+    let held = held_up(facts, stood);
+    conditions_added(facts, stood, |s, t| {
+        facts.before.contains(&(s, t)) && !held.contains(&(s, t))
+    })
+}
+
+pub fn step9_own_effects(facts: &Facts, stood: &Relations) -> Relations {
+    let mut held = Table::empty();
+    for trace in &facts.traces {
+        let mut included = facts.events.clone();
+        for (place, &t) in trace.iter().enumerate() {
+            included.retain(|&a| !stood.excludes.contains(&(t, a)));
+            included.extend(
+                facts
+                    .events
+                    .iter()
+                    .filter(|&&a| stood.includes.contains(&(t, a))),
+            );
+            for &s in included.iter().filter(|s| !trace[..place].contains(s)) {
+                held.insert((s, t));
+            }
+        }
+    }
+    conditions_added(facts, stood, |s, t| {
+        facts.before_first.contains(&(s, t)) && !held.contains(&(s, t))
+    })
+}
+
+pub fn step10_as_printed(facts: &Facts, stood: &Relations) -> Relations {
+    let mut after = stood.clone();
+    after.responses = reduced(&facts.events, &stood.responses);
+    after
+}
