@@ -1,0 +1,3 @@
+-- The modules of `proofs/` that belong to no one function. A reader begins with Demands.
+pub mod Own
+pub mod Back
