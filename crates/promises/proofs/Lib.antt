@@ -3,3 +3,6 @@ pub mod Own
 pub mod Back
 pub mod Pairs
 pub mod StepForStep
+pub mod Early
+pub mod Demands
+pub mod StandIns
