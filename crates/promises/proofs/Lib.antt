@@ -1,0 +1,8 @@
+-- The modules of `proofs/` that belong to no one function. A reader begins with Demands.
+pub mod Own
+pub mod Back
+pub mod Pairs
+pub mod StepForStep
+pub mod Early
+pub mod Demands
+pub mod StandIns

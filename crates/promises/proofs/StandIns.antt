@@ -1,0 +1,113 @@
+-- The stand-ins that 01 names, each shut out by the statement of the function that it stands in for ("How much each statement says"): no
+-- function that behaves so gives what the statement says for every input. Log L and its graph G are those of 01. Assumes nothing.
+use mathlib.Core.Path.{_≡_, refl, sym, ap, _∙_}
+use mathlib.Core.Bool.{Bool, true, false}
+use mathlib.Core.List.{List, [], _∷_}
+use Prim.Native.Nat.{ℕ, _+_}
+use native.Mathlib.Nat.{add-zero}
+use lib.Dec.{eqb}
+use lib.ListN.{length, getD}
+use Rattle.sets.specs.Tests.{_and_, _or_, non, when_then_else_}
+use Rattle.sets.specs.Members.{bit, bitsOf, someBelow, everyBelow, isEmpty, within}
+use Rattle.sets.specs.Rows.{noRows, rowAt, inRow, listFrom, rowsOf}
+use Rattle.sets.specs.Answers.{isDone}
+use Rattle.sets.specs.declared.answer.Answer.the-variants.{Done, NotIncluded}
+use Rattle.sets.proofs.Tests.{true→T, false→F}
+use Rattle.sets.proofs.Asking.{done-is}
+use Rattle.engine.specs.Relations.{emptyGraph}
+use Rattle.engine.specs.Steps.{waits, enabled, after, accepting}
+use Rattle.engine.specs.Judged.{markingWithin, rowWithin, rowsWithin, relationsWithin, graphWithin, judgedFor}
+use Rattle.engine.specs.Replay.{steppedOf, ending, replayFrom, replayOf}
+use Rattle.engine.specs.declared.marking.Marking.{Marking}
+use Rattle.engine.specs.declared.graph.Graph.{Graph}
+use Rattle.engine.specs.declared.step.Stepped.{Stepped}
+use Rattle.engine.specs.declared.replay.Replayed.{Replayed}
+use Rattle.engine.proofs.Examples.{table3, table3-before, examples}
+use Rattle.calllog.specs.Logs.{Log, logOf}
+use Rattle.calllog.proofs.Examples.{logL, tracesL, reads-L}
+use Rattle.rules.specs.Traces.{_has_, _beginsWith_, atEachFrom, atSomeFrom, everyTrace, someTrace}
+use Rattle.rules.specs.Mining.{noPair, noRelations, smallestSource, _without_, event, someEvent, _with_, atMostOnce, precedes, answers, chained, together, before, followed, between, alternates, beforeFirst, step1, step2, directlyBefore, step3, neverTogether, step4, closes, step5, step6, step7, reduced, step8, includedAfter, neverMissed, step9, step10, afterFive, afterSeven, afterEight, mined}
+use Rattle.rules.specs.Mined.{graphFrom, minedGraph}
+use Rattle.rules.proofs.Cases.{G}
+use Rattle.miner.specs.Mine.{minedOf}
+use Rattle.miner.specs.declared.mining.Mined.{Mined}
+use Rattle.promises.specs.Demanded.{Refused}
+
+-- ---- what the statement of `mine` says of log L
+
+graph-L : minedGraph 3 tracesL ≡ G
+unfolding tracesL G
+    _and_ _or_ non bit bitsOf someBelow listFrom rowsOf
+    _has_ _beginsWith_ atEachFrom atSomeFrom everyTrace someTrace
+    noPair noRelations smallestSource _without_ event someEvent _with_ atMostOnce precedes answers chained together before followed between alternates beforeFirst
+    step1 step2 directlyBefore step3 neverTogether step4 closes step5 step6 step7 reduced step8 includedAfter neverMissed step9 step10
+    afterFive afterSeven afterEight mined graphFrom minedGraph
+graph-L = refl
+
+pub mine-L : (r : Mined) → r ≡ minedOf logL → r ≡ record { answer = Done; graph = G }
+unfolding minedOf
+mine-L r h =
+    h
+    ∙ ap {B = Mined} (λ (l : Log). record { answer = l .answer; graph = when isDone (l .answer) then minedGraph (l .activities) (l .traces) else emptyGraph }) reads-L
+    ∙ ap {B = Mined} (λ (g : Graph). record { answer = Done; graph = g }) graph-L
+
+-- ---- 1. a miner that refuses all
+
+pub refuses-all : (f : List ℕ → Mined) → ((bytes : List ℕ) → Refused (f bytes .answer)) → ((bytes : List ℕ) → f bytes ≡ minedOf bytes) → ⊥
+refuses-all f refuses meets =
+    false→F (refuses logL) (true→T (ap (λ (r : Mined). isDone (r .answer)) (mine-L (f logL) (meets logL))))
+
+-- ---- 2. a miner that gives a graph without relations
+
+pub no-relations : (f : List ℕ → Mined)
+    → ((bytes : List ℕ) → (f bytes .graph .conditions ≡ noRows) × (f bytes .graph .responses ≡ noRows) × (f bytes .graph .includes ≡ noRows) × (f bytes .graph .excludes ≡ noRows))
+    → ((bytes : List ℕ) → f bytes ≡ minedOf bytes) → ⊥
+unfolding G listFrom
+no-relations f none meets =
+    let first : List ℕ → Bool = λ rows. eqb (getD rows 1 0) 0 in
+    false→F (ap (λ (r : Mined). first (r .graph .conditions)) (mine-L (f logL) (meets logL))) (true→T (ap first (none logL .0)))
+
+-- ---- 3. an execute that changes nothing: Table 3 of the source paper has a step that is done
+
+pub changes-nothing : (f : Graph → Marking → ℕ → Stepped) → ((g : Graph) (m : Marking) (e : ℕ) → f g m e .marking ≡ m)
+    → ((g : Graph) (m : Marking) (e : ℕ) → f g m e ≡ steppedOf g m e) → ⊥
+changes-nothing f same meets =
+    let lacks-4 : Marking → Bool = λ m. eqb (m .executed .bits) 1 in
+    false→F (ap (λ (r : Stepped). lacks-4 (r .marking)) (meets table3 table3-before 4 ∙ examples .0))
+    (true→T (ap lacks-4 (same table3 table3-before 4)))
+
+-- ---- 4. a replay that works at the first event and then only moves on: to the end of the trace, with the marking as it is
+
+unfoldable pub onward : Replayed → ℕ → Replayed
+onward r n = when isDone (r .answer) then ending Done (r .place .0 + n) (r .marking) (r .accepting) else r
+
+unfoldable pub movesOn : Graph → List ℕ → Replayed
+movesOn g [] = replayOf g []
+movesOn g (e ∷ es) = onward (replayOf g (e ∷ [])) (length es)
+
+-- it does work at the first event
+pub first-works : (g : Graph) (e : ℕ) → movesOn g (e ∷ []) ≡ replayOf g (e ∷ [])
+unfolding movesOn onward
+first-works g e = by (replayOf g (e ∷ [])) (isDone (replayOf g (e ∷ []) .answer)) refl
+  where
+    by : (r : Replayed) (t : Bool) → isDone (r .answer) ≡ t → (when isDone (r .answer) then ending Done (r .place .0 + 0) (r .marking) (r .accepting) else r) ≡ r
+    by r true y =
+        ap (λ (t : Bool). when t then ending Done (r .place .0 + 0) (r .marking) (r .accepting) else r) y
+        ∙ (λ i. record { answer = sym (done-is (r .answer) y) i; place = record { 0 = add-zero (r .place .0) i }; marking = r .marking; accepting = r .accepting })
+    by r false n = ap (λ (t : Bool). when t then ending Done (r .place .0 + 0) (r .marking) (r .accepting) else r) n
+
+-- on G, 0 is enabled once: ⟨0⟩ is done, and ⟨0,0⟩ is refused with 9
+on-G : (replayOf G (0 ∷ []) .answer ≡ Done) × (replayOf G (0 ∷ 0 ∷ []) .answer ≡ NotIncluded)
+unfolding G listFrom
+    _and_ _or_ non bit bitsOf someBelow everyBelow isEmpty within rowAt inRow
+    waits enabled after accepting markingWithin rowWithin rowsWithin relationsWithin graphWithin judgedFor replayFrom replayOf
+on-G = (refl, refl)
+
+pub only-moves-on : ((g : Graph) (σ : List ℕ) → movesOn g σ ≡ replayOf g σ) → ⊥
+unfolding movesOn onward
+only-moves-on meets =
+    let still : isDone (movesOn G (0 ∷ 0 ∷ []) .answer) ≡ true =
+    ap (λ (t : Bool). isDone ((when t then ending Done (replayOf G (0 ∷ []) .place .0 + 1) (replayOf G (0 ∷ []) .marking) (replayOf G (0 ∷ []) .accepting) else replayOf G (0 ∷ [])) .answer)) (ap isDone (on-G .0)) in
+    false→F (ap (λ (r : Replayed). isDone (r .answer)) (meets G (0 ∷ 0 ∷ [])) ∙ ap isDone (on-G .1)) (true→T still)
+
+-- ---- 5. a listing with invented pair counts: its place is here, beside the statement of the listing
