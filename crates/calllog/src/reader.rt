@@ -33,3 +33,11 @@ pub fn next_trace<'s, 'a>(r: &'s mut LogReader<'a>) -> Found
     let k = r.next;
     trace(r, k)
 }
+
+// Trace k by a reader that is opened for this one question, for whoever keeps no reader: its parameters are plain, so no caller owes a walk.
+pub fn read_trace(log: &[u8], k: usize) -> Found
+    ensures { λ f. ⌜ f ≡ foundOf (now (log .entry)) k ⌝ }
+{
+    let mut r = open(log);
+    trace(&mut r, k)
+}
