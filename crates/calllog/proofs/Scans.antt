@@ -1,6 +1,6 @@
 -- Bytes read one by one: past the end, two at a time, and in a loop against a recursive definition. Assumes nothing.
-use mathlib.Core.Path.{_≡_, sym, ap, ap₂, _∙_}
-use mathlib.Core.Bool.{Bool, true, false}
+use mathlib.Core.Path.{_≡_, refl, sym, ap, ap₂, _∙_}
+use mathlib.Core.Bool.{Bool, true, false, _&&_}
 use mathlib.Core.List.{List}
 use Prim.Native.Nat.{ℕ, suc, _+_, _*_, _≤_, _<_}
 use native.Mathlib.Numerals.{add-one}
@@ -10,6 +10,7 @@ use lib.Dec.{eqb, ltb}
 use lib.ListN.{length, getD, drop, List·getD-eq-default, drop-of-length-le}
 use lib.Seq.{drop-cons}
 use Rattle.sets.specs.Tests.{_and_}
+use Rattle.sets.proofs.Tests.{true-and, and-true}
 use Rattle.calllog.specs.Layout.{opensWith, numberAt}
 use Rattle.calllog.specs.Judged.{allBelow}
 
@@ -55,23 +56,28 @@ pub ruleset opening = (open-next, open-differs, open-short, open-end)
 
 -- ---- bytes that are all below a, byte by byte
 
-module _ (a : ℕ) (bytes : List ℕ) (i : ℕ) (R : Bool) (held : allBelow a (drop i bytes) ≡ R) where
-  seen : i < length bytes → (ltb (getD bytes i 0) a and allBelow a (drop (suc i) bytes)) ≡ R
-  unfolding allBelow
-  seen b = ap (allBelow a) (sym (drop-cons bytes i 0 b)) ∙ held
+-- the code's `&`
+regroup : (a b c : Bool) → ((a && b) and c) ≡ (a and (b and c))
+unfolding _and_
+regroup true b c = refl
+regroup false b c = refl
 
-  pub below-next : i < length bytes → getD bytes i 0 < a → allBelow a (drop (i + 1) bytes) ≡ R
-  unfolding _and_
-  below-next b l =
-      let o = seen b in
-      ap (λ (n : ℕ). allBelow a (drop n bytes)) (add-one i) ∙ (rw (lt-ltb (getD bytes i 0) a l) at o)
+module _ (a : ℕ) (bytes : List ℕ) where
+  -- nothing has been seen yet
+  pub below-start : (i : ℕ) → (true and allBelow a (drop i bytes)) ≡ allBelow a (drop i bytes)
+  below-start i = true-and (allBelow a (drop i bytes))
 
-  pub below-not : i < length bytes → a ≤ getD bytes i 0 → false ≡ R
-  unfolding _and_
-  below-not b l = let o = seen b in rw (le-ltb (getD bytes i 0) a l) at o
+  module _ (i : ℕ) (below R : Bool) (held : (below and allBelow a (drop i bytes)) ≡ R) where
+    pub below-next : i < length bytes → ((below && ltb (getD bytes i 0) a) and allBelow a (drop (i + 1) bytes)) ≡ R
+    unfolding allBelow
+    below-next b =
+        ap (λ (n : ℕ). (below && ltb (getD bytes i 0) a) and allBelow a (drop n bytes)) (add-one i)
+        ∙ regroup below (ltb (getD bytes i 0) a) (allBelow a (drop (suc i) bytes))
+        ∙ ap (λ (l : List ℕ). below and allBelow a l) (sym (drop-cons bytes i 0 b))
+        ∙ held
 
-  pub below-end : length bytes ≤ i → true ≡ R
-  unfolding allBelow
-  below-end b = ap (allBelow a) (sym (drop-of-length-le bytes b)) ∙ held
+    pub below-end : length bytes ≤ i → below ≡ R
+    unfolding allBelow
+    below-end b = sym (and-true below) ∙ ap (λ (l : List ℕ). below and allBelow a l) (sym (drop-of-length-le bytes b)) ∙ held
 
-pub ruleset scanning = (below-next, below-not, below-end)
+pub ruleset scanning = (below-start, below-next, below-end)

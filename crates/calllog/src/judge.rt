@@ -119,16 +119,16 @@ fn judge_bodies(bytes: &[u8], events: u32) -> Answer
     Answer::Done
 }
 
-// Whether every byte from a position on is below a.
+// Whether every byte from a position on is below a. There is no way out of the loop before its end, so that the compiler can look at
+// many bytes at once.
 fn all_below(bytes: &[u8], from: usize, a: u8) -> bool
     ensures { λ r. ⌜ r ≡ allBelow a (drop from (now (bytes .entry))) ⌝ }
 {
+    let mut below = true;
     let mut i: usize = from;
     while i < bytes.len() {
-        if a <= bytes[i] {
-            return false;
-        }
+        below = below & (bytes[i] < a);
         i += 1;
     }
-    true
+    below
 }
