@@ -14,3 +14,4 @@ pub mod FileBack
 pub mod GraphBack
 pub mod GraphFile
 pub mod RoundTrips
+pub mod LoneMarkings

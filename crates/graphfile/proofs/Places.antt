@@ -14,7 +14,7 @@ use Rattle.sets.specs.declared.set.Set.{Set}
 use Rattle.sets.proofs.Tests.{and-true}
 use Rattle.engine.specs.declared.marking.Marking.{Marking}
 use Rattle.engine.specs.Markings.{markingOf}
-use Rattle.graphfile.specs.Layout.{letters, headLength, rowLength, relationCount, setAt, countIn, earlierRows, markingIn, endOf}
+use Rattle.graphfile.specs.Layout.{letters, headLength, rowLength, relationCount, setAt, countIn, earlierRows, markingAt, endOf}
 use Rattle.graphfile.specs.Refusals.{same}
 
 -- ---- the letters
@@ -47,8 +47,9 @@ pub ruleset opening = (letter-0, letter-1, letter-2)
 pub set-is : (x y : ℕ) → x ≡ y → _≡_ {A = Set} (record { bits = x }) (record { bits = y })
 set-is x y e = ap (λ (n : ℕ). record { bits = n }) e
 
-pub marking-is : (bytes : List ℕ) (x p i : Set) (m : Marking) → x ≡ setAt bytes 12 → p ≡ setAt bytes 20 → i ≡ setAt bytes 28 → m ≡ markingOf x p i → m ≡ markingIn bytes
-marking-is bytes x p i m hx hp hi e = e ∙ λ k. markingOf (hx k) (hp k) (hi k)
+pub marking-is : (bytes : List ℕ) (at : ℕ) (x p i : Set) (m : Marking) → x ≡ setAt bytes at → p ≡ setAt bytes (at + 8) → i ≡ setAt bytes (at + 16)
+    → m ≡ markingOf x p i → m ≡ markingAt bytes at
+marking-is bytes at x p i m hx hp hi e = e ∙ λ k. markingOf (hx k) (hp k) (hi k)
 
 pub earlier-none : (bytes : List ℕ) → 0 ≡ earlierRows bytes 0
 unfolding earlierRows

@@ -105,10 +105,12 @@ module _ (o o₁ o₂ o₃ o₄ : List ℕ) where
       (omega (arith, length-rows r width 0)) h₁ h₂ h₃ o₄ (relationBytes e) n₃ (omega (arith, length-rows i width 0)) h₄
 
 module _ (o o₁ o₂ o₃ : List ℕ) where
-  pub marking-stored : (m : Marking) → o₁ ≡ sets o 12 (setBytes (m .executed)) → o₂ ≡ sets o₁ 20 (setBytes (m .pending)) → o₃ ≡ sets o₂ 28 (setBytes (m .included))
-      → o₃ ≡ sets o 12 (markingBytes m)
+  pub marking-stored : (m : Marking) (at : ℕ) → o₁ ≡ sets o at (setBytes (m .executed)) → o₂ ≡ sets o₁ (at + 8) (setBytes (m .pending))
+      → o₃ ≡ sets o₂ (at + 16) (setBytes (m .included)) → o₃ ≡ sets o at (markingBytes m)
   unfolding markingBytes littleEndian
-  marking-stored m h₁ h₂ h₃ = three o o₁ o₂ o₃ (setBytes (m .executed)) (setBytes (m .pending)) (setBytes (m .included)) 12 20 28 refl refl h₁ h₂ h₃
+  marking-stored m at h₁ h₂ h₃ =
+      let far : at + 16 ≡ at + 8 + 8 = omega arith in
+      three o o₁ o₂ o₃ (setBytes (m .executed)) (setBytes (m .pending)) (setBytes (m .included)) at (at + 8) (at + 16) refl far h₁ h₂ h₃
 
   pub opening-stored : (a : ℕ) (s : Set) (m : Marking) → o₁ ≡ sets o 0 (letters ++ (a ∷ [])) → o₂ ≡ sets o₁ 4 (setBytes s) → o₃ ≡ sets o₂ 12 (markingBytes m)
       → o₃ ≡ sets o 0 (openingBytes a s m)

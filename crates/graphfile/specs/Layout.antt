@@ -35,8 +35,11 @@ abbrev pub eventsIn : List ℕ → Set
 eventsIn bytes = setAt bytes 4
 
 -- executed, pending, included
+abbrev pub markingAt : List ℕ → ℕ → Marking
+markingAt bytes at = markingOf (setAt bytes at) (setAt bytes (at + 8)) (setAt bytes (at + 16))
+
 abbrev pub markingIn : List ℕ → Marking
-markingIn bytes = markingOf (setAt bytes 12) (setAt bytes 20) (setAt bytes 28)
+markingIn bytes = markingAt bytes 12
 
 -- entry r: an offset, then the number of rows
 abbrev pub offsetIn : List ℕ → ℕ → ℕ

@@ -2,7 +2,7 @@
 ghost use mathlib.Core.Path.{_≡_};
 ghost use Prim.Native.Nat.{_+_, _*_, _≤_, _<_};
 ghost use lib.ListN.{length, take};
-ghost use Rattle.graphfile.specs.Layout.{letters, headLength, rowLength, relationCount, setAt, markingIn, offsetIn, countIn, earlierRows, keyIn, rowIn};
+ghost use Rattle.graphfile.specs.Layout.{letters, headLength, rowLength, relationCount, setAt, markingAt, markingIn, offsetIn, countIn, earlierRows, keyIn, rowIn};
 ghost use Rattle.graphfile.specs.Refusals.{same};
 use crate::number::number_at;
 use engine::Marking;
@@ -20,14 +20,10 @@ pub const ROW: usize = 9;
 // How many relations: conditions, responses, includes, excludes.
 pub const RELATIONS: usize = 4;
 
-// Where the four sets stand.
+// Where the events stand, and the marking: executed, pending, included.
 pub const EVENTS: usize = 4;
 
 pub const EXECUTED: usize = 12;
-
-pub const PENDING: usize = 20;
-
-pub const INCLUDED: usize = 28;
 
 // The bytes of an entry, and where the first one's offset and number of rows stand.
 pub const ENTRY: usize = 4;
@@ -61,14 +57,22 @@ pub(crate) fn set_at(bytes: &[u8], at: usize) -> Set
     }
 }
 
+// A marking in 24 bytes from a place on: executed, pending, included.
+pub(crate) fn marking_at(bytes: &[u8], at: usize) -> Marking
+    requires { ⌜ at + 24 ≤ length (now bytes) ⌝ }
+    ensures { λ r. ⌜ r ≡ markingAt (now (bytes .entry)) at ⌝ }
+{
+    let executed = set_at(bytes, at);
+    let pending = set_at(bytes, at + 8);
+    let included = set_at(bytes, at + 16);
+    Marking::of(executed, pending, included)
+}
+
 pub(crate) fn marking_in(bytes: &[u8]) -> Marking
     requires { ⌜ headLength ≤ length (now bytes) ⌝ }
     ensures { λ r. ⌜ r ≡ markingIn (now (bytes .entry)) ⌝ }
 {
-    let executed = set_at(bytes, EXECUTED);
-    let pending = set_at(bytes, PENDING);
-    let included = set_at(bytes, INCLUDED);
-    Marking::of(executed, pending, included)
+    marking_at(bytes, EXECUTED)
 }
 
 pub(crate) fn offset_in(bytes: &[u8], r: usize) -> usize

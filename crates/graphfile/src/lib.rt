@@ -1,5 +1,6 @@
 // Graph files (01, "Two files, contents first": Graph): from bytes to a graph and back.
 mod layout;
+pub mod marking;
 mod number;
 pub mod reader;
 mod refusal;

@@ -90,13 +90,14 @@ fn put_letters(out: &mut [u8], activities: u8)
     out[3] = activities;
 }
 
-fn put_marking(out: &mut [u8], m: Marking)
-    requires { ⌜ 36 ≤ length (now out) ⌝ }
-    ensures { λ _. ⌜ now (out .exit) ≡ sets (now (out .entry)) 12 (markingBytes m) ⌝ }
+// Stores a marking: executed, pending, included.
+pub(crate) fn put_marking(out: &mut [u8], at: usize, m: Marking)
+    requires { ⌜ at + 24 ≤ length (now out) ⌝ }
+    ensures { λ _. ⌜ now (out .exit) ≡ sets (now (out .entry)) at (markingBytes m) ⌝ }
 {
-    put_number(out, layout::EXECUTED, 8, m.executed.bits);
-    put_number(out, layout::PENDING, 8, m.pending.bits);
-    put_number(out, layout::INCLUDED, 8, m.included.bits);
+    put_number(out, at, 8, m.executed.bits);
+    put_number(out, at + 8, 8, m.pending.bits);
+    put_number(out, at + 16, 8, m.included.bits);
 }
 
 // Stores the letters, the edition, A and the four sets.
@@ -106,7 +107,7 @@ fn put_opening(out: &mut [u8], activities: u8, events: Set, m: Marking)
 {
     put_letters(out, activities);
     put_number(out, layout::EVENTS, 8, events.bits);
-    put_marking(out, m);
+    put_marking(out, layout::EXECUTED, m);
 }
 
 // Stores an entry: where the relation's rows begin, counted in bytes from the first row, and how many there are.

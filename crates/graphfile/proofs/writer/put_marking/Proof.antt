@@ -6,8 +6,14 @@ use Rattle.graphfile.proofs.writer.put_marking.Tie as tie
 put-number-requires : tie.Need-put-number-requires
 put-number-requires c κs = search needs
 
+add-put-number : tie.Need-add-put-number
+add-put-number c = search needs
+
 put-number-requires-2 : tie.Need-put-number-requires-2
 put-number-requires-2 c κs = search needs
+
+add-put-number-2 : tie.Need-add-put-number-2
+add-put-number-2 c = search needs
 
 put-number-requires-3 : tie.Need-put-number-requires-3
 put-number-requires-3 c κs = search needs
@@ -21,4 +27,11 @@ returns c = search (marking-stored, needs)
 pub put-marking-spec : {M : Type 1} → statement M
 put-marking-spec =
     tie.close
-    (tie.spec put-number-requires put-number-requires-2 put-number-requires-3 same-length returns)
+    (tie.spec
+    put-number-requires
+    add-put-number
+    put-number-requires-2
+    add-put-number-2
+    put-number-requires-3
+    same-length
+    returns)

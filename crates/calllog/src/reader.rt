@@ -1,0 +1,35 @@
+// A log reader: it stays over the caller's bytes and remembers which trace comes next (01, "Log"). Its functions take it apart and leave
+// the work to `trace::ask`, which whoever has the bytes and the number may call as well.
+ghost use mathlib.Core.Path.{_≡_};
+ghost use Rattle.calllog.specs.Logs.{foundOf};
+ghost use Rattle.calllog.specs.Reader.{opened, after};
+use crate::trace;
+use crate::trace::Found;
+
+pub struct LogReader<'a> {
+    pub log: &'a [u8],
+    pub next: usize,
+}
+
+pub fn open<'a>(log: &'a [u8]) -> LogReader<'a>
+    ensures { λ r. ⌜ r ≡ opened (log .entry) ⌝ }
+{
+    LogReader { log, next: 0 }
+}
+
+// Trace k. The reader moves on to k + 1, or stays as it was where it refuses.
+pub fn trace<'s, 'a>(r: &'s mut LogReader<'a>, k: usize) -> Found
+    ensures { λ f. ⌜ (f ≡ foundOf (now (now (r .entry) .log)) k) × (now (r .exit) ≡ after (now (r .entry)) k) ⌝ }
+{
+    let asked = trace::ask(r.log, r.next, k);
+    r.next = asked.next;
+    asked.found
+}
+
+// The trace that the reader remembers.
+pub fn next_trace<'s, 'a>(r: &'s mut LogReader<'a>) -> Found
+    ensures { λ f. ⌜ (f ≡ foundOf (now (now (r .entry) .log)) (now (r .entry) .next)) × (now (r .exit) ≡ after (now (r .entry)) (now (r .entry) .next)) ⌝ }
+{
+    let k = r.next;
+    trace(r, k)
+}

@@ -1,0 +1,164 @@
+-- What the port's calls ensure, put together. Assumes nothing.
+use mathlib.Core.Path.{_≡_, refl, sym, ap, ap₂, _∙_}
+use mathlib.Core.Bool.{Bool, true, false, not}
+use mathlib.Core.List.{List}
+use Prim.Native.Nat.{ℕ, _+_, _*_, _%_, _^_, _≤_, _<_}
+use native.Mathlib.Omega.{arith}
+use borrow.Author.Tests.{not-true, not-false, lt-ltb, le-ltb}
+use lib.ListN.{length}
+use Rattle.sets.specs.Tests.{when_then_else_}
+use Rattle.sets.specs.Answers.{numberOf, isDone}
+use Rattle.sets.specs.declared.answer.Answer.{Answer}
+use Rattle.sets.specs.declared.answer.Answer.the-variants.{BufferTooSmall}
+use Rattle.engine.specs.Replay.{replayOf, steppedOf}
+use Rattle.engine.specs.declared.marking.Marking.{Marking}
+use Rattle.engine.specs.declared.step.Stepped.{Stepped}
+use Rattle.engine.specs.declared.graph.Graph.{Graph}
+use Rattle.engine.specs.declared.replay.Replayed.{Replayed}
+use Rattle.graphfile.specs.Held.{readOf}
+use Rattle.graphfile.specs.Writing.{writtenOf, bufferAfter}
+use Rattle.graphfile.specs.declared.reader.Reading.{Reading}
+use Rattle.graphfile.specs.declared.writer.Written.{Written}
+use Rattle.graphfile.specs.Markings.{markingFrom, markingInto}
+use Rattle.miner.specs.Mine.{minedOf}
+use Rattle.miner.specs.declared.mining.Mined.{Mined}
+use Rattle.port.specs.Port.{packedOf, putNumber, putBuffer, replayNumber, refusedStep, stepOf, stepBytes}
+
+pub packed-is : (a : Answer) (n low : ℕ) → low ≡ numberOf a → low + 256 * (n % 16777216) ≡ packedOf a n
+unfolding packedOf
+packed-is a n low e = ap (λ (x : ℕ). x + 256 * (n % 16777216)) e
+
+-- ---- a graph written
+
+module _ (a : Answer) (g : Graph) (out : List ℕ) (r : Bool) (hr : r ≡ isDone a) where
+  pub put-refused : (n : ℕ) → not r ≡ true → n ≡ packedOf a 0 → n ≡ putNumber a g (length out)
+  unfolding putNumber
+  put-refused n h e = e ∙ sym (ap (λ (t : Bool). when t then packedOf (writtenOf g (length out) .answer) (writtenOf g (length out) .length) else packedOf a 0) (sym hr ∙ not-true r h))
+
+  pub put-kept : not r ≡ true → out ≡ putBuffer a g out
+  unfolding putBuffer
+  put-kept h = sym (ap (λ (t : Bool). when t then bufferAfter g out else out) (sym hr ∙ not-true r h))
+
+  pub put-done : (n : ℕ) (w : Written) → not r ≡ false → w ≡ writtenOf g (length out) → n ≡ packedOf (w .answer) (w .length) → n ≡ putNumber a g (length out)
+  unfolding putNumber
+  put-done n w h hw e =
+      e
+      ∙ ap (λ (x : Written). packedOf (x .answer) (x .length)) hw
+      ∙ sym (ap (λ (t : Bool). when t then packedOf (writtenOf g (length out) .answer) (writtenOf g (length out) .length) else packedOf a 0) (sym hr ∙ not-false r h))
+
+  pub put-filled : (out′ : List ℕ) → not r ≡ false → out′ ≡ bufferAfter g out → out′ ≡ putBuffer a g out
+  unfolding putBuffer
+  put-filled out′ h e = e ∙ sym (ap (λ (t : Bool). when t then bufferAfter g out else out) (sym hr ∙ not-false r h))
+
+pub ruleset putting = (put-refused, put-kept, put-done, put-filled)
+
+-- ---- of a mined log, of a file that was read
+
+module _ (m m′ : Mined) (e : m ≡ m′) where
+  pub mined-number : (n space : ℕ) → n ≡ putNumber (m .answer) (m .graph) space → n ≡ putNumber (m′ .answer) (m′ .graph) space
+  mined-number n space h = h ∙ ap (λ (x : Mined). putNumber (x .answer) (x .graph) space) e
+
+  pub mined-buffer : (out out′ : List ℕ) → out′ ≡ putBuffer (m .answer) (m .graph) out → out′ ≡ putBuffer (m′ .answer) (m′ .graph) out
+  mined-buffer out out′ h = h ∙ ap (λ (x : Mined). putBuffer (x .answer) (x .graph) out) e
+
+module _ (r r′ : Reading) (e : r ≡ r′) where
+  pub read-number : (n space : ℕ) → n ≡ putNumber (r .answer) (r .graph) space → n ≡ putNumber (r′ .answer) (r′ .graph) space
+  read-number n space h = h ∙ ap (λ (x : Reading). putNumber (x .answer) (x .graph) space) e
+
+  pub read-buffer : (out out′ : List ℕ) → out′ ≡ putBuffer (r .answer) (r .graph) out → out′ ≡ putBuffer (r′ .answer) (r′ .graph) out
+  read-buffer out out′ h = h ∙ ap (λ (x : Reading). putBuffer (x .answer) (x .graph) out) e
+
+pub ruleset carrying = (mined-number, mined-buffer, read-number, read-buffer)
+
+-- ---- a replay
+
+module _ (file trace : List ℕ) (r : Reading) (hr : r ≡ readOf file) (d : Bool) (hd : d ≡ isDone (r .answer)) where
+  file-done : (t : Bool) → d ≡ t → isDone (readOf file .answer) ≡ t
+  file-done t h = sym (ap (λ (x : Reading). isDone (x .answer)) hr) ∙ sym hd ∙ h
+
+  abbrev shown : Bool → ℕ
+  shown t =
+      when t then
+      packedOf (replayOf (readOf file .graph) trace .answer) (replayOf (readOf file .graph) trace .place .0)
+      + (when replayOf (readOf file .graph) trace .accepting then 2 ^ 32 else 0)
+      else packedOf (readOf file .answer) 0
+
+  pub replay-refused : (n : ℕ) → not d ≡ true → n ≡ packedOf (r .answer) 0 → n ≡ replayNumber file trace
+  unfolding replayNumber
+  replay-refused n h e = e ∙ ap (λ (x : Reading). packedOf (x .answer) 0) hr ∙ sym (ap shown (file-done false (not-true d h)))
+
+  module _ (p : Replayed) (hp : p ≡ replayOf (r .graph) trace) (h : not d ≡ false) where
+    ending : p ≡ replayOf (readOf file .graph) trace
+    ending = hp ∙ ap (λ (x : Reading). replayOf (x .graph) trace) hr
+
+    add : ℕ → Replayed → ℕ
+    add low x = low + (when x .accepting then 2 ^ 32 else 0)
+
+    pub replay-accepting : (low : ℕ) → low ≡ packedOf (p .answer) (p .place .0) → p .accepting ≡ true → low + 4294967296 ≡ replayNumber file trace
+    unfolding replayNumber add
+    replay-accepting low e y =
+        ap (λ (t : Bool). low + (when t then 2 ^ 32 else 0)) (sym y)
+        ∙ ap (λ (x : ℕ). add x p) e
+        ∙ ap (λ (x : Replayed). add (packedOf (x .answer) (x .place .0)) x) ending
+        ∙ sym (ap shown (file-done true (not-false d h)))
+
+    pub replay-other : (low : ℕ) → low ≡ packedOf (p .answer) (p .place .0) → p .accepting ≡ false → low ≡ replayNumber file trace
+    unfolding replayNumber add
+    replay-other low e y =
+        let same : low ≡ low + 0 = omega arith in
+        same
+        ∙ ap (λ (t : Bool). low + (when t then 2 ^ 32 else 0)) (sym y)
+        ∙ ap (λ (x : ℕ). add x p) e
+        ∙ ap (λ (x : Replayed). add (packedOf (x .answer) (x .place .0)) x) ending
+        ∙ sym (ap shown (file-done true (not-false d h)))
+
+pub ruleset replaying = (replay-refused, replay-accepting, replay-other)
+
+-- ---- a step
+
+module _ (file bytes : List ℕ) (a : ℕ) where
+  abbrev judgedStep : Bool → Stepped
+  judgedStep t = when t then steppedOf (readOf file .graph) (markingFrom bytes) a else refusedStep (readOf file .answer)
+
+  long : 24 ≤ length bytes → stepOf file bytes a ≡ judgedStep (isDone (readOf file .answer))
+  unfolding stepOf
+  long h = ap (λ (t : Bool). when t then refusedStep BufferTooSmall else judgedStep (isDone (readOf file .answer))) (le-ltb (length bytes) 24 h)
+
+  pub step-short : length bytes < 24 → refusedStep BufferTooSmall ≡ stepOf file bytes a
+  unfolding stepOf
+  step-short h = sym (ap (λ (t : Bool). when t then refusedStep BufferTooSmall else judgedStep (isDone (readOf file .answer))) (lt-ltb (length bytes) 24 h))
+
+  module _ (r : Reading) (d : Bool) (hr : r ≡ readOf file) (hd : d ≡ isDone (r .answer)) (h : 24 ≤ length bytes) where
+    file-is : (t : Bool) → d ≡ t → isDone (readOf file .answer) ≡ t
+    file-is t e = sym (ap (λ (x : Reading). isDone (x .answer)) hr) ∙ sym hd ∙ e
+
+    pub step-refused : not d ≡ true → refusedStep (r .answer) ≡ stepOf file bytes a
+    step-refused n = ap (λ (x : Reading). refusedStep (x .answer)) hr ∙ sym (ap judgedStep (file-is false (not-true d n))) ∙ sym (long h)
+
+    pub step-taken : (m : Marking) (s : Stepped) → not d ≡ false → m ≡ markingFrom bytes → s ≡ steppedOf (r .graph) m a → s ≡ stepOf file bytes a
+    step-taken m s n hm hs =
+        hs
+        ∙ ap₂ (λ (x : Reading) (y : Marking). steppedOf (x .graph) y a) hr hm
+        ∙ sym (ap judgedStep (file-is true (not-false d n)))
+        ∙ sym (long h)
+
+  -- the lent bytes after it
+  module _ (s : Stepped) (d : Bool) (hs : s ≡ stepOf file bytes a) (hd : d ≡ isDone (s .answer)) where
+    said : (t : Bool) → d ≡ t → isDone (stepOf file bytes a .answer) ≡ t
+    said t e = sym (ap (λ (x : Stepped). isDone (x .answer)) hs) ∙ sym hd ∙ e
+
+    pub step-stored : (bytes′ : List ℕ) → not d ≡ false → bytes′ ≡ markingInto (s .marking) bytes → bytes′ ≡ stepBytes file bytes a
+    unfolding stepBytes
+    step-stored bytes′ n e =
+        e
+        ∙ ap (λ (x : Stepped). markingInto (x .marking) bytes) hs
+        ∙ sym (ap (λ (t : Bool). when t then markingInto (stepOf file bytes a .marking) bytes else bytes) (said true (not-false d n)))
+
+    pub step-kept : not d ≡ true → bytes ≡ stepBytes file bytes a
+    unfolding stepBytes
+    step-kept n = sym (ap (λ (t : Bool). when t then markingInto (stepOf file bytes a .marking) bytes else bytes) (said false (not-true d n)))
+
+    pub step-number : (n : ℕ) → n ≡ numberOf (s .answer) → n ≡ numberOf (stepOf file bytes a .answer)
+    step-number n e = e ∙ ap (λ (x : Stepped). numberOf (x .answer)) hs
+
+pub ruleset stepping = (step-short, step-refused, step-taken, step-stored, step-kept, step-number)

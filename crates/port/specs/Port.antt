@@ -1,0 +1,64 @@
+-- The numbers that the port gives back, and what it leaves in lent memory.
+use mathlib.Core.List.{List}
+use Prim.Native.Nat.{ℕ, _+_, _*_, _%_, _^_}
+use lib.Dec.{ltb}
+use lib.ListN.{length}
+use Rattle.sets.specs.Tests.{when_then_else_}
+use Rattle.sets.specs.Answers.{numberOf, isDone}
+use Rattle.sets.specs.declared.answer.Answer.{Answer}
+use Rattle.sets.specs.declared.answer.Answer.the-variants.{BufferTooSmall}
+use Rattle.engine.specs.Markings.{emptyMarking}
+use Rattle.engine.specs.Replay.{replayOf, steppedOf}
+use Rattle.engine.specs.declared.step.Stepped.{Stepped}
+use Rattle.engine.specs.declared.graph.Graph.{Graph}
+use Rattle.graphfile.specs.Held.{readOf}
+use Rattle.graphfile.specs.Writing.{writtenOf, bufferAfter}
+use Rattle.graphfile.specs.Markings.{markingFrom, markingInto}
+use Rattle.miner.specs.Mine.{minedOf}
+
+-- a number of 01, and 256 times what goes with it; that has 24 bits
+unfoldable pub packedOf : Answer → ℕ → ℕ
+packedOf a n = numberOf a + 256 * (n % 2 ^ 24)
+
+-- a graph written as a file, where it was answered
+unfoldable pub putNumber : Answer → Graph → ℕ → ℕ
+putNumber a g space = when isDone a then packedOf (writtenOf g space .answer) (writtenOf g space .length) else packedOf a 0
+
+unfoldable pub putBuffer : Answer → Graph → List ℕ → List ℕ
+putBuffer a g buffer = when isDone a then bufferAfter g buffer else buffer
+
+-- skelfora_mine
+abbrev pub mineNumber : List ℕ → ℕ → ℕ
+mineNumber log space = putNumber (minedOf log .answer) (minedOf log .graph) space
+
+abbrev pub mineBuffer : List ℕ → List ℕ → List ℕ
+mineBuffer log buffer = putBuffer (minedOf log .answer) (minedOf log .graph) buffer
+
+-- skelfora_rewrite
+abbrev pub rewriteNumber : List ℕ → ℕ → ℕ
+rewriteNumber file space = putNumber (readOf file .answer) (readOf file .graph) space
+
+abbrev pub rewriteBuffer : List ℕ → List ℕ → List ℕ
+rewriteBuffer file buffer = putBuffer (readOf file .answer) (readOf file .graph) buffer
+
+-- skelfora_replay: the file's refusals, then the replay's; 2^32 more where it ends accepting
+unfoldable pub replayNumber : List ℕ → List ℕ → ℕ
+replayNumber file trace =
+    when isDone (readOf file .answer) then
+    packedOf (replayOf (readOf file .graph) trace .answer) (replayOf (readOf file .graph) trace .place .0)
+    + (when replayOf (readOf file .graph) trace .accepting then 2 ^ 32 else 0)
+    else packedOf (readOf file .answer) 0
+
+abbrev pub refusedStep : Answer → Stepped
+refusedStep a = record { answer = a; marking = emptyMarking }
+
+-- skelfora_step: 7 where the marking has too few bytes, then the file's refusals, then the step's; nothing beside the number but of a step
+unfoldable pub stepOf : List ℕ → List ℕ → ℕ → Stepped
+stepOf file bytes a =
+    when ltb (length bytes) 24 then refusedStep BufferTooSmall
+    else when isDone (readOf file .answer) then steppedOf (readOf file .graph) (markingFrom bytes) a
+    else refusedStep (readOf file .answer)
+
+-- the marking's bytes after it: as they were where refused
+unfoldable pub stepBytes : List ℕ → List ℕ → ℕ → List ℕ
+stepBytes file bytes a = when isDone (stepOf file bytes a .answer) then markingInto (stepOf file bytes a .marking) bytes else bytes

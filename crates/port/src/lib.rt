@@ -1,0 +1,118 @@
+// The functions that Rust and C call (docs/PORT.md). A slice passes as a pointer and then a length; every answer is one number:
+// that of 01, and above it what goes with it.
+ghost use mathlib.Core.Path.{_≡_};
+ghost use Prim.Native.Nat.{_^_, _<_};
+ghost use lib.ListN.{length};
+ghost use Rattle.port.specs.Port.{packedOf, putNumber, putBuffer, mineNumber, mineBuffer, rewriteNumber, rewriteBuffer, replayNumber, stepOf, stepBytes};
+ghost use Rattle.sets.specs.Answers.{numberOf};
+use engine::Graph;
+use engine::Marking;
+use engine::Stepped;
+use sets::Activity;
+use sets::Answer;
+
+// The number, and a length or place above it: 256 times. No length or place here reaches the 24 bits that it has.
+fn packed(answer: Answer, n: usize) -> u64
+    ensures { λ r. ⌜ r ≡ packedOf answer n ⌝ }
+    ensures { λ r. ⌜ r < 2 ^ 32 ⌝ }
+{
+    let low = answer.number() as u64;
+    low + 256 * (n % 16777216) as u64
+}
+
+// A graph that something answered, written as a file.
+fn put(answer: Answer, g: Graph, out: &mut [u8]) -> u64
+    ensures { λ r. ⌜ r ≡ putNumber answer g (length (now (out .entry))) ⌝ }
+    ensures { λ _. ⌜ now (out .exit) ≡ putBuffer answer g (now (out .entry)) ⌝ }
+{
+    if !answer.is_done() {
+        return packed(answer, 0);
+    }
+    let w = graphfile::write(g, out);
+    let a = w.answer;
+    packed(a, w.length)
+}
+
+// Mines a log and writes its graph file.
+#[no_mangle]
+pub extern "C" fn skelfora_mine(log: &[u8], file: &mut [u8]) -> u64
+    ensures { λ r. ⌜ r ≡ mineNumber (now (log .entry)) (length (now (file .entry))) ⌝ }
+    ensures { λ _. ⌜ now (file .exit) ≡ mineBuffer (now (log .entry)) (now (file .entry)) ⌝ }
+{
+    let m = miner::mine(log);
+    let answer = m.answer;
+    let g = m.graph;
+    put(answer, g, file)
+}
+
+// Reads a graph file and writes it again.
+#[no_mangle]
+pub extern "C" fn skelfora_rewrite(file: &[u8], out: &mut [u8]) -> u64
+    ensures { λ r. ⌜ r ≡ rewriteNumber (now (file .entry)) (length (now (out .entry))) ⌝ }
+    ensures { λ _. ⌜ now (out .exit) ≡ rewriteBuffer (now (file .entry)) (now (out .entry)) ⌝ }
+{
+    let r = graphfile::read(file);
+    let answer = r.answer;
+    let g = r.graph;
+    put(answer, g, out)
+}
+
+// Replays a trace on the graph of a file: the number, the place, and 2^32 where it ends accepting.
+#[no_mangle]
+pub extern "C" fn skelfora_replay(file: &[u8], trace: &[u8]) -> u64
+    ensures { λ r. ⌜ r ≡ replayNumber (now (file .entry)) (now (trace .entry)) ⌝ }
+{
+    let r = graphfile::read(file);
+    let answer = r.answer;
+    if !answer.is_done() {
+        return packed(answer, 0);
+    }
+    let g = r.graph;
+    let p = engine::replay::replay(g, trace);
+    let a = p.answer;
+    let place = p.place.0;
+    let low = packed(a, place);
+    if p.accepting {
+        return low + 4294967296;
+    }
+    low
+}
+
+// A step on the graph of a file: 7 where the marking has too few bytes, then the file's refusals, then the step's.
+fn stepped<'a>(file: &'a [u8], marking: &'a [u8], a: Activity) -> Stepped
+    ensures { λ r. ⌜ r ≡ stepOf (now (file .entry)) (now (marking .entry)) (a .0) ⌝ }
+{
+    if marking.len() < graphfile::marking::LENGTH {
+        return Stepped {
+            answer: Answer::BufferTooSmall,
+            marking: Marking::EMPTY,
+        };
+    }
+    let r = graphfile::read(file);
+    let answer = r.answer;
+    if !answer.is_done() {
+        return Stepped {
+            answer,
+            marking: Marking::EMPTY,
+        };
+    }
+    let g = r.graph;
+    let m = graphfile::marking::read_marking(marking);
+    engine::step::step(g, m, a)
+}
+
+// One step at a marking of 24 lent bytes, executed, pending, included; they stay as they were where it is refused.
+#[no_mangle]
+pub extern "C" fn skelfora_step(file: &[u8], marking: &mut [u8], activity: u8) -> u64
+    ensures { λ r. ⌜ r ≡ numberOf (stepOf (now (file .entry)) (now (marking .entry)) activity .answer) ⌝ }
+    ensures { λ _. ⌜ now (marking .exit) ≡ stepBytes (now (file .entry)) (now (marking .entry)) activity ⌝ }
+{
+    let s = stepped(file, marking, Activity(activity));
+    let answer = s.answer;
+    if !answer.is_done() {
+        return answer.number() as u64;
+    }
+    let after = s.marking;
+    graphfile::marking::write_marking(after, marking);
+    answer.number() as u64
+}
