@@ -1,6 +1,6 @@
 -- What the answer `Done` says of a file, part by part, and back. Assumes nothing.
-use mathlib.Core.Path.{_≡_, refl, sym, ap, _∙_, subst}
-use mathlib.Core.Bool.{Bool, true, false, not}
+use mathlib.Core.Path.{_≡_, refl, sym, ap, _∙_}
+use mathlib.Core.Bool.{Bool, false, not}
 use mathlib.Core.List.{List}
 use Prim.Native.Nat.{ℕ, zero, suc, _+_, _*_, _≤_, _<_, suc-le-suc}
 use native.Mathlib.Nat.{not-suc-le-zero, le-of-suc-le-suc, zero-lt-suc, add-zero, add-suc, suc-add, zero-add}
@@ -8,57 +8,28 @@ use native.Mathlib.Omega.{arith}
 use borrow.Author.Tests.{le-ltb, eq-eqb, ltb-false, eqb-true, not-false}
 use lib.Dec.{T, eqb, ltb}
 use lib.ListN.{length, take}
-use Rattle.sets.specs.Tests.{_and_, _or_, non, when_then_else_}
+use Rattle.sets.specs.Tests.{_and_, _or_, non}
 use Rattle.sets.specs.Members.{those, within}
 use Rattle.sets.specs.Answers.{isDone, thenAsk}
 use Rattle.sets.specs.declared.answer.Answer.{Answer}
-use Rattle.sets.specs.declared.answer.Answer.the-variants.{Done, TooShort, WrongLetters, AboveLimit, WrongOffset, Outside, BadRow, BufferTooSmall, NoEvent, NotIncluded, Waiting, NoTrace}
-use Rattle.sets.proofs.Tests.{split, either, T→true, F→false, true→T, non-false}
+use Rattle.sets.specs.declared.answer.Answer.the-variants.{Done, TooShort, WrongLetters, AboveLimit, WrongOffset, Outside}
+use Rattle.sets.proofs.Asking.{done-is, ask-on, both, went}
+use Rattle.sets.proofs.Tests.{T→true, non-false}
 use Rattle.engine.specs.Judged.{markingWithin}
 use Rattle.sets.specs.Sizes.{mostActivities}
 use Rattle.graphfile.specs.Layout.{letters, headLength, rowLength, relationCount, activitiesIn, eventsIn, markingIn, offsetIn, countIn, earlierRows, endOf}
 use Rattle.graphfile.specs.Refusals.{mostRows, same, inTurn, judgedHead, judgedEntry, judgedEnd, judgedRow, judgedRelation, judgedFile}
 
--- ---- answers
-
-pub done-is : (a : Answer) → T (isDone a) → a ≡ Done
-done-is Done t = refl
-done-is TooShort t = absurd t
-done-is WrongLetters t = absurd t
-done-is AboveLimit t = absurd t
-done-is WrongOffset t = absurd t
-done-is Outside t = absurd t
-done-is BadRow t = absurd t
-done-is BufferTooSmall t = absurd t
-done-is NoEvent t = absurd t
-done-is NotIncluded t = absurd t
-done-is Waiting t = absurd t
-done-is NoTrace t = absurd t
-
-pub is-done : {a : Answer} → a ≡ Done → T (isDone a)
-is-done e = subst (λ (x : Answer). T (isDone x)) (sym e) tt
-
-pub then-done : (a b : Answer) → thenAsk a b ≡ Done → (a ≡ Done) × (b ≡ Done)
-then-done a b h =
-    either (split (isDone a))
-    (λ t. (done-is a t, ap (λ (x : Bool). when x then b else a) (sym (T→true (isDone a) t)) ∙ h))
-    (λ f. absurd (f (is-done (ap (λ (x : Bool). when x then b else a) (sym (F→false (isDone a) f)) ∙ h))))
+-- ---- in turn
 
 pub done-then : {a b : Answer} → a ≡ Done → b ≡ Done → thenAsk a b ≡ Done
-done-then {a} {b} e f = ap (λ (x : Answer). thenAsk x b) e ∙ f
-
--- a refusal that did not come, and the answer after it
-pub else-done : (t : Bool) (r x : Answer) → (T (isDone r) → ⊥) → when t then r else x ≡ Done → (t ≡ false) × (x ≡ Done)
-else-done true r x n h = absurd (n (is-done h))
-else-done false r x n h = (refl, h)
-
--- ---- in turn
+done-then {a} {b} e f = ask-on a b e ∙ f
 
 pub turns-done : (ask : ℕ → Answer) (n i : ℕ) → inTurn ask n i ≡ Done → (k : ℕ) → k < n → ask (i + k) ≡ Done
 unfolding inTurn
 turns-done ask zero i h k l = absurd (not-suc-le-zero l)
-turns-done ask (suc n) i h zero l = ap ask (add-zero i) ∙ then-done _ _ h .0
-turns-done ask (suc n) i h (suc k) l = ap ask (add-suc i k ∙ sym (suc-add i k)) ∙ turns-done ask n (suc i) (then-done (ask i) (inTurn ask n (suc i)) h .1) k (le-of-suc-le-suc l)
+turns-done ask (suc n) i h zero l = ap ask (add-zero i) ∙ both _ _ h .0
+turns-done ask (suc n) i h (suc k) l = ap ask (add-suc i k ∙ sym (suc-add i k)) ∙ turns-done ask n (suc i) (both (ask i) (inTurn ask n (suc i)) h .1) k (le-of-suc-le-suc l)
 
 pub done-turns : (ask : ℕ → Answer) (n i : ℕ) → ((k : ℕ) → k < n → ask (i + k) ≡ Done) → inTurn ask n i ≡ Done
 unfolding inTurn
@@ -79,8 +50,8 @@ pub record Accepted (bytes : List ℕ) : Type 0 where
 end-done : (bytes : List ℕ) → judgedEnd bytes ≡ Done → length bytes ≡ endOf bytes
 unfolding judgedEnd
 end-done bytes h =
-    let more = else-done (ltb (length bytes) (endOf bytes)) TooShort _ (λ t. t) h in
-    let fewer = else-done (ltb (endOf bytes) (length bytes)) WrongOffset Done (λ t. t) (more .1) in
+    let more = went (ltb (length bytes) (endOf bytes)) TooShort _ refl h in
+    let fewer = went (ltb (endOf bytes) (length bytes)) WrongOffset Done refl (more .1) in
     omega (arith, ltb-false (length bytes) (endOf bytes) (more .0), ltb-false (endOf bytes) (length bytes) (fewer .0))
 
 done-end : (bytes : List ℕ) → length bytes ≡ endOf bytes → judgedEnd bytes ≡ Done
@@ -90,10 +61,10 @@ done-end bytes e = rw (le-ltb (length bytes) (endOf bytes) (omega arith), le-ltb
 pub accepted : (bytes : List ℕ) → judgedFile bytes ≡ Done → Accepted bytes
 unfolding judgedFile judgedRelation
 accepted bytes h =
-    let short = else-done (ltb (length bytes) headLength) TooShort _ (λ t. t) h in
-    let head = then-done _ _ (short .1) in
-    let entries = then-done _ _ (head .1) in
-    let end = then-done _ _ (entries .1) in
+    let short = went (ltb (length bytes) headLength) TooShort _ refl h in
+    let head = both _ _ (short .1) in
+    let entries = both _ _ (head .1) in
+    let end = both _ _ (entries .1) in
     record {
       long = ltb-false (length bytes) headLength (short .0);
       head = head .0;
@@ -129,10 +100,10 @@ pub record Head (bytes : List ℕ) : Type 0 where
 pub head-done : (bytes : List ℕ) → judgedHead bytes ≡ Done → Head bytes
 unfolding judgedHead
 head-done bytes h =
-    let two = else-done (non (same (take 3 bytes) letters)) WrongLetters _ (λ t. t) h in
-    let three = else-done (ltb mostActivities (activitiesIn bytes)) AboveLimit _ (λ t. t) (two .1) in
-    let low = else-done (non (within (eventsIn bytes) (those (λ a. ltb a (activitiesIn bytes))))) Outside _ (λ t. t) (three .1) in
-    let five = else-done (non (markingWithin (eventsIn bytes) (markingIn bytes))) Outside Done (λ t. t) (low .1) in
+    let two = went (non (same (take 3 bytes) letters)) WrongLetters _ refl h in
+    let three = went (ltb mostActivities (activitiesIn bytes)) AboveLimit _ refl (two .1) in
+    let low = went (non (within (eventsIn bytes) (those (λ a. ltb a (activitiesIn bytes))))) Outside _ refl (three .1) in
+    let five = went (non (markingWithin (eventsIn bytes) (markingIn bytes))) Outside Done refl (low .1) in
     record {
       opens = non-false _ (two .0);
       few = ltb-false mostActivities (activitiesIn bytes) (three .0);
@@ -153,8 +124,8 @@ done-head bytes h =
 pub entry-done : (bytes : List ℕ) (r : ℕ) → judgedEntry bytes r ≡ Done → (countIn bytes r ≤ mostRows) × (offsetIn bytes r ≡ rowLength * earlierRows bytes r)
 unfolding judgedEntry
 entry-done bytes r h =
-    let three = else-done (ltb mostRows (countIn bytes r)) AboveLimit _ (λ t. t) h in
-    let four = else-done (non (eqb (offsetIn bytes r) (rowLength * earlierRows bytes r))) WrongOffset Done (λ t. t) (three .1) in
+    let three = went (ltb mostRows (countIn bytes r)) AboveLimit _ refl h in
+    let four = went (non (eqb (offsetIn bytes r) (rowLength * earlierRows bytes r))) WrongOffset Done refl (three .1) in
     (ltb-false mostRows (countIn bytes r) (three .0), eqb-true (offsetIn bytes r) (rowLength * earlierRows bytes r) (T→true _ (non-false _ (four .0))))
 
 pub done-entry : (bytes : List ℕ) (r : ℕ) → countIn bytes r ≤ mostRows → offsetIn bytes r ≡ rowLength * earlierRows bytes r → judgedEntry bytes r ≡ Done
@@ -164,7 +135,7 @@ done-entry bytes r few e = rw (le-ltb mostRows (countIn bytes r) few, eq-eqb (of
 -- ---- what the code goes on by
 
 pub code-done : (a x : Answer) (d : Bool) → a ≡ x → d ≡ isDone a → not d ≡ false → x ≡ Done
-code-done a x d e t n = sym e ∙ done-is a (true→T (sym t ∙ not-false d n))
+code-done a x d e t n = sym e ∙ done-is a (sym t ∙ not-false d n)
 
 pub end-within : (bytes : List ℕ) (end : Answer) (d : Bool) → end ≡ judgedEnd bytes → d ≡ isDone end → not d ≡ false → endOf bytes ≤ length bytes
 end-within bytes end d e t n = omega (arith, end-done bytes (code-done end (judgedEnd bytes) d e t n))

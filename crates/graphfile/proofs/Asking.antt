@@ -8,10 +8,11 @@ use native.Mathlib.Numerals.{add-one}
 use native.Mathlib.Omega.{arith}
 use borrow.Author.Tests.{lt-ltb, le-ltb, not-true, not-false}
 use lib.ListN.{length}
-use Rattle.sets.specs.Tests.{_and_, _or_, when_then_else_}
+use Rattle.sets.specs.Tests.{_and_, _or_}
 use Rattle.sets.specs.Answers.{isDone, thenAsk}
 use Rattle.sets.specs.declared.answer.Answer.{Answer}
 use Rattle.sets.specs.declared.answer.Answer.the-variants.{Done, TooShort}
+use Rattle.sets.proofs.Asking.{done-is, ask-on, ask-stop}
 use Rattle.graphfile.specs.Layout.{headLength, relationCount}
 use Rattle.graphfile.specs.Refusals.{inTurn, judgedHead, judgedEntry, judgedEnd, judgedRelation, judgedFile}
 
@@ -20,12 +21,12 @@ use Rattle.graphfile.specs.Refusals.{inTurn, judgedHead, judgedEntry, ju
 pub refused : (a x b : Answer) (d : Bool) → a ≡ x → d ≡ isDone a → not d ≡ true → a ≡ thenAsk x b
 refused a x b d e h n =
     let f : isDone x ≡ false = ap isDone (sym e) ∙ sym h ∙ not-true d n in
-    e ∙ sym (ap (λ (t : Bool). when t then b else x) f)
+    e ∙ sym (ask-stop x b f)
 
 pub passed : (a x b : Answer) (d : Bool) → a ≡ x → d ≡ isDone a → not d ≡ false → thenAsk x b ≡ b
 passed a x b d e h n =
     let f : isDone x ≡ true = ap isDone (sym e) ∙ sym h ∙ not-false d n in
-    ap (λ (t : Bool). when t then b else x) f
+    ask-on x b (done-is x f)
 
 -- ---- a loop that asks in turn: `while i < n { let a = ask(i); if !a.is_done() { return a; } i += 1; } Done`
 

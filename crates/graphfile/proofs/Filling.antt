@@ -1,5 +1,5 @@
 -- The reader's loop over the rows of a relation, and the graph put together from its parts. Assumes nothing.
-use mathlib.Core.Path.{_≡_, refl, sym, ap, ap₂, _∙_}
+use mathlib.Core.Path.{_≡_, sym, ap, ap₂, _∙_}
 use mathlib.Core.Bool.{Bool, true, false, not}
 use mathlib.Core.List.{List}
 use Prim.Native.Nat.{ℕ, suc, _+_, _-_, _≤_, _<_}
@@ -11,14 +11,13 @@ use Rattle.sets.specs.Rows.{noRows, withRow}
 use Rattle.sets.specs.Answers.{isDone}
 use Rattle.sets.specs.declared.set.Set.{Set}
 use Rattle.sets.specs.declared.answer.Answer.{Answer}
-use Rattle.engine.specs.Markings.{noSet, emptyMarking}
 use Rattle.engine.specs.declared.marking.Marking.{Marking}
 use Rattle.engine.specs.declared.graph.Graph.{Graph}
 use Rattle.graphfile.specs.declared.reader.Reading.{Reading}
 use Rattle.graphfile.specs.Layout.{activitiesIn, eventsIn, markingIn, countIn, earlierRows, keyIn, rowIn}
 use Rattle.graphfile.specs.Refusals.{judgedFile}
 use Rattle.graphfile.specs.Held.{filled, relationIn, graphIn, readOf}
-use Rattle.engine.specs.Relations.{emptyGraph}
+use Rattle.engine.specs.Relations.{graphOf, emptyGraph}
 
 -- ---- row by row: what is left to fill in, filled in, gives the whole
 
@@ -50,29 +49,13 @@ pub relation-filled : (bytes rows : List ℕ) (r first count : ℕ) → first �
 unfolding relationIn
 relation-filled bytes rows r first count e f h = h ∙ ap₂ (λ (n x : ℕ). filled bytes noRows n x) f e
 
--- ---- a graph field by field
-
-graph-of : (a : ℕ) (s s′ : Set) (m m′ : Marking) (c c′ r r′ i i′ e e′ : List ℕ)
-    → s ≡ s′ → m ≡ m′ → c ≡ c′ → r ≡ r′ → i ≡ i′ → e ≡ e′
-    → _≡_ {A = Graph}
-    (record { activities = a; events = s; opening = m; conditions = c; responses = r; includes = i; excludes = e })
-    (record { activities = a; events = s′; opening = m′; conditions = c′; responses = r′; includes = i′; excludes = e′ })
-graph-of a s s′ m m′ c c′ r r′ i i′ e e′ hs hm hc hr hi he =
-    λ k. record { activities = a; events = hs k; opening = hm k; conditions = hc k; responses = hr k; includes = hi k; excludes = he k }
+-- ---- a graph, part by part
 
 pub graph-held : (bytes : List ℕ) (s : Set) (m : Marking) (c r i e : List ℕ)
     → s ≡ eventsIn bytes → m ≡ markingIn bytes → c ≡ relationIn bytes 0 → r ≡ relationIn bytes 1 → i ≡ relationIn bytes 2 → e ≡ relationIn bytes 3
-    → _≡_ {A = Graph}
-    (record { activities = activitiesIn bytes; events = s; opening = m; conditions = c; responses = r; includes = i; excludes = e })
-    (graphIn bytes)
+    → graphOf (activitiesIn bytes) s m c r i e ≡ graphIn bytes
 unfolding graphIn
-graph-held bytes s m c r i e hs hm hc hr hi he = graph-of _ s _ m _ c _ r _ i _ e _ hs hm hc hr hi he
-
-pub graph-empty : (c r i e : List ℕ) → c ≡ noRows → r ≡ noRows → i ≡ noRows → e ≡ noRows
-    → _≡_ {A = Graph}
-    (record { activities = 0; events = noSet; opening = emptyMarking; conditions = c; responses = r; includes = i; excludes = e })
-    emptyGraph
-graph-empty c r i e hc hr hi he = graph-of 0 noSet noSet emptyMarking emptyMarking c _ r _ i _ e _ refl refl hc hr hi he
+graph-held bytes s m c r i e hs hm hc hr hi he = λ k. graphOf (activitiesIn bytes) (hs k) (hm k) (hc k) (hr k) (hi k) (he k)
 
 -- ---- a read
 

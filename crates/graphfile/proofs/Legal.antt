@@ -21,7 +21,7 @@ use Rattle.engine.specs.Judged.{rowWithin}
 use Rattle.graphfile.specs.Layout.{eventsIn, keyIn, rowIn}
 use Rattle.graphfile.specs.Refusals.{rises, rowOutside, rowBad, judgedRow}
 use Rattle.graphfile.specs.Held.{filled}
-use Rattle.graphfile.proofs.Accepted.{else-done}
+use Rattle.sets.proofs.Asking.{went}
 
 -- ---- a row that is put into rows
 
@@ -131,8 +131,8 @@ module _ (bytes : List ℕ) (first : ℕ) where
     row-facts : (j : ℕ) → judgedRow bytes first j ≡ Done → LegalRow (eventsIn bytes) bytes (first + j) × (rises bytes first j ≡ true)
     unfolding judgedRow rowOutside rowBad
     row-facts j h =
-        let five = else-done (rowOutside bytes (first + j)) Outside _ (λ t. t) h in
-        let six = else-done (rowBad bytes first j) BadRow Done (λ t. t) (five .1) in
+        let five = went (rowOutside bytes (first + j)) Outside _ refl h in
+        let six = went (rowBad bytes first j) BadRow Done refl (five .1) in
         let inside = neither _ _ (five .0) in
         let event = non-false _ (inside .0) in
         let stands = neither _ _ (six .0) in (

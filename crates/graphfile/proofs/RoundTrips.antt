@@ -2,7 +2,7 @@
 use mathlib.Core.Path.{_≡_, refl, sym, ap, ap₂, _∙_, subst}
 use mathlib.Core.Bool.{Bool}
 use mathlib.Core.List.{List, [], _∷_, _++_}
-use Prim.Native.Nat.{ℕ, _+_, _≤_}
+use Prim.Native.Nat.{ℕ, _+_, _*_, _≤_}
 use borrow.Author.Tests.{le-ltb}
 use lib.ListN.{length, take, drop, replicate}
 use lib.Seq.{take-at}
@@ -19,13 +19,33 @@ use Rattle.engine.specs.Judged.{judged}
 use Rattle.graphfile.specs.declared.reader.Reading.{Reading}
 use Rattle.graphfile.specs.declared.writer.Written.{Written}
 use Rattle.graphfile.specs.Numbers.{littleEndian}
+use Rattle.graphfile.specs.Layout.{headLength, rowLength}
 use Rattle.graphfile.specs.Refusals.{judgedFile}
 use Rattle.graphfile.specs.Held.{graphIn, readOf}
-use Rattle.graphfile.specs.Writing.{rowOf, rowsFor, rowsFrom, countFrom, entriesBytes, markingBytes, openingBytes, relationsBytes, bytesOf, judgedWrite, writtenOf, bufferAfter}
+use Rattle.graphfile.specs.Writing.{rowTotal, rowOf, rowsFor, rowsFrom, countFrom, entriesBytes, markingBytes, openingBytes, relationsBytes, bytesOf, judgedWrite, writtenOf, bufferAfter}
 use Rattle.graphfile.proofs.Codec.{Bytes}
 use Rattle.graphfile.proofs.Accepted.{accepted, done-then}
+use Rattle.graphfile.proofs.Stores.{length-file}
 use Rattle.graphfile.proofs.FileBack.{file-back, graph-back}
 use Rattle.graphfile.proofs.GraphFile.{Machine, file-done, graph-forth}
+
+-- ---- over the definitions
+
+-- every acceptable graph, written and read again, is that graph
+pub graph-round : (g : Graph) → Machine g → judged g ≡ Done → (judgedFile (bytesOf g) ≡ Done) × (graphIn (bytesOf g) ≡ g)
+graph-round g machine ok = (file-done g machine ok, graph-forth g machine ok)
+
+-- every accepted file, read and written again, is that file byte for byte
+pub file-round : (bytes : List ℕ) → Bytes bytes → judgedFile bytes ≡ Done → bytesOf (graphIn bytes) ≡ bytes
+file-round bytes small ok = file-back bytes small (accepted bytes ok)
+
+-- the graph of an accepted file is acceptable
+pub file-graph : (bytes : List ℕ) → Bytes bytes → judgedFile bytes ≡ Done → judged (graphIn bytes) ≡ Done
+file-graph bytes small ok = graph-back bytes small (accepted bytes ok)
+
+-- the length of a file: 52, and 9 for each row that is not empty
+pub file-length : (g : Graph) → length (bytesOf g) ≡ headLength + rowLength * rowTotal g
+file-length g = length-file g
 
 -- ---- a write that is done, and a read that is
 
@@ -59,8 +79,8 @@ written-then-read g before after w r machine ok room hw ha hr =
     ap₂ take long (ha ∙ buffer g before ok room) ∙ take-at (bytesOf g) (drop (length (bytesOf g)) before) (length (bytesOf g)) refl in
     hr
     ∙ ap readOf file
-    ∙ read-done (bytesOf g) (file-done g machine ok)
-    ∙ ap (λ (x : Graph). record { answer = Done; graph = x }) (graph-forth g machine ok)
+    ∙ read-done (bytesOf g) (graph-round g machine ok .0)
+    ∙ ap (λ (x : Graph). record { answer = Done; graph = x }) (graph-round g machine ok .1)
 
 -- every accepted file, read and written again, is that file byte for byte
 pub read-then-written : (bytes before after : List ℕ) (r : Reading) (w : Written)
@@ -71,9 +91,9 @@ unfolding readOf
 read-then-written bytes before after r w small hr ok room hw ha =
     let accept : judgedFile bytes ≡ Done = ap (λ (x : Reading). x .answer) (sym hr) ∙ ok in
     let graph : r .graph ≡ graphIn bytes = ap (λ (x : Reading). x .graph) (hr ∙ read-done bytes accept) in
-    let same : bytesOf (graphIn bytes) ≡ bytes = file-back bytes small (accepted bytes accept) in
+    let same : bytesOf (graphIn bytes) ≡ bytes = file-round bytes small accept in
     let room′ = subst (λ (l : List ℕ). length l ≤ length before) (sym same) room in
-    let legal = graph-back bytes small (accepted bytes accept) in (
+    let legal = file-graph bytes small accept in (
       hw ∙ ap (λ (g : Graph). writtenOf g (length before)) graph ∙ written (graphIn bytes) before legal room′ ∙ ap (λ (l : List ℕ). record { answer = Done; length = length l }) same,
       ha ∙ ap (λ (g : Graph). bufferAfter g before) graph ∙ buffer (graphIn bytes) before legal room′ ∙ ap (λ (l : List ℕ). l ++ drop (length l) before) same,
     )

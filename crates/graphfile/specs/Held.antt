@@ -4,7 +4,6 @@ use Prim.Native.Nat.{ℕ, zero, suc}
 use Rattle.sets.specs.Tests.{when_then_else_}
 use Rattle.sets.specs.Rows.{noRows, withRow}
 use Rattle.sets.specs.Answers.{isDone}
-use Rattle.engine.specs.Markings.{noSet, emptyMarking}
 use Rattle.engine.specs.Relations.{graphOf, emptyGraph}
 use Rattle.engine.specs.declared.graph.Graph.{Graph}
 use Rattle.graphfile.specs.declared.reader.Reading.{Reading}

@@ -10,23 +10,27 @@ use sets::Set;
 
 // The two letters and the edition.
 pub const LETTERS: [u8; 3] = *b"BG\x01";
-// The bytes before the first row, and those of a row.
+
+// The bytes before the first row.
 pub const HEAD: usize = 52;
 
+// The bytes of a row: a key and a set.
 pub const ROW: usize = 9;
-// Conditions, responses, includes, excludes.
+
+// How many relations: conditions, responses, includes, excludes.
 pub const RELATIONS: usize = 4;
-// Where the four sets stand.
+
+// Where the events stand, and the marking: executed, pending, included.
 pub const EVENTS: usize = 4;
 
 pub const EXECUTED: usize = 12;
 
-// Where the first entry's offset and number of rows stand, and the bytes of an entry.
+// The bytes of an entry, and where the first one's offset and number of rows stand.
+pub const ENTRY: usize = 4;
+
 pub const OFFSETS: usize = 36;
 
 pub const COUNTS: usize = 38;
-
-pub const ENTRY: usize = 4;
 
 // Whether the bytes open with the letters and the edition.
 pub(crate) fn opens_right(bytes: &[u8]) -> bool

@@ -8,11 +8,9 @@ ghost use Rattle.graphfile.specs.Held.{filled, relationIn, graphIn, read
 use crate::layout;
 use crate::refusal::judge;
 use engine::Graph;
-use engine::Marking;
 use sets::Activity;
 use sets::Answer;
 use sets::Rows;
-use sets::Set;
 use sets::rows;
 
 // What a read gives: the answer, and the graph; the empty graph where the file is refused.

@@ -10,7 +10,7 @@ use sets::Activity;
 use sets::Answer;
 use sets::Set;
 
-// The greatest number of rows of a relation.
+// The greatest number of rows of a relation, whatever A is.
 const MOST_ROWS: usize = 64;
 
 fn judge_head(bytes: &[u8]) -> Answer
