@@ -1,0 +1,5 @@
+-- The modules of `proofs/` that belong to no one function.
+pub mod PutLaws
+pub mod Figures
+pub mod PairLaws
+pub mod LineLaws

@@ -1,0 +1,50 @@
+// The first line: how many events, pairs of each relation, and traces.
+ghost use mathlib.Core.Path.{_≡_};
+ghost use mathlib.Core.List.{_++_};
+ghost use Prim.Native.Nat.{_+_, _≤_};
+ghost use lib.ListN.{length};
+ghost use Rattle.sets.specs.Rows.{inRow};
+ghost use Rattle.report.specs.Lines.{space, lineEnd, events, traces, C, R, I, E};
+ghost use Rattle.report.specs.Pairs.{pairCount};
+ghost use Rattle.report.specs.Puts.{Put, named, countsText, firstText};
+use crate::text;
+use sets::Activity;
+use sets::Rows;
+use sets::rows;
+
+const EVENTS: [u8; 6] = *b"events";
+
+const TRACES: [u8; 6] = *b"traces";
+
+// The relations' letters.
+pub const CONDITIONS: [u8; 1] = *b"C";
+
+pub const RESPONSES: [u8; 1] = *b"R";
+
+pub const INCLUDES: [u8; 1] = *b"I";
+
+pub const EXCLUDES: [u8; 1] = *b"E";
+
+// How many pairs stand in rows by source.
+pub fn pair_count(rows: &Rows) -> usize
+    ensures { λ r. ⌜ r ≡ pairCount (inRow (now (rows .entry))) ⌝ }
+{
+    let mut n: usize = 0;
+    let mut a: u8 = 0;
+    while a < Activity::LIMIT {
+        n += rows::row(rows, Activity(a)).count() as usize;
+        a += 1;
+    }
+    n
+}
+
+// The counts of pairs, each after its relation's letter.
+fn put_counts(out: &mut [u8], at: usize, c: usize, r: usize, i: usize, e: usize) -> usize
+    requires { ⌜ at + length (countsText c r i e) ≤ length (now out) ⌝ }
+    ensures { λ n. ⌜ Put (now (out .entry)) at (countsText c r i e) (now (out .exit)) n ⌝ }
+{
+    let after_c = text::put_named(out, at, &CONDITIONS, c, text::SPACE);
+    let after_r = text::put_named(out, after_c, &RESPONSES, r, text::SPACE);
+    let after_i = text::put_named(out, after_r, &INCLUDES, i, text::SPACE);
+    text::put_named(out, after_i, &EXCLUDES, e, text::SPACE)
+}

@@ -1,0 +1,4 @@
+// The listing of a log, as bytes in a lent buffer.
+mod heading;
+mod relations;
+mod text;
