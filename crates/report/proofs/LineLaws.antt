@@ -11,11 +11,11 @@ use Rattle.sets.specs.Tests.{_and_, non}
 use Rattle.sets.specs.Members.{width, mem, those, isEmpty, leastBelow}
 use Rattle.sets.specs.Rows.{Relation, rowAt, inRow}
 use Rattle.sets.specs.declared.set.Set.{Set}
-use Rattle.report.specs.Lines.{space, lineEnd, decimal, line}
+use Rattle.report.specs.Lines.{space, lineEnd, decimal, line, C, R, I, E}
 use Rattle.report.specs.Pairs.{Pair, passing, withEach, pairsFrom, pairsOf}
 use Rattle.report.specs.Listing.{pairLine, pairLines}
-use Rattle.report.specs.Puts.{Put, named}
-use Rattle.report.proofs.PutLaws.{put-as, put-then, room-first, room-second, Left, left-all, left-as, left-next, left-room, left-none}
+use Rattle.report.specs.Puts.{Put, named, countsText}
+use Rattle.report.proofs.PutLaws.{put-as, put-then, room-first, room-second, room-1, room-2, room-3, room-4, put-four, Left, left-all, left-as, left-next, left-room, left-none}
 use Rattle.report.proofs.PairLaws.{members-none, members-turn, pairs-row, pairs-end}
 
 abbrev pair : ℕ → ℕ → Pair
@@ -99,3 +99,40 @@ module _ (o : List ℕ) (a : ℕ) (whole : List ℕ) (o₁ : List ℕ) (a₁ : �
   rows-end h = left-none l (ap (pairLines letter) (pairs-end rows x h))
 
 pub ruleset row-by-row = (left-all, rows-room, rows-turn, rows-end)
+
+-- ---- the counts of the first line
+
+module _ (c r i e : ℕ) (o : List ℕ) (a : ℕ) where
+  abbrev nc : List ℕ
+  nc = named C c space
+
+  abbrev nr : List ℕ
+  nr = named R r space
+
+  abbrev ni : List ℕ
+  ni = named I i space
+
+  abbrev ne : List ℕ
+  ne = named E e space
+
+  module _ (room : a + length (countsText c r i e) ≤ length o) where
+    pub counts-1 : a + length nc ≤ length o
+    unfolding countsText
+    counts-1 = room-1 nc nr ni ne o a room
+
+    pub counts-2 : (o₁ : List ℕ) (a₁ : ℕ) → Put o a nc o₁ a₁ → a₁ + length nr ≤ length o₁
+    unfolding countsText
+    counts-2 o₁ a₁ p = room-2 nc nr ni ne o a room p
+
+    pub counts-3 : (o₁ o₂ : List ℕ) (a₁ a₂ : ℕ) → Put o a nc o₁ a₁ → Put o₁ a₁ nr o₂ a₂ → a₂ + length ni ≤ length o₂
+    unfolding countsText
+    counts-3 o₁ o₂ a₁ a₂ p q = room-3 nc nr ni ne o a room p q
+
+    pub counts-4 : (o₁ o₂ o₃ : List ℕ) (a₁ a₂ a₃ : ℕ) → Put o a nc o₁ a₁ → Put o₁ a₁ nr o₂ a₂ → Put o₂ a₂ ni o₃ a₃ → a₃ + length ne ≤ length o₃
+    unfolding countsText
+    counts-4 o₁ o₂ o₃ a₁ a₂ a₃ p q s = room-4 nc nr ni ne o a room p q s
+
+  pub counts-put : (o₁ o₂ o₃ o₄ : List ℕ) (a₁ a₂ a₃ a₄ : ℕ) → Put o a nc o₁ a₁ → Put o₁ a₁ nr o₂ a₂ → Put o₂ a₂ ni o₃ a₃ → Put o₃ a₃ ne o₄ a₄
+      → Put o a (countsText c r i e) o₄ a₄
+  unfolding countsText
+  counts-put o₁ o₂ o₃ o₄ a₁ a₂ a₃ a₄ p q s u = put-four nc nr ni ne o a p q s u

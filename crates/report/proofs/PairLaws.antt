@@ -123,6 +123,14 @@ pairs-ext r q (suc n) s l e =
     ap₂ _++_ (ap (withEach s) (passing-ext (r s) (q s) width 0 (λ b i j. e s b (omega (arith, add-suc s n)) (omega arith))))
     (pairs-ext r q n (suc s) (omega (arith, add-suc s n, suc-add s n)) e)
 
+-- no relation has more than 64 times 64 pairs
+pub pairs-most : (r : Relation) (n s : ℕ) → length (pairsFrom r n s) ≤ width * n
+unfolding pairsFrom
+pairs-most r zero s = omega arith
+pairs-most r (suc n) s =
+    let here = length-map {B = Pair} (passing (r s) width 0) (λ (t : ℕ). record { source = s; target = t }) in
+    omega (arith, passing-most (r s) width 0, pairs-most r n (suc s), length-append (withEach s (passing (r s) width 0)) (pairsFrom r n (suc s)))
+
 module _ (rows : List ℕ) (a : ℕ) (l : a < width) where
   -- a relation in rows, one row further
   pub pairs-row : (s : Set) → s ≡ rowAt rows a
@@ -141,6 +149,10 @@ module _ (rows : List ℕ) (a : ℕ) (l : a < width) where
       let here = length-map {B = Pair} (passing (mem s) width 0) (λ (t : ℕ). record { source = a; target = t }) ∙ length-passing (mem s) (mem s) width 0 (λ b i. ap (mem s) (sym (zero-add b))) in
       omega arith
 
+  pub count-most : (s : Set) (k n : ℕ) → s ≡ rowAt rows a → k ≡ countBelow width (mem s)
+      → n + length (pairsFrom (inRow rows) (width - a) a) ≡ pairCount (inRow rows) → n + k ≤ width * width
+  count-most s k n e f h = let all = count-row s k n _ e f h in omega (arith, pairs-most (inRow rows) width 0)
+
 pub pairs-end : (rows : List ℕ) (a : ℕ) → width ≤ a → pairsFrom (inRow rows) (width - a) a ≡ []
 unfolding pairsFrom
 pairs-end rows a l = let none : width - a ≡ 0 = omega arith in ap (λ (n : ℕ). pairsFrom (inRow rows) n a) none
@@ -151,12 +163,4 @@ count-start rows = zero-add (pairCount (inRow rows))
 pub count-end : (rows : List ℕ) (a n whole : ℕ) → width ≤ a → n + length (pairsFrom (inRow rows) (width - a) a) ≡ whole → n ≡ whole
 count-end rows a n whole l h = let e = ap length (pairs-end rows a l) in omega arith
 
--- no relation has more than 64 times 64 pairs
-pub pairs-most : (r : Relation) (n s : ℕ) → length (pairsFrom r n s) ≤ width * n
-unfolding pairsFrom
-pairs-most r zero s = omega arith
-pairs-most r (suc n) s =
-    let here = length-map {B = Pair} (passing (r s) width 0) (λ (t : ℕ). record { source = s; target = t }) in
-    omega (arith, passing-most (r s) width 0, pairs-most r n (suc s), length-append (withEach s (passing (r s) width 0)) (pairsFrom r n (suc s)))
-
-pub ruleset counting = (count-start, count-row, count-end)
+pub ruleset counting = (count-start, count-row, count-most, count-end)

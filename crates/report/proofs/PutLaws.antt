@@ -49,6 +49,41 @@ room-second {o} {o₁} {v} w p r = let p₁ = p .place in omega (arith, length-a
 pub room-byte : {o o₁ v : List ℕ} (b : ℕ) {a a₁ : ℕ} → Put o a v o₁ a₁ → a + length (v ++ (b ∷ [])) ≤ length o → a₁ + 1 ≤ length o₁
 room-byte b p r = room-second (b ∷ []) p r
 
+-- four texts, one after the other
+module _ (v₁ v₂ v₃ v₄ o : List ℕ) (a : ℕ) where
+  module _ (room : a + length (v₁ ++ v₂ ++ v₃ ++ v₄) ≤ length o) where
+    pub room-1 : a + length v₁ ≤ length o
+    room-1 = room-first o v₁ v₂ a (room-first o (v₁ ++ v₂) v₃ a (room-first o (v₁ ++ v₂ ++ v₃) v₄ a room))
+
+    pub room-2 : {o₁ : List ℕ} {a₁ : ℕ} → Put o a v₁ o₁ a₁ → a₁ + length v₂ ≤ length o₁
+    room-2 p = room-second v₂ p (room-first o (v₁ ++ v₂) v₃ a (room-first o (v₁ ++ v₂ ++ v₃) v₄ a room))
+
+    pub room-3 : {o₁ o₂ : List ℕ} {a₁ a₂ : ℕ} → Put o a v₁ o₁ a₁ → Put o₁ a₁ v₂ o₂ a₂ → a₂ + length v₃ ≤ length o₂
+    room-3 p q = room-second v₃ (put-then p q) (room-first o (v₁ ++ v₂ ++ v₃) v₄ a room)
+
+    pub room-4 : {o₁ o₂ o₃ : List ℕ} {a₁ a₂ a₃ : ℕ} → Put o a v₁ o₁ a₁ → Put o₁ a₁ v₂ o₂ a₂ → Put o₂ a₂ v₃ o₃ a₃ → a₃ + length v₄ ≤ length o₃
+    room-4 p q r = room-second v₄ (put-then (put-then p q) r) room
+
+  pub put-four : {o₁ o₂ o₃ o₄ : List ℕ} {a₁ a₂ a₃ a₄ : ℕ} → Put o a v₁ o₁ a₁ → Put o₁ a₁ v₂ o₂ a₂ → Put o₂ a₂ v₃ o₃ a₃ → Put o₃ a₃ v₄ o₄ a₄
+      → Put o a (v₁ ++ v₂ ++ v₃ ++ v₄) o₄ a₄
+  put-four p q r s = put-then (put-then (put-then p q) r) s
+
+-- three
+module _ (v₁ v₂ v₃ o : List ℕ) (a : ℕ) where
+  module _ (room : a + length (v₁ ++ v₂ ++ v₃) ≤ length o) where
+    pub of-three-1 : a + length v₁ ≤ length o
+    of-three-1 = room-first o v₁ v₂ a (room-first o (v₁ ++ v₂) v₃ a room)
+
+    pub of-three-2 : {o₁ : List ℕ} {a₁ : ℕ} → Put o a v₁ o₁ a₁ → a₁ + length v₂ ≤ length o₁
+    of-three-2 p = room-second v₂ p (room-first o (v₁ ++ v₂) v₃ a room)
+
+    pub of-three-3 : {o₁ o₂ : List ℕ} {a₁ a₂ : ℕ} → Put o a v₁ o₁ a₁ → Put o₁ a₁ v₂ o₂ a₂ → a₂ + length v₃ ≤ length o₂
+    of-three-3 p q = room-second v₃ (put-then p q) room
+
+  pub put-three : {o₁ o₂ o₃ : List ℕ} {a₁ a₂ a₃ : ℕ} → Put o a v₁ o₁ a₁ → Put o₁ a₁ v₂ o₂ a₂ → Put o₂ a₂ v₃ o₃ a₃
+      → Put o a (v₁ ++ v₂ ++ v₃) o₃ a₃
+  put-three p q r = put-then (put-then p q) r
+
 pub ruleset putting = (put-then, room-first, room-second, room-byte)
 
 -- ---- a loop that puts a text part by part: with what is left put from here on, the whole text is put

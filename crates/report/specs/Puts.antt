@@ -5,7 +5,10 @@ use mathlib.Core.List.{List, [], _∷_, _++_}
 use Prim.Native.Nat.{ℕ, _+_}
 use lib.ListN.{length}
 use lib.Seq.{sets}
-use Rattle.report.specs.Lines.{space, lineEnd, decimal, events, traces, C, R, I, E}
+use Rattle.sets.specs.Rows.{inRow}
+use Rattle.report.specs.Lines.{space, lineEnd, decimal, events, traces, C, R, I, E, T}
+use Rattle.report.specs.Pairs.{pairsOf}
+use Rattle.report.specs.Listing.{pairLines}
 
 -- the text stands from `at` on, all else is as it was, and the next place is the one after it
 pub record Put (before : List ℕ) (at : ℕ) (text : List ℕ) (after : List ℕ) (next : ℕ) : Type 0 where
@@ -16,9 +19,19 @@ pub record Put (before : List ℕ) (at : ℕ) (text : List ℕ) (after : List �
 unfoldable pub named : List ℕ → ℕ → ℕ → List ℕ
 named word n end = word ++ (space ∷ []) ++ (decimal n ++ (end ∷ []))
 
--- the four counts of the first line, and the whole of it
-abbrev pub countsText : ℕ → ℕ → ℕ → ℕ → List ℕ
+-- the four counts of the first line
+unfoldable pub countsText : ℕ → ℕ → ℕ → ℕ → List ℕ
 countsText c r i e = named C c space ++ named R r space ++ named I i space ++ named E e space
 
-abbrev pub firstText : ℕ → List ℕ → ℕ → List ℕ
-firstText n counts t = named events n space ++ counts ++ named traces t lineEnd
+-- the first line, by its numbers
+unfoldable pub headingText : ℕ → List ℕ → ℕ → List ℕ
+headingText n counts t = named events n space ++ counts ++ named traces t lineEnd
+
+-- the lines of four relations in rows by source
+unfoldable pub relationsText : List ℕ → List ℕ → List ℕ → List ℕ → List ℕ
+relationsText c r i e = pairLines C (pairsOf (inRow c)) ++ pairLines R (pairsOf (inRow r)) ++ pairLines I (pairsOf (inRow i)) ++ pairLines E (pairsOf (inRow e))
+
+-- the line of a trace, by its numbers
+unfoldable pub traceText : ℕ → ℕ → ℕ → ℕ → List ℕ
+traceText k n number accepting =
+    named T k space ++ (decimal n ++ (space ∷ [])) ++ (decimal number ++ (space ∷ [])) ++ (decimal accepting ++ (lineEnd ∷ []))

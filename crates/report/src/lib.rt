@@ -1,4 +1,5 @@
 // The listing of a log, as bytes in a lent buffer.
 mod heading;
 mod relations;
+mod replays;
 mod text;

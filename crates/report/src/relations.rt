@@ -6,7 +6,8 @@ ghost use Rattle.sets.specs.Members.{width, mem};
 ghost use Rattle.sets.specs.Rows.{inRow};
 ghost use Rattle.report.specs.Pairs.{passing, withEach, pairsOf};
 ghost use Rattle.report.specs.Listing.{pairLine, pairLines};
-ghost use Rattle.report.specs.Puts.{Put};
+ghost use Rattle.report.specs.Puts.{Put, relationsText};
+use crate::heading;
 use crate::text;
 use miner::without_least;
 use sets::Activity;
@@ -50,4 +51,22 @@ fn put_pairs<'a>(out: &mut [u8], at: usize, letter: &'a [u8], rows: &'a Rows) ->
         a += 1;
     }
     next
+}
+
+// The lines of the four relations, all in rows by source.
+pub fn put_relations<'a>(
+    out: &mut [u8],
+    at: usize,
+    conditions: &'a Rows,
+    responses: &'a Rows,
+    includes: &'a Rows,
+    excludes: &'a Rows,
+) -> usize
+    requires { ⌜ at + length (relationsText (now conditions) (now responses) (now includes) (now excludes)) ≤ length (now out) ⌝ }
+    ensures { λ r. ⌜ Put (now (out .entry)) at (relationsText (now (conditions .entry)) (now (responses .entry)) (now (includes .entry)) (now (excludes .entry))) (now (out .exit)) r ⌝ }
+{
+    let after_c = put_pairs(out, at, &heading::CONDITIONS, conditions);
+    let after_r = put_pairs(out, after_c, &heading::RESPONSES, responses);
+    let after_i = put_pairs(out, after_r, &heading::INCLUDES, includes);
+    put_pairs(out, after_i, &heading::EXCLUDES, excludes)
 }

@@ -1,5 +1,5 @@
 use mathlib.Core.Path.{_≡_}
-use Prim.Native.Nat.{_+_, _-_, _≤_}
+use Prim.Native.Nat.{_+_, _-_, _*_, _≤_}
 use lib.ListN.{length}
 use Rattle.sets.specs.Members.{width}
 use Rattle.sets.specs.Rows.{inRow}
@@ -10,7 +10,7 @@ use Rattle.report.proofs.heading.pair_count.Statement.{statement}
 use Rattle.report.proofs.heading.pair_count.Tie as tie
 
 abbrev Inv-loop : tie.InvT-loop
-Inv-loop rows n₀ a₀ n a = (a ≤ width) × (n + length (pairsFrom (inRow rows) (width - a) a) ≡ pairCount (inRow rows))
+Inv-loop rows n₀ a₀ n a = (a ≤ width) × (n ≤ width * width) × (n + length (pairsFrom (inRow rows) (width - a) a) ≡ pairCount (inRow rows))
 
 abbrev μ-loop : tie.MeasureT-loop
 μ-loop rows n₀ a₀ n a = width - a

@@ -1,5 +1,6 @@
 use Rattle.sets.specs.Members.{width, mem, countBelow}
 use Rattle.report.proofs.LineLaws.{members}
+use Rattle.miner.proofs.Passing.{fewer-left}
 use Rattle.report.proofs.PutLaws.{Left}
 use Rattle.report.proofs.LineLaws.{rowText}
 use borrow.Author.Needs.{needs}
@@ -7,7 +8,7 @@ use Rattle.report.proofs.relations.put_row.Statement.{statement}
 use Rattle.report.proofs.relations.put_row.Tie as tie
 
 abbrev Inv-loop : tie.InvT-loop
-Inv-loop out₀ at letter s next₀ rest₀ out next rest = Left out₀ at (rowText letter s targets) out next (rowText letter s rest)
+Inv-loop out₀ at letter s next₀ rest₀ out next rest = Left out₀ at (rowText letter s rest₀) out next (rowText letter s rest)
 
 abbrev μ-loop : tie.MeasureT-loop
 μ-loop out₀ at letter s next₀ rest₀ out next rest = countBelow width (mem rest)
@@ -28,7 +29,7 @@ without-least-requires : tie.Need-without-least-requires Inv-loop μ-loop
 without-least-requires c κs = search (members, needs)
 
 loop-less : tie.Need-loop-less Inv-loop μ-loop
-loop-less c = search (members, needs)
+loop-less c = search (fewer-left, needs)
 
 loop-again : tie.Need-loop-again Inv-loop μ-loop
 loop-again c = search (members, needs)
