@@ -8,14 +8,16 @@ use borrow.Author.Tests.{not-true, not-false}
 use lib.Dec.{eqb}
 use lib.ListN.{length, length-append}
 use Rattle.sets.specs.Tests.{_and_, non}
-use Rattle.sets.specs.Members.{width, mem, those, isEmpty, leastBelow}
+use Rattle.sets.specs.Members.{width, digit, mem, those, isEmpty, leastBelow}
 use Rattle.sets.specs.Rows.{Relation, rowAt, inRow}
 use Rattle.sets.specs.declared.set.Set.{Set}
-use Rattle.report.specs.Lines.{space, lineEnd, decimal, line, C, R, I, E}
+use Rattle.sets.specs.Answers.{numberOf}
+use Rattle.engine.specs.declared.replay.Replayed.{Replayed}
+use Rattle.report.specs.Lines.{space, lineEnd, decimal, line, T}
 use Rattle.report.specs.Pairs.{Pair, passing, withEach, pairsFrom, pairsOf}
-use Rattle.report.specs.Listing.{pairLine, pairLines}
-use Rattle.report.specs.Puts.{Put, named, countsText}
-use Rattle.report.proofs.PutLaws.{put-as, put-then, room-first, room-second, room-1, room-2, room-3, room-4, put-four, Left, left-all, left-as, left-next, left-room, left-none}
+use Rattle.report.specs.Listing.{pairLine, pairLines, traceLine}
+use Rattle.report.specs.Puts.{Put, named, four, countsText, traceText}
+use Rattle.report.proofs.PutLaws.{put-as, put-then, room-first, room-second, Left, left-all, left-as, left-next, left-room, left-none}
 use Rattle.report.proofs.PairLaws.{members-none, members-turn, pairs-row, pairs-end}
 
 abbrev pair : ℕ → ℕ → Pair
@@ -100,39 +102,29 @@ module _ (o : List ℕ) (a : ℕ) (whole : List ℕ) (o₁ : List ℕ) (a₁ : �
 
 pub ruleset row-by-row = (left-all, rows-room, rows-turn, rows-end)
 
--- ---- the counts of the first line
+-- ---- numbers that were counted
 
-module _ (c r i e : ℕ) (o : List ℕ) (a : ℕ) where
-  abbrev nc : List ℕ
-  nc = named C c space
+module _ (o : List ℕ) (a c r i e c′ r′ i′ e′ : ℕ) (hc : c ≡ c′) (hr : r ≡ r′) (hi : i ≡ i′) (he : e ≡ e′) where
+  counted : countsText c′ r′ i′ e′ ≡ countsText c r i e
+  counted k = countsText (sym hc k) (sym hr k) (sym hi k) (sym he k)
 
-  abbrev nr : List ℕ
-  nr = named R r space
+  pub counted-room : a + length (countsText c′ r′ i′ e′) ≤ length o → a + length (countsText c r i e) ≤ length o
+  counted-room room = subst (λ (x : List ℕ). a + length x ≤ length o) counted room
 
-  abbrev ni : List ℕ
-  ni = named I i space
+  pub counted-put : (o₁ : List ℕ) (a₁ : ℕ) → Put o a (countsText c r i e) o₁ a₁ → Put o a (countsText c′ r′ i′ e′) o₁ a₁
+  counted-put o₁ a₁ p = put-as (sym counted) p
 
-  abbrev ne : List ℕ
-  ne = named E e space
+-- the line of a trace, by what its replay gave
+module _ (o : List ℕ) (a k n number accepting : ℕ) (d end : Replayed) (he : d ≡ end) (hn : number ≡ numberOf (d .answer)) (ha : accepting ≡ digit (d .accepting)) where
+  trace-text : traceLine k n end ≡ traceText k n number accepting
+  unfolding traceLine line named four
+  trace-text =
+      ap (traceLine k n) (sym he)
+      ∙ (λ j. line (T ∷ decimal k ∷ decimal n ∷ decimal (sym hn j) ∷ decimal (sym ha j) ∷ []))
+      ∙ simp append-assoc
 
-  module _ (room : a + length (countsText c r i e) ≤ length o) where
-    pub counts-1 : a + length nc ≤ length o
-    unfolding countsText
-    counts-1 = room-1 nc nr ni ne o a room
+  pub trace-room : a + length (traceLine k n end) ≤ length o → a + length (traceText k n number accepting) ≤ length o
+  trace-room room = subst (λ (x : List ℕ). a + length x ≤ length o) trace-text room
 
-    pub counts-2 : (o₁ : List ℕ) (a₁ : ℕ) → Put o a nc o₁ a₁ → a₁ + length nr ≤ length o₁
-    unfolding countsText
-    counts-2 o₁ a₁ p = room-2 nc nr ni ne o a room p
-
-    pub counts-3 : (o₁ o₂ : List ℕ) (a₁ a₂ : ℕ) → Put o a nc o₁ a₁ → Put o₁ a₁ nr o₂ a₂ → a₂ + length ni ≤ length o₂
-    unfolding countsText
-    counts-3 o₁ o₂ a₁ a₂ p q = room-3 nc nr ni ne o a room p q
-
-    pub counts-4 : (o₁ o₂ o₃ : List ℕ) (a₁ a₂ a₃ : ℕ) → Put o a nc o₁ a₁ → Put o₁ a₁ nr o₂ a₂ → Put o₂ a₂ ni o₃ a₃ → a₃ + length ne ≤ length o₃
-    unfolding countsText
-    counts-4 o₁ o₂ o₃ a₁ a₂ a₃ p q s = room-4 nc nr ni ne o a room p q s
-
-  pub counts-put : (o₁ o₂ o₃ o₄ : List ℕ) (a₁ a₂ a₃ a₄ : ℕ) → Put o a nc o₁ a₁ → Put o₁ a₁ nr o₂ a₂ → Put o₂ a₂ ni o₃ a₃ → Put o₃ a₃ ne o₄ a₄
-      → Put o a (countsText c r i e) o₄ a₄
-  unfolding countsText
-  counts-put o₁ o₂ o₃ o₄ a₁ a₂ a₃ a₄ p q s u = put-four nc nr ni ne o a p q s u
+  pub trace-put : (o₁ : List ℕ) (a₁ : ℕ) → Put o a (traceText k n number accepting) o₁ a₁ → Put o a (traceLine k n end) o₁ a₁
+  trace-put o₁ a₁ p = put-as (sym trace-text) p

@@ -12,7 +12,7 @@ use lib.ListN.{length, getD, drop, set, length-set, length-append, drop-of-lengt
 use lib.Seq.{sets, length-sets, drop-cons}
 use Rattle.sets.specs.Tests.{when_then_else_}
 use Rattle.report.specs.Lines.{space, decimal}
-use Rattle.report.specs.Puts.{Put, named}
+use Rattle.report.specs.Puts.{Put, named, three, four}
 
 sets-append : (v w l : List ℕ) (i : ℕ) → sets (sets l i v) (i + length v) w ≡ sets l i (v ++ w)
 sets-append [] w l i = ap (λ (k : ℕ). sets l k w) (add-zero i)
@@ -49,40 +49,49 @@ room-second {o} {o₁} {v} w p r = let p₁ = p .place in omega (arith, length-a
 pub room-byte : {o o₁ v : List ℕ} (b : ℕ) {a a₁ : ℕ} → Put o a v o₁ a₁ → a + length (v ++ (b ∷ [])) ≤ length o → a₁ + 1 ≤ length o₁
 room-byte b p r = room-second (b ∷ []) p r
 
--- four texts, one after the other
-module _ (v₁ v₂ v₃ v₄ o : List ℕ) (a : ℕ) where
-  module _ (room : a + length (v₁ ++ v₂ ++ v₃ ++ v₄) ≤ length o) where
-    pub room-1 : a + length v₁ ≤ length o
-    room-1 = room-first o v₁ v₂ a (room-first o (v₁ ++ v₂) v₃ a (room-first o (v₁ ++ v₂ ++ v₃) v₄ a room))
+-- three texts, one after the other
+module _ (u v w o : List ℕ) (a : ℕ) where
+  module _ (room : a + length (three u v w) ≤ length o) where
+    pub of-three-1 : a + length u ≤ length o
+    unfolding three
+    of-three-1 = room-first o u v a (room-first o (u ++ v) w a room)
 
-    pub room-2 : {o₁ : List ℕ} {a₁ : ℕ} → Put o a v₁ o₁ a₁ → a₁ + length v₂ ≤ length o₁
-    room-2 p = room-second v₂ p (room-first o (v₁ ++ v₂) v₃ a (room-first o (v₁ ++ v₂ ++ v₃) v₄ a room))
+    pub of-three-2 : (o₁ : List ℕ) (a₁ : ℕ) → Put o a u o₁ a₁ → a₁ + length v ≤ length o₁
+    unfolding three
+    of-three-2 o₁ a₁ p = room-second v p (room-first o (u ++ v) w a room)
 
-    pub room-3 : {o₁ o₂ : List ℕ} {a₁ a₂ : ℕ} → Put o a v₁ o₁ a₁ → Put o₁ a₁ v₂ o₂ a₂ → a₂ + length v₃ ≤ length o₂
-    room-3 p q = room-second v₃ (put-then p q) (room-first o (v₁ ++ v₂ ++ v₃) v₄ a room)
+    pub of-three-3 : (o₁ o₂ : List ℕ) (a₁ a₂ : ℕ) → Put o a u o₁ a₁ → Put o₁ a₁ v o₂ a₂ → a₂ + length w ≤ length o₂
+    unfolding three
+    of-three-3 o₁ o₂ a₁ a₂ p q = room-second w (put-then p q) room
 
-    pub room-4 : {o₁ o₂ o₃ : List ℕ} {a₁ a₂ a₃ : ℕ} → Put o a v₁ o₁ a₁ → Put o₁ a₁ v₂ o₂ a₂ → Put o₂ a₂ v₃ o₃ a₃ → a₃ + length v₄ ≤ length o₃
-    room-4 p q r = room-second v₄ (put-then (put-then p q) r) room
+  pub put-three : (o₁ o₂ o₃ : List ℕ) (a₁ a₂ a₃ : ℕ) → Put o a u o₁ a₁ → Put o₁ a₁ v o₂ a₂ → Put o₂ a₂ w o₃ a₃ → Put o a (three u v w) o₃ a₃
+  unfolding three
+  put-three o₁ o₂ o₃ a₁ a₂ a₃ p q r = put-then (put-then p q) r
 
-  pub put-four : {o₁ o₂ o₃ o₄ : List ℕ} {a₁ a₂ a₃ a₄ : ℕ} → Put o a v₁ o₁ a₁ → Put o₁ a₁ v₂ o₂ a₂ → Put o₂ a₂ v₃ o₃ a₃ → Put o₃ a₃ v₄ o₄ a₄
-      → Put o a (v₁ ++ v₂ ++ v₃ ++ v₄) o₄ a₄
-  put-four p q r s = put-then (put-then (put-then p q) r) s
+-- four
+module _ (u v w x o : List ℕ) (a : ℕ) where
+  module _ (room : a + length (four u v w x) ≤ length o) where
+    first-three : a + length (three u v w) ≤ length o
+    unfolding three four
+    first-three = room-first o (u ++ v ++ w) x a room
 
--- three
-module _ (v₁ v₂ v₃ o : List ℕ) (a : ℕ) where
-  module _ (room : a + length (v₁ ++ v₂ ++ v₃) ≤ length o) where
-    pub of-three-1 : a + length v₁ ≤ length o
-    of-three-1 = room-first o v₁ v₂ a (room-first o (v₁ ++ v₂) v₃ a room)
+    pub of-four-1 : a + length u ≤ length o
+    of-four-1 = of-three-1 u v w o a first-three
 
-    pub of-three-2 : {o₁ : List ℕ} {a₁ : ℕ} → Put o a v₁ o₁ a₁ → a₁ + length v₂ ≤ length o₁
-    of-three-2 p = room-second v₂ p (room-first o (v₁ ++ v₂) v₃ a room)
+    pub of-four-2 : (o₁ : List ℕ) (a₁ : ℕ) → Put o a u o₁ a₁ → a₁ + length v ≤ length o₁
+    of-four-2 o₁ a₁ p = of-three-2 u v w o a first-three o₁ a₁ p
 
-    pub of-three-3 : {o₁ o₂ : List ℕ} {a₁ a₂ : ℕ} → Put o a v₁ o₁ a₁ → Put o₁ a₁ v₂ o₂ a₂ → a₂ + length v₃ ≤ length o₂
-    of-three-3 p q = room-second v₃ (put-then p q) room
+    pub of-four-3 : (o₁ o₂ : List ℕ) (a₁ a₂ : ℕ) → Put o a u o₁ a₁ → Put o₁ a₁ v o₂ a₂ → a₂ + length w ≤ length o₂
+    of-four-3 o₁ o₂ a₁ a₂ p q = of-three-3 u v w o a first-three o₁ o₂ a₁ a₂ p q
 
-  pub put-three : {o₁ o₂ o₃ : List ℕ} {a₁ a₂ a₃ : ℕ} → Put o a v₁ o₁ a₁ → Put o₁ a₁ v₂ o₂ a₂ → Put o₂ a₂ v₃ o₃ a₃
-      → Put o a (v₁ ++ v₂ ++ v₃) o₃ a₃
-  put-three p q r = put-then (put-then p q) r
+    pub of-four-4 : (o₁ o₂ o₃ : List ℕ) (a₁ a₂ a₃ : ℕ) → Put o a u o₁ a₁ → Put o₁ a₁ v o₂ a₂ → Put o₂ a₂ w o₃ a₃ → a₃ + length x ≤ length o₃
+    unfolding four
+    of-four-4 o₁ o₂ o₃ a₁ a₂ a₃ p q r = room-second x (put-then (put-then p q) r) room
+
+  pub put-four : (o₁ o₂ o₃ o₄ : List ℕ) (a₁ a₂ a₃ a₄ : ℕ) → Put o a u o₁ a₁ → Put o₁ a₁ v o₂ a₂ → Put o₂ a₂ w o₃ a₃ → Put o₃ a₃ x o₄ a₄
+      → Put o a (four u v w x) o₄ a₄
+  unfolding four
+  put-four o₁ o₂ o₃ o₄ a₁ a₂ a₃ a₄ p q r s = put-then (put-then (put-then p q) r) s
 
 pub ruleset putting = (put-then, room-first, room-second, room-byte)
 

@@ -19,19 +19,26 @@ pub record Put (before : List ℕ) (at : ℕ) (text : List ℕ) (after : List �
 unfoldable pub named : List ℕ → ℕ → ℕ → List ℕ
 named word n end = word ++ (space ∷ []) ++ (decimal n ++ (end ∷ []))
 
+-- texts one after the other
+unfoldable pub three : List ℕ → List ℕ → List ℕ → List ℕ
+three u v w = u ++ v ++ w
+
+unfoldable pub four : List ℕ → List ℕ → List ℕ → List ℕ → List ℕ
+four u v w x = u ++ v ++ w ++ x
+
 -- the four counts of the first line
-unfoldable pub countsText : ℕ → ℕ → ℕ → ℕ → List ℕ
-countsText c r i e = named C c space ++ named R r space ++ named I i space ++ named E e space
+abbrev pub countsText : ℕ → ℕ → ℕ → ℕ → List ℕ
+countsText c r i e = four (named C c space) (named R r space) (named I i space) (named E e space)
 
 -- the first line, by its numbers
-unfoldable pub headingText : ℕ → List ℕ → ℕ → List ℕ
-headingText n counts t = named events n space ++ counts ++ named traces t lineEnd
+abbrev pub headingText : ℕ → List ℕ → ℕ → List ℕ
+headingText n counts t = three (named events n space) counts (named traces t lineEnd)
 
 -- the lines of four relations in rows by source
-unfoldable pub relationsText : List ℕ → List ℕ → List ℕ → List ℕ → List ℕ
-relationsText c r i e = pairLines C (pairsOf (inRow c)) ++ pairLines R (pairsOf (inRow r)) ++ pairLines I (pairsOf (inRow i)) ++ pairLines E (pairsOf (inRow e))
+abbrev pub relationsText : List ℕ → List ℕ → List ℕ → List ℕ → List ℕ
+relationsText c r i e = four (pairLines C (pairsOf (inRow c))) (pairLines R (pairsOf (inRow r))) (pairLines I (pairsOf (inRow i))) (pairLines E (pairsOf (inRow e)))
 
 -- the line of a trace, by its numbers
-unfoldable pub traceText : ℕ → ℕ → ℕ → ℕ → List ℕ
+abbrev pub traceText : ℕ → ℕ → ℕ → ℕ → List ℕ
 traceText k n number accepting =
-    named T k space ++ (decimal n ++ (space ∷ [])) ++ (decimal number ++ (space ∷ [])) ++ (decimal accepting ++ (lineEnd ∷ []))
+    four (named T k space) (decimal n ++ (space ∷ [])) (decimal number ++ (space ∷ [])) (decimal accepting ++ (lineEnd ∷ []))
