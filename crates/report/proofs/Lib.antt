@@ -3,3 +3,4 @@ pub mod PutLaws
 pub mod Figures
 pub mod PairLaws
 pub mod LineLaws
+pub mod TraceLaws

@@ -104,6 +104,13 @@ pub ruleset row-by-row = (left-all, rows-room, rows-turn, rows-end)
 
 -- ---- numbers that were counted
 
+module _ (o word : List ℕ) (a n n′ end : ℕ) (h : n ≡ n′) where
+  pub number-room : a + length (named word n′ end) ≤ length o → a + length (named word n end) ≤ length o
+  number-room room = subst (λ (x : ℕ). a + length (named word x end) ≤ length o) (sym h) room
+
+  pub number-put : (o₁ : List ℕ) (a₁ : ℕ) → Put o a (named word n end) o₁ a₁ → Put o a (named word n′ end) o₁ a₁
+  number-put o₁ a₁ p = put-as (ap (λ (x : ℕ). named word x end) h) p
+
 module _ (o : List ℕ) (a c r i e c′ r′ i′ e′ : ℕ) (hc : c ≡ c′) (hr : r ≡ r′) (hi : i ≡ i′) (he : e ≡ e′) where
   counted : countsText c′ r′ i′ e′ ≡ countsText c r i e
   counted k = countsText (sym hc k) (sym hr k) (sym hi k) (sym he k)

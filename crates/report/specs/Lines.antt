@@ -36,16 +36,16 @@ line (w ∷ v ∷ ws) = w ++ (space ∷ line (v ∷ ws))
 -- ---- the words
 
 -- "events"
-abbrev pub events : List ℕ
-events = 101 ∷ 118 ∷ 101 ∷ 110 ∷ 116 ∷ 115 ∷ []
+abbrev pub eventsWord : List ℕ
+eventsWord = 101 ∷ 118 ∷ 101 ∷ 110 ∷ 116 ∷ 115 ∷ []
 
 -- "traces"
-abbrev pub traces : List ℕ
-traces = 116 ∷ 114 ∷ 97 ∷ 99 ∷ 101 ∷ 115 ∷ []
+abbrev pub tracesWord : List ℕ
+tracesWord = 116 ∷ 114 ∷ 97 ∷ 99 ∷ 101 ∷ 115 ∷ []
 
 -- "refused"
-abbrev pub refused : List ℕ
-refused = 114 ∷ 101 ∷ 102 ∷ 117 ∷ 115 ∷ 101 ∷ 100 ∷ []
+abbrev pub refusedWord : List ℕ
+refusedWord = 114 ∷ 101 ∷ 102 ∷ 117 ∷ 115 ∷ 101 ∷ 100 ∷ []
 
 -- the relations' letters, and a trace's
 abbrev pub C : List ℕ

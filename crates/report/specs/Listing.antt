@@ -15,19 +15,19 @@ use Rattle.engine.specs.declared.replay.Replayed.{Replayed}
 use Rattle.calllog.specs.Logs.{logOf}
 use Rattle.rules.specs.Traces.{Traces}
 use Rattle.rules.specs.Mined.{minedGraph}
-use Rattle.report.specs.Lines.{decimal, line, events, traces, refused, C, R, I, E, T}
+use Rattle.report.specs.Lines.{decimal, line, eventsWord, tracesWord, refusedWord, C, R, I, E, T}
 use Rattle.report.specs.Pairs.{Pair, pairsOf, pairCount}
 
 -- the first line: the number of events, of pairs in each relation, and of traces
 unfoldable pub firstLine : Graph → ℕ → List ℕ
 firstLine g n =
     line
-    (events ∷ decimal (countBelow width (mem (g .events)))
+    (eventsWord ∷ decimal (countBelow width (mem (g .events)))
     ∷ C ∷ decimal (pairCount (relationsOf g .conditions))
     ∷ R ∷ decimal (pairCount (relationsOf g .responses))
     ∷ I ∷ decimal (pairCount (relationsOf g .includes))
     ∷ E ∷ decimal (pairCount (relationsOf g .excludes))
-    ∷ traces ∷ decimal n ∷ [])
+    ∷ tracesWord ∷ decimal n ∷ [])
 
 -- one pair a line, source and target, after the relation's letter
 unfoldable pub pairLine : List ℕ → Pair → List ℕ
@@ -60,7 +60,7 @@ linesOf g L = firstLine g (length L) ++ relationLines g ++ traceLines (replayOf 
 
 -- a refused log: the one line with its number
 unfoldable pub refusedLine : Answer → List ℕ
-refusedLine a = line (refused ∷ decimal (numberOf a) ∷ [])
+refusedLine a = line (refusedWord ∷ decimal (numberOf a) ∷ [])
 
 -- the whole listing
 unfoldable pub listingOf : List ℕ → List ℕ

@@ -6,7 +6,7 @@ use Prim.Native.Nat.{ℕ, _+_}
 use lib.ListN.{length}
 use lib.Seq.{sets}
 use Rattle.sets.specs.Rows.{inRow}
-use Rattle.report.specs.Lines.{space, lineEnd, decimal, events, traces, C, R, I, E, T}
+use Rattle.report.specs.Lines.{space, lineEnd, decimal, eventsWord, tracesWord, C, R, I, E, T}
 use Rattle.report.specs.Pairs.{pairsOf}
 use Rattle.report.specs.Listing.{pairLines}
 
@@ -32,7 +32,7 @@ countsText c r i e = four (named C c space) (named R r space) (named I i space) 
 
 -- the first line, by its numbers
 abbrev pub headingText : ℕ → List ℕ → ℕ → List ℕ
-headingText n counts t = three (named events n space) counts (named traces t lineEnd)
+headingText n counts t = three (named eventsWord n space) counts (named tracesWord t lineEnd)
 
 -- the lines of four relations in rows by source
 abbrev pub relationsText : List ℕ → List ℕ → List ℕ → List ℕ → List ℕ

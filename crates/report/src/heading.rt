@@ -4,8 +4,9 @@ ghost use Prim.Native.Nat.{_+_, _≤_};
 ghost use lib.ListN.{length};
 ghost use Rattle.sets.specs.Members.{width, mem, countBelow};
 ghost use Rattle.sets.specs.Rows.{inRow};
+ghost use Rattle.report.specs.Lines.{space, eventsWord};
 ghost use Rattle.report.specs.Pairs.{pairCount};
-ghost use Rattle.report.specs.Puts.{Put, countsText, headingText};
+ghost use Rattle.report.specs.Puts.{Put, named, countsText, headingText};
 use crate::text;
 use sets::Activity;
 use sets::Rows;
@@ -68,6 +69,15 @@ fn put_pair_counts<'a>(
     put_counts(out, at, c, r, i, e)
 }
 
+// The number of events, after its word.
+fn put_events(out: &mut [u8], at: usize, events: Set) -> usize
+    requires { ⌜ at + length (named eventsWord (countBelow width (mem events)) space) ≤ length (now out) ⌝ }
+    ensures { λ r. ⌜ Put (now (out .entry)) at (named eventsWord (countBelow width (mem events)) space) (now (out .exit)) r ⌝ }
+{
+    let n = events.count();
+    text::put_named(out, at, &EVENTS, n as usize, text::SPACE)
+}
+
 // The whole line.
 pub fn put_heading<'a>(
     out: &mut [u8],
@@ -82,8 +92,7 @@ pub fn put_heading<'a>(
     requires { ⌜ at + length (headingText (countBelow width (mem events)) (countsText (pairCount (inRow (now conditions))) (pairCount (inRow (now responses))) (pairCount (inRow (now includes))) (pairCount (inRow (now excludes)))) traces) ≤ length (now out) ⌝ }
     ensures { λ n. ⌜ Put (now (out .entry)) at (headingText (countBelow width (mem events)) (countsText (pairCount (inRow (now (conditions .entry)))) (pairCount (inRow (now (responses .entry)))) (pairCount (inRow (now (includes .entry)))) (pairCount (inRow (now (excludes .entry))))) traces) (now (out .exit)) n ⌝ }
 {
-    let n = events.count();
-    let after_events = text::put_named(out, at, &EVENTS, n as usize, text::SPACE);
+    let after_events = put_events(out, at, events);
     let after_counts = put_pair_counts(
         out,
         after_events,
