@@ -9,7 +9,7 @@ use borrow.Author.Tests.{lt-ltb, le-ltb, ltb-true, ltb-false}
 use lib.Dec.{ltb}
 use lib.ListN.{length, length-append}
 use Rattle.sets.specs.Tests.{when_then_else_}
-use Rattle.report.specs.Lines.{figure, figures}
+use Rattle.report.specs.Lines.{figure, figures, decimal}
 use Rattle.report.specs.Puts.{Put}
 use Rattle.report.proofs.PutLaws.{put-none, put-as, put-then, put-length}
 
@@ -71,3 +71,15 @@ few (suc k) j n l = by (λ i m h. few k i m h) j l (ltb n 10) refl
     by ih j l true e = omega arith
     by ih zero l false e = absurd (let g = ltb-false n 10 e in omega arith)
     by ih (suc j) l false e = omega (arith, ih j (n / 10) (tenth n (suc j) l), length-append (figures k (n / 10)) (figure n ∷ []))
+
+pub one-figure : (n : ℕ) → n < 10 → length (decimal n) ≤ 1
+one-figure n l = few 5 0 n l
+
+pub two-figures : (n : ℕ) → n < 100 → length (decimal n) ≤ 2
+two-figures n l = few 5 1 n l
+
+pub three-figures : (n : ℕ) → n < 1000 → length (decimal n) ≤ 3
+three-figures n l = few 5 2 n l
+
+pub four-figures : (n : ℕ) → n < 10000 → length (decimal n) ≤ 4
+four-figures n l = few 5 3 n l

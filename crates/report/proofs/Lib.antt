@@ -4,3 +4,4 @@ pub mod Figures
 pub mod PairLaws
 pub mod LineLaws
 pub mod TraceLaws
+pub mod Longest

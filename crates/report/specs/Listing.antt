@@ -15,6 +15,7 @@ use Rattle.engine.specs.declared.replay.Replayed.{Replayed}
 use Rattle.calllog.specs.Logs.{logOf}
 use Rattle.rules.specs.Traces.{Traces}
 use Rattle.rules.specs.Mined.{minedGraph}
+use Rattle.report.specs.declared.writer.Listed.{Listed}
 use Rattle.report.specs.Lines.{decimal, line, eventsWord, tracesWord, refusedWord, C, R, I, E, T}
 use Rattle.report.specs.Pairs.{Pair, pairsOf, pairCount}
 
@@ -72,3 +73,15 @@ listingOf bytes =
 -- (C 63 63), 16 for each of 1,024 traces (T 1023 512 10 1): 50 + 131,072 + 16,384
 abbrev pub longestListing : ℕ
 longestListing = 147506
+
+-- ---- what `write_listing` gives and leaves in a buffer of so many bytes: 7 and no byte changed where a listing might not fit
+
+unfoldable pub listedOf : List ℕ → ℕ → Listed
+listedOf bytes room =
+    when ltb room longestListing then record { answer = BufferTooSmall; length = 0 }
+    else record { answer = logOf bytes .answer; length = length (listingOf bytes) }
+
+-- the listing, then what was there
+unfoldable pub bufferAfter : List ℕ → List ℕ → List ℕ
+bufferAfter bytes buffer =
+    when ltb (length buffer) longestListing then buffer else listingOf bytes ++ drop (length (listingOf bytes)) buffer

@@ -3,3 +3,7 @@ mod heading;
 mod relations;
 mod replays;
 mod text;
+pub mod writer;
+
+pub use writer::Listed;
+pub use writer::write_listing;
