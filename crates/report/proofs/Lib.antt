@@ -5,3 +5,4 @@ pub mod PairLaws
 pub mod LineLaws
 pub mod TraceLaws
 pub mod Longest
+pub mod WholeLaws
