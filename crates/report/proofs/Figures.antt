@@ -55,7 +55,6 @@ module _ (k n : ℕ) where
   pub put-zero : (o : List ℕ) (a : ℕ) → k ≡ 0 → Put o a (figures k n) o a
   put-zero o a e = put-as (none-left e) (put-none o a)
 
-
 -- ---- a number below a power of ten has at most so many figures
 
 tenth : (n j : ℕ) → n < 10 ^ suc j → n / 10 < 10 ^ j

@@ -6,3 +6,4 @@ pub mod LineLaws
 pub mod TraceLaws
 pub mod Longest
 pub mod WholeLaws
+pub mod Ways

@@ -1,14 +1,10 @@
 -- The whole listing: its parts are put one after another, and they are the definition's. Assumes nothing.
 use mathlib.Core.Path.{_≡_, refl, sym, ap, ap₂, subst, _∙_}
-use mathlib.Core.Bool.{Bool, true, false, not}
+use mathlib.Core.Bool.{Bool, true, false}
 use mathlib.Core.List.{List, [], _∷_, _++_, append-assoc, List·Memᴰ, List·Memᴰ·head, List·Memᴰ·tail}
 use Prim.Native.Nat.{ℕ, suc, _+_, _≤_, _<_}
-use native.Mathlib.Nat.{zero-add}
 use native.Mathlib.Omega.{arith}
-use borrow.Author.Tests.{lt-ltb, le-ltb, not-true, not-false}
-use lib.Dec.{ltb}
-use lib.ListN.{length, drop}
-use lib.Seq.{sets, sets-eq}
+use lib.ListN.{length}
 use Rattle.sets.specs.Tests.{when_then_else_}
 use Rattle.sets.specs.Members.{width, mem, countBelow}
 use Rattle.sets.specs.Rows.{Relation, inRow, rowsOf}
@@ -16,12 +12,12 @@ use Rattle.sets.specs.Answers.{numberOf, isDone}
 use Rattle.sets.specs.Sizes.{longestTrace}
 use Rattle.sets.specs.declared.set.Set.{Set}
 use Rattle.sets.specs.declared.answer.Answer.{Answer}
-use Rattle.sets.specs.declared.answer.Answer.the-variants.{Done, BufferTooSmall}
+use Rattle.sets.specs.declared.answer.Answer.the-variants.{Done}
 use Rattle.sets.proofs.RowLaws.{in-rowsOf}
 use Rattle.engine.specs.declared.marking.Marking.{Marking}
 use Rattle.engine.specs.declared.graph.Graph.{Graph}
 use Rattle.engine.specs.declared.replay.Replayed.{Replayed}
-use Rattle.engine.specs.Relations.{inRows, relationsOf, emptyGraph}
+use Rattle.engine.specs.Relations.{inRows, relationsOf}
 use Rattle.engine.specs.Judged.{judged}
 use Rattle.engine.specs.Replay.{replayFrom, replayOf}
 use Rattle.engine.proofs.Acceptable.{replay-judged}
@@ -33,17 +29,13 @@ use Rattle.rules.proofs.Acceptable.{acceptable}
 use Rattle.rules.proofs.FromFile.{file-accepted}
 use Rattle.miner.specs.Passes.{walked}
 use Rattle.miner.specs.Reading.{turned}
-use Rattle.miner.specs.Mine.{minedOf}
-use Rattle.miner.specs.declared.mining.Mined.{Mined}
 use Rattle.miner.proofs.FromLog.{walk-all}
-use Rattle.report.specs.declared.writer.Listed.{Listed}
 use Rattle.report.specs.Lines.{lineEnd, line, refusedWord, C, R, I, E}
 use Rattle.report.specs.Pairs.{Pair, pairsOf, pairCount}
-use Rattle.report.specs.Listing.{firstLine, pairLines, traceLine, traceLines, relationLines, linesOf, refusedLine, listingOf, longestListing, listedOf, bufferAfter}
+use Rattle.report.specs.Listing.{firstLine, pairLines, traceLine, traceLines, relationLines, linesOf, refusedLine, listingOf}
 use Rattle.report.specs.Puts.{Put, named, three, four, countsText, headingText, relationsText, linesText, graphText}
 use Rattle.report.proofs.PutLaws.{put-as, of-three-1, of-three-2, of-three-3, put-three}
 use Rattle.report.proofs.PairLaws.{pairs-ext}
-use Rattle.report.proofs.Longest.{longest}
 
 -- ---- the line of a refusal
 
@@ -153,14 +145,14 @@ module _ (log : List ℕ) where
       (ap (traceLines (replayFrom (g .events) (relationsOf g) (g .opening) 0) 0) (walk-all log) ∙ replays-are g (acceptable A L ok) 0 L (ok .lengths))
 
   -- the two ways of the definition
-  listing-done : (g : Graph) → isDone (logOf log .answer) ≡ true → g ≡ minedGraph A L → graphText g log ≡ listingOf log
+  pub listing-done : (g : Graph) → isDone (logOf log .answer) ≡ true → g ≡ minedGraph A L → graphText g log ≡ listingOf log
   unfolding listingOf
   listing-done g d e =
       ap (λ (x : Graph). graphText x log) e
       ∙ graph-lines
       ∙ sym (ap (λ (b : Bool). when b then linesOf (minedGraph A L) L else refusedLine (logOf log .answer)) d)
 
-  listing-refused : (x : Answer) → isDone (logOf log .answer) ≡ false → x ≡ logOf log .answer → refusedLine x ≡ listingOf log
+  pub listing-refused : (x : Answer) → isDone (logOf log .answer) ≡ false → x ≡ logOf log .answer → refusedLine x ≡ listingOf log
   unfolding listingOf
   listing-refused x d e =
       ap refusedLine e ∙ sym (ap (λ (b : Bool). when b then linesOf (minedGraph A L) L else refusedLine (logOf log .answer)) d)

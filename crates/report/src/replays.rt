@@ -60,7 +60,13 @@ fn put_trace<'a>(
     ensures { λ r. ⌜ Put (now (out .entry)) at (traceLine k (length (now (trace .entry))) (replayFrom events (inRows (now (conditions .entry)) (now (responses .entry)) (now (includes .entry)) (now (excludes .entry))) opening 0 (now (trace .entry)))) (now (out .exit)) r ⌝ }
 {
     let ended = replay::run(
-        events, conditions, responses, includes, excludes, opening, trace,
+        events,
+        conditions,
+        responses,
+        includes,
+        excludes,
+        opening,
+        trace,
     );
     let answer = ended.answer;
     let number = answer.number();

@@ -51,10 +51,23 @@ fn put_lines<'a>(
 {
     let by_source = miner::turned(conditions);
     let after_heading = heading::put_heading(
-        out, 0, events, traces, &by_source, responses, includes, excludes,
+        out,
+        0,
+        events,
+        traces,
+        &by_source,
+        responses,
+        includes,
+        excludes,
     );
-    let after_pairs =
-        relations::put_relations(out, after_heading, &by_source, responses, includes, excludes);
+    let after_pairs = relations::put_relations(
+        out,
+        after_heading,
+        &by_source,
+        responses,
+        includes,
+        excludes,
+    );
     replays::put_traces(
         out,
         after_pairs,

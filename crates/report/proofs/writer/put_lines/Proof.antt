@@ -1,36 +1,29 @@
 use borrow.Author.Needs.{needs}
+use Rattle.report.proofs.WholeLaws.{lines-1, lines-2, lines-3, lines-put}
 use Rattle.report.proofs.writer.put_lines.Statement.{statement}
 use Rattle.report.proofs.writer.put_lines.Tie as tie
-use Rattle.report.proofs.writer.put_lines.Reads as reads
-use Rattle.report.proofs.writer.put_lines.Lts as lts
-use Rattle.miner.proofs.turned.Reads as turned-reads
-use Rattle.report.proofs.heading.put_heading.Reads as put-heading-reads
-use Rattle.report.proofs.relations.put_relations.Reads as put-relations-reads
-use Rattle.report.proofs.replays.put_traces.Reads as put-traces-reads
 
--- src/writer.rt:52:21
 turned-requires : tie.Need-turned-requires
 turned-requires c κs = search needs
 
--- src/writer.rt:53:9
 put-heading-requires : tie.Need-put-heading-requires
-put-heading-requires c κs = ?
+put-heading-requires c κs = search (lines-1, needs)
 
--- src/writer.rt:56:9
 put-relations-requires : tie.Need-put-relations-requires
-put-relations-requires c κs = ?
+put-relations-requires c κs = search (lines-2, needs)
 
--- src/writer.rt:58:5
 put-traces-requires : tie.Need-put-traces-requires
-put-traces-requires c κs = ?
+put-traces-requires c κs =
+    let related = c .before .before .before in
+    let headed = related .before .before .before .before .before in
+    let turned = headed .before .before .before in
+    lines-3 _ _ _ _ _ _ _ _ _ _ (turned .turned .ensures) (turned .before .before .before .pre) _ _ _ _ (headed .put-heading .ensures) (related .put-relations .ensures)
 
--- src/writer.rt:38:1
 same-length : tie.Need-same-length
 same-length c = search needs
 
--- src/writer.rt:38:1
 returns : tie.Need-returns
-returns c = ?
+returns c = search (lines-put, needs)
 
 pub put-lines-spec : {M : Type 1} → statement M
 put-lines-spec =
