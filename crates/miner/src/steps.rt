@@ -193,7 +193,7 @@ pub fn smallest(rows: &Rows) -> Rows
 }
 
 // A set that is passed member by member, the least first.
-fn without_least(s: Set) -> Set
+pub fn without_least(s: Set) -> Set
     ensures { λ r. ⌜ r ≡ those (λ b. mem s b and non (eqb b (leastBelow width (mem s)))) ⌝ }
 {
     s.difference(Set::one(s.least()))

@@ -1,0 +1,15 @@
+// The listing program: a log on standard input, its listing on standard output. All that matters is in the library `report`.
+use io::write_all;
+use libc::STDIN_FILENO;
+use libc::STDOUT_FILENO;
+
+fn main() {
+    // One byte more than the longest log has: what is longer gets the number of these bytes (crates/calllog/proofs/Long.antt).
+    let mut log = [0u8; 36871];
+    let n = io::read_full(STDIN_FILENO, &mut log);
+    // The greatest listing.
+    let mut out = [0u8; 147506];
+    let listed = report::write_listing(&log[..n], &mut out);
+    let length = listed.length;
+    write_all(STDOUT_FILENO, &out[..length]);
+}

@@ -1,0 +1,9 @@
+-- The modules of `proofs/` that belong to no one function.
+pub mod PutLaws
+pub mod Figures
+pub mod PairLaws
+pub mod LineLaws
+pub mod TraceLaws
+pub mod Longest
+pub mod WholeLaws
+pub mod Ways

@@ -1,0 +1,4 @@
+pub mod Lines
+pub mod Pairs
+pub mod Listing
+pub mod Puts

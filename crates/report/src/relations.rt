@@ -1,0 +1,72 @@
+// The pairs of the relations, one a line.
+ghost use mathlib.Core.Path.{_≡_};
+ghost use Prim.Native.Nat.{_+_, _≤_};
+ghost use lib.ListN.{length};
+ghost use Rattle.sets.specs.Members.{width, mem};
+ghost use Rattle.sets.specs.Rows.{inRow};
+ghost use Rattle.report.specs.Pairs.{passing, withEach, pairsOf};
+ghost use Rattle.report.specs.Listing.{pairLine, pairLines};
+ghost use Rattle.report.specs.Puts.{Put, relationsText};
+use crate::heading;
+use crate::text;
+use miner::without_least;
+use sets::Activity;
+use sets::Rows;
+use sets::Set;
+use sets::rows;
+
+// The line of one pair.
+fn put_pair(out: &mut [u8], at: usize, letter: &[u8], s: u8, t: u8) -> usize
+    requires { ⌜ at + length (pairLine (now letter) (record { source = s; target = t })) ≤ length (now out) ⌝ }
+    ensures { λ r. ⌜ Put (now (out .entry)) at (pairLine (now (letter .entry)) (record { source = s; target = t })) (now (out .exit)) r ⌝ }
+{
+    let next = text::put_named(out, at, letter, s as usize, text::SPACE);
+    text::put_number(out, next, t as usize, text::LINE_END)
+}
+
+// The lines of a source with each of its targets, from the least on.
+fn put_row(out: &mut [u8], at: usize, letter: &[u8], s: u8, targets: Set) -> usize
+    requires { ⌜ at + length (pairLines (now letter) (withEach s (passing (mem targets) width 0))) ≤ length (now out) ⌝ }
+    ensures { λ r. ⌜ Put (now (out .entry)) at (pairLines (now (letter .entry)) (withEach s (passing (mem targets) width 0))) (now (out .exit)) r ⌝ }
+{
+    let mut next = at;
+    let mut rest = targets;
+    while !rest.is_empty() {
+        let t = rest.least();
+        next = put_pair(out, next, letter, s, t.0);
+        rest = without_least(rest);
+    }
+    next
+}
+
+// The lines of a relation kept in rows by source.
+fn put_pairs<'a>(out: &mut [u8], at: usize, letter: &'a [u8], rows: &'a Rows) -> usize
+    requires { ⌜ at + length (pairLines (now letter) (pairsOf (inRow (now rows)))) ≤ length (now out) ⌝ }
+    ensures { λ r. ⌜ Put (now (out .entry)) at (pairLines (now (letter .entry)) (pairsOf (inRow (now (rows .entry))))) (now (out .exit)) r ⌝ }
+{
+    let mut next = at;
+    let mut a: u8 = 0;
+    while a < Activity::LIMIT {
+        next = put_row(out, next, letter, a, rows::row(rows, Activity(a)));
+        a += 1;
+    }
+    next
+}
+
+// The lines of the four relations, all in rows by source.
+pub fn put_relations<'a>(
+    out: &mut [u8],
+    at: usize,
+    conditions: &'a Rows,
+    responses: &'a Rows,
+    includes: &'a Rows,
+    excludes: &'a Rows,
+) -> usize
+    requires { ⌜ at + length (relationsText (now conditions) (now responses) (now includes) (now excludes)) ≤ length (now out) ⌝ }
+    ensures { λ r. ⌜ Put (now (out .entry)) at (relationsText (now (conditions .entry)) (now (responses .entry)) (now (includes .entry)) (now (excludes .entry))) (now (out .exit)) r ⌝ }
+{
+    let after_c = put_pairs(out, at, &heading::CONDITIONS, conditions);
+    let after_r = put_pairs(out, after_c, &heading::RESPONSES, responses);
+    let after_i = put_pairs(out, after_r, &heading::INCLUDES, includes);
+    put_pairs(out, after_i, &heading::EXCLUDES, excludes)
+}

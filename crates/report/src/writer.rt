@@ -1,0 +1,129 @@
+// The whole listing of a log, into a lent buffer.
+ghost use mathlib.Core.Path.{_≡_};
+ghost use Prim.Native.Nat.{_+_, _≤_};
+ghost use lib.ListN.{length};
+ghost use Rattle.report.specs.Listing.{refusedLine, listedOf, bufferAfter};
+ghost use Rattle.report.specs.Puts.{Put, linesText, graphText};
+use crate::heading;
+use crate::relations;
+use crate::replays;
+use crate::text;
+use engine::Graph;
+use engine::Marking;
+use sets::Answer;
+use sets::Rows;
+use sets::Set;
+
+// The bytes of the longest listing: a buffer of this size is always enough.
+pub const LONGEST: usize = 147506;
+
+const REFUSED: [u8; 7] = *b"refused";
+
+// The log's answer, and the length of its listing; 7 and 0 where the buffer is smaller than the longest listing.
+pub struct Listed {
+    pub answer: Answer,
+    pub length: usize,
+}
+
+// The one line of a refused log.
+fn put_refused(out: &mut [u8], answer: Answer) -> usize
+    requires { ⌜ 0 + length (refusedLine answer) ≤ length (now out) ⌝ }
+    ensures { λ r. ⌜ Put (now (out .entry)) 0 (refusedLine answer) (now (out .exit)) r ⌝ }
+{
+    let n = answer.number();
+    text::put_named(out, 0, &REFUSED, n as usize, text::LINE_END)
+}
+
+// The lines of a graph, by its parts, and of a log's first traces.
+fn put_lines<'a>(
+    out: &mut [u8],
+    log: &'a [u8],
+    traces: usize,
+    events: Set,
+    opening: Marking,
+    conditions: &'a Rows,
+    responses: &'a Rows,
+    includes: &'a Rows,
+    excludes: &'a Rows,
+) -> usize
+    requires { ⌜ 0 + length (linesText events opening (now conditions) (now responses) (now includes) (now excludes) (now log) traces) ≤ length (now out) ⌝ }
+    ensures { λ r. ⌜ Put (now (out .entry)) 0 (linesText events opening (now (conditions .entry)) (now (responses .entry)) (now (includes .entry)) (now (excludes .entry)) (now (log .entry)) traces) (now (out .exit)) r ⌝ }
+{
+    let by_source = miner::turned(conditions);
+    let after_heading = heading::put_heading(
+        out,
+        0,
+        events,
+        traces,
+        &by_source,
+        responses,
+        includes,
+        excludes,
+    );
+    let after_pairs = relations::put_relations(
+        out,
+        after_heading,
+        &by_source,
+        responses,
+        includes,
+        excludes,
+    );
+    replays::put_traces(
+        out,
+        after_pairs,
+        log,
+        traces,
+        events,
+        opening,
+        conditions,
+        responses,
+        includes,
+        excludes,
+    )
+}
+
+// The lines of a graph and of all traces of a log.
+fn put_graph(out: &mut [u8], log: &[u8], g: Graph) -> usize
+    requires { ⌜ 0 + length (graphText g (now log)) ≤ length (now out) ⌝ }
+    ensures { λ r. ⌜ Put (now (out .entry)) 0 (graphText g (now (log .entry))) (now (out .exit)) r ⌝ }
+{
+    let judged = calllog::judge::judge_log(log);
+    put_lines(
+        out,
+        log,
+        judged.traces,
+        g.events,
+        g.opening,
+        &g.conditions,
+        &g.responses,
+        &g.includes,
+        &g.excludes,
+    )
+}
+
+// Lists a log: reads it, mines it, replays it on its graph.
+pub fn write_listing(log: &[u8], out: &mut [u8]) -> Listed
+    ensures { λ r. ⌜ r ≡ listedOf (now (log .entry)) (length (now (out .entry))) ⌝ }
+    ensures { λ _. ⌜ now (out .exit) ≡ bufferAfter (now (log .entry)) (now (out .entry)) ⌝ }
+{
+    if out.len() < LONGEST {
+        return Listed {
+            answer: Answer::BufferTooSmall,
+            length: 0,
+        };
+    }
+    let mined = miner::mine(log);
+    let answer = mined.answer;
+    if !answer.is_done() {
+        let size = put_refused(out, answer);
+        return Listed {
+            answer,
+            length: size,
+        };
+    }
+    let size = put_graph(out, log, mined.graph);
+    Listed {
+        answer,
+        length: size,
+    }
+}
