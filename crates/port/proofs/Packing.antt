@@ -22,6 +22,7 @@ use Rattle.graphfile.specs.declared.writer.Written.{Written}
 use Rattle.graphfile.specs.Markings.{markingFrom, markingInto}
 use Rattle.miner.specs.Mine.{minedOf}
 use Rattle.miner.specs.declared.mining.Mined.{Mined}
+use Rattle.report.specs.declared.writer.Listed.{Listed}
 use Rattle.port.specs.Port.{packedOf, putNumber, putBuffer, replayNumber, refusedStep, stepOf, stepBytes}
 
 pub packed-is : (a : Answer) (n low : ℕ) → low ≡ numberOf a → low + 256 * (n % 16777216) ≡ packedOf a n
@@ -69,6 +70,9 @@ module _ (r r′ : Reading) (e : r ≡ r′) where
   read-buffer out out′ h = h ∙ ap (λ (x : Reading). putBuffer (x .answer) (x .graph) out) e
 
 pub ruleset carrying = (mined-number, mined-buffer, read-number, read-buffer)
+
+pub listing-number : (m m′ : Listed) (n : ℕ) → m ≡ m′ → n ≡ packedOf (m .answer) (m .length) → n ≡ packedOf (m′ .answer) (m′ .length)
+listing-number m m′ n e h = h ∙ ap (λ (x : Listed). packedOf (x .answer) (x .length)) e
 
 -- ---- a replay
 

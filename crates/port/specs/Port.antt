@@ -15,6 +15,7 @@ use Rattle.graphfile.specs.Held.{readOf}
 use Rattle.graphfile.specs.Writing.{writtenOf, bufferAfter}
 use Rattle.graphfile.specs.Markings.{markingFrom, markingInto}
 use Rattle.miner.specs.Mine.{minedOf}
+use Rattle.report.specs.Listing.{listedOf}
 
 -- a number of 01, and 256 times what goes with it; that has 24 bits
 unfoldable pub packedOf : Answer → ℕ → ℕ
@@ -33,6 +34,10 @@ mineNumber log space = putNumber (minedOf log .answer) (minedOf log .graph) spac
 
 abbrev pub mineBuffer : List ℕ → List ℕ → List ℕ
 mineBuffer log buffer = putBuffer (minedOf log .answer) (minedOf log .graph) buffer
+
+-- skelfora_listing: the log's own number, or 7; its buffer is report's `bufferAfter`
+abbrev pub listingNumber : List ℕ → ℕ → ℕ
+listingNumber log space = packedOf (listedOf log space .answer) (listedOf log space .length)
 
 -- skelfora_rewrite
 abbrev pub rewriteNumber : List ℕ → ℕ → ℕ

@@ -5,6 +5,7 @@ use mathlib.Core.List.{List, [], _∷_, _++_, map, List·Memᴰ, List·Memᴰ·h
 use Prim.Native.Nat.{ℕ, zero, suc, _+_, _*_, _≤_, _<_}
 use native.Mathlib.Nat.{add-suc, suc-add}
 use native.Mathlib.Omega.{arith}
+use lib.Dec.{ltb}
 use lib.ListN.{length, length-append}
 use Rattle.sets.specs.Tests.{when_then_else_}
 use Rattle.sets.specs.Members.{width, digit, mem, countBelow}
@@ -23,9 +24,10 @@ use Rattle.calllog.proofs.Traces.{read-within}
 use Rattle.rules.specs.Traces.{Traces}
 use Rattle.rules.specs.Mined.{minedGraph}
 use Rattle.rules.proofs.FromFile.{file-accepted}
+use Rattle.report.specs.declared.writer.Listed.{Listed}
 use Rattle.report.specs.Lines.{decimal, line, C, R, I, E, T}
 use Rattle.report.specs.Pairs.{Pair, passing, withEach, pairsFrom, pairsOf, pairCount}
-use Rattle.report.specs.Listing.{firstLine, pairLine, pairLines, traceLine, traceLines, relationLines, linesOf, refusedLine, listingOf, longestListing}
+use Rattle.report.specs.Listing.{firstLine, pairLine, pairLines, traceLine, traceLines, relationLines, linesOf, refusedLine, listingOf, longestListing, listedOf}
 use Rattle.report.proofs.Figures.{one-figure, two-figures, three-figures, four-figures}
 use Rattle.report.proofs.PairLaws.{pairs-most}
 use Rattle.report.proofs.LineLaws.{lines-append}
@@ -169,3 +171,15 @@ module _ (bytes : List ℕ) where
           → length (when b then linesOf (minedGraph (logOf bytes .activities) L) L else refusedLine (logOf bytes .answer)) ≤ longestListing
       by true = lines-most (minedGraph (logOf bytes .activities) L)
       by false = refused-most (logOf bytes .answer)
+
+-- what is answered fits any buffer that is long enough for every listing
+pub listed-fits : (bytes : List ℕ) (room : ℕ) (r : Listed) → r ≡ listedOf bytes room → r .length ≤ longestListing
+unfolding listedOf
+listed-fits bytes room r e = subst fits (sym e) (go (ltb room longestListing))
+  where
+    fits : Listed → Type 0
+    fits x = x .length ≤ longestListing
+
+    go : (t : Bool) → fits (when t then record { answer = BufferTooSmall; length = 0 } else record { answer = logOf bytes .answer; length = length (listingOf bytes) })
+    go true = omega arith
+    go false = longest bytes
