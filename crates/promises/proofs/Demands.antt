@@ -182,16 +182,17 @@ module _ (g : Graph) (m : Marking) (ok : judgedWith g m ≡ Done) where
   pub enabled-rules : (e : ℕ) (a : Answer) → a ≡ enabledOf g m e → a ≡ enabled (g .events) (relationsOf g) m e
   enabled-rules e a h = enabled-number g m e a h ∙ ap (λ (x : Answer). thenAsk x (enabled (g .events) (relationsOf g) m e)) ok
 
-  pub step-rules : (e : ℕ) (r : Stepped) → r ≡ steppedOf g m e → r .answer ≡ Done → Stepping (relationsOf g) m e (r .marking)
-  unfolding steppedOf after
-  step-rules e r h d =
-      subst (Stepping (relationsOf g) m e)
-      (sym (ap (λ (x : Stepped). x .marking) h ∙ ap (λ (x : Answer). when isDone x then after (relationsOf g) m e else m) (sym (step-number g m e r h) ∙ d)))
-      (record { executed = λ a l. mem-those _ a l; pending = λ a l. mem-those _ a l; included = λ a l. mem-those _ a l })
-
   pub accepting-rules : (r : Verdict) → r ≡ acceptingOf g m → r .accepting ≡ accepting m
   unfolding acceptingOf _and_
   accepting-rules r h = ap (λ (x : Verdict). x .accepting) h ∙ ap (λ (x : Answer). isDone x and accepting m) ok
+
+-- a step that is done
+pub step-rules : (g : Graph) (m : Marking) (e : ℕ) (r : Stepped) → r ≡ steppedOf g m e → r .answer ≡ Done → Stepping (relationsOf g) m e (r .marking)
+unfolding steppedOf after
+step-rules g m e r h d =
+    subst (Stepping (relationsOf g) m e)
+    (sym (ap (λ (x : Stepped). x .marking) h ∙ ap (λ (x : Answer). when isDone x then after (relationsOf g) m e else m) (sym (step-number g m e r h) ∙ d)))
+    (record { executed = λ a l. mem-those _ a l; pending = λ a l. mem-those _ a l; included = λ a l. mem-those _ a l })
 
 -- and it replays step for step: to the first refusal, or through
 module _ (g : Graph) (σ : List ℕ) (ok : judgedFor g (length σ) ≡ Done) (r : Replayed) (h : r ≡ replayOf g σ) where
@@ -202,7 +203,8 @@ module _ (g : Graph) (σ : List ℕ) (ok : judgedFor g (length σ) ≡ Done) (r 
   replay-through = goes-through (g .events) (relationsOf g) (g .opening) σ r (replay-runs g σ r h ok)
 
 -- ---- files and graphs go round without a change. On the code: `graph_back` and `file_back` (src/returned.rt), which write and read, and read
--- and write, and whose statements say that the graph and the file come back. Of the statements of `read` and `write` alone:
+-- and write, and whose statements say that the graph and the file come back. Of the statements of `read` and `write` alone
+-- (`Machine` and `Bytes` say that numbers fit their places in memory, which the two functions show of what they are passed):
 
 pub graph-round : (g : Graph) (before after : List ℕ) (w : Written) (r : Reading)
     → Machine g → judged g ≡ Done → length (bytesOf g) ≤ length before

@@ -11,7 +11,7 @@
 --   calllog     judge_log judgedOf, trace_part partOf, find_trace foundOf, ask askedOf
 --   graphfile   read readOf; write writtenOf, and the lent buffer is bufferAfter
 --   miner       mine minedOf
---   promises    replay_own ownReplay, replay_none; graph_back graphBack, and the lent buffer is bufferAfter;
+--   promises    replay_own ownReplay, replay_none ending Done 0 ..; graph_back graphBack, and the lent buffer is bufferAfter;
 --               file_back fileBack, and the lent buffer is fileCopied
 use mathlib.Core.Path.{_≡_, sym, _∙_}
 
