@@ -3,49 +3,34 @@
 -- How to read it. A function's statement is one equation, `r ≡ definition of what was passed`. So "for every r with r ≡ minedOf bytes" is
 -- "for every result that `mine` can give for these bytes". The definitions are in the words of 01, in specs/ of their crates.
 --
--- The public functions, with what each gives. None has a `requires`.
---   sets        Set::one, below, has, union, intersection, difference, complement, is_empty, is_within, count, least: by members;
---               Answer::number numberOf, is_done isDone; rows::empty noRows, row rowAt; put, join, keep: the lent rows are withRow ..
---   engine      Graph::empty emptyGraph; Marking::of markingOf, opening openingOf;
---               marking_within markingWithin, rows_within rowsWithin, judge_for judgedFor, judge judged, judge_beside and judge_with judgedWith;
---               ask enabled, next after, is_accepting accepting; enabled enabledOf, step steppedOf, accepting acceptingOf;
---               run replayFrom, replay replayOf
---   calllog     judge_log judgedOf, trace_part partOf, find_trace foundOf, ask askedOf
---   graphfile   read readOf; write writtenOf, and the lent buffer is bufferAfter
---   miner       mine minedOf
---   promises    replay_own ownReplay, replay_none; graph_back graphBack, and the lent buffer is bufferAfter;
---               file_back fileBack, and the lent buffer is fileCopied
---
--- Beside this file: StandIns, in which functions that 01 does not want are shut out; and rules/proofs/Cases, the (P) cases of 01 in one table
--- under one theorem.
+-- Beside this file: Outcomes, the public functions with what each gives, and that it is one outcome; StandIns, in which functions that 01 does
+-- not want are shut out; and rules/proofs/Cases, the (P) cases of 01 in one table under one theorem.
 use mathlib.Core.Path.{_≡_, refl, sym, ap, subst, _∙_}
 use mathlib.Core.Bool.{Bool, true, false}
 use mathlib.Core.Logic.{_⊎_}
 use mathlib.Core.List.{List, [], _++_}
 use Prim.Native.Nat.{ℕ, _+_, _≤_, _<_}
-use lib.Dec.{T, ltb}
+use lib.Dec.{ltb}
 use lib.ListN.{length, take, drop}
 use Rattle.sets.specs.Tests.{_and_, when_then_else_}
 use Rattle.sets.specs.Answers.{isDone, thenAsk}
 use Rattle.sets.specs.declared.answer.Answer.{Answer}
 use Rattle.sets.specs.declared.answer.Answer.the-variants.{Done, AboveLimit, Outside, BufferTooSmall, NoTrace}
-use Rattle.sets.proofs.Tests.{true-and, false-and, T→true, F→false, split, either}
 use Rattle.sets.proofs.Members.{mem-those}
-use Rattle.sets.proofs.Asking.{done-is}
-use Rattle.engine.specs.Markings.{noSet, emptyMarking, openingOf}
+use Rattle.engine.specs.Markings.{emptyMarking, openingOf}
 use Rattle.engine.specs.Relations.{emptyGraph, relationsOf}
 use Rattle.engine.specs.Steps.{enabled, after, accepting}
-use Rattle.engine.specs.Judged.{markingWithin, judgedFor, judged, judgedWith}
+use Rattle.engine.specs.Judged.{judgedFor, judged, judgedWith}
 use Rattle.engine.specs.Replay.{enabledOf, steppedOf, acceptingOf, ending, replayFrom, replayOf}
 use Rattle.engine.specs.declared.marking.Marking.{Marking}
 use Rattle.engine.specs.declared.graph.Graph.{Graph}
 use Rattle.engine.specs.declared.step.Stepped.{Stepped}
 use Rattle.engine.specs.declared.step.Verdict.{Verdict}
 use Rattle.engine.specs.declared.replay.Replayed.{Replayed}
-use Rattle.engine.proofs.Acceptable.{enabled-judged, judged-for}
+use Rattle.engine.proofs.Acceptable.{judged-for}
 use Rattle.calllog.specs.Layout.{tracesIn, lengthAt}
 use Rattle.calllog.specs.Judged.{judgedLog}
-use Rattle.calllog.specs.Logs.{Log, logOf, judgedOf, startAt, noPart, foundAs, findingOf, foundOf, askedOf}
+use Rattle.calllog.specs.Logs.{logOf, judgedOf, startAt, noPart, foundAs, findingOf, foundOf, askedOf}
 use Rattle.calllog.specs.declared.judge.Judged.{Judged}
 use Rattle.calllog.specs.declared.trace.Found.{Found}
 use Rattle.calllog.specs.declared.trace.Asked.{Asked}
@@ -71,18 +56,10 @@ use Rattle.promises.proofs.Pairs.{pairs}
 use Rattle.promises.proofs.StepForStep.{stops-at, goes-through}
 use Rattle.promises.proofs.Early.{replay-runs, early-nothing}
 
--- ================ ONE OUTCOME
-
--- two results that a statement allows are equal; so are two results and what they leave of a lent buffer, where a statement has two equations
-pub one-outcome : {A : Type 0} {given r r′ : A} → r ≡ given → r′ ≡ given → r ≡ r′
-one-outcome h h′ = h ∙ sym h′
-
-pub one-outcome-lent : {A B : Type 0} {given r r′ : A} {left b b′ : B} → (r ≡ given) × (b ≡ left) → (r′ ≡ given) × (b′ ≡ left) → (r ≡ r′) × (b ≡ b′)
-one-outcome-lent h h′ = (one-outcome (h .0) (h′ .0), one-outcome (h .1) (h′ .1))
-
 -- ================ DEMAND 1
 
--- Every input gets a result, with no fault and no trust in the caller: each function above is proved, and none has a `requires`.
+-- Every input gets a result, with no fault and no trust in the caller: each function that Outcomes lists is proved, and none has
+-- a `requires`.
 
 -- ---- refusals exactly where 01 lists them: the number is the judgement of what was passed, in 01's order
 
@@ -205,16 +182,17 @@ module _ (g : Graph) (m : Marking) (ok : judgedWith g m ≡ Done) where
   pub enabled-rules : (e : ℕ) (a : Answer) → a ≡ enabledOf g m e → a ≡ enabled (g .events) (relationsOf g) m e
   enabled-rules e a h = enabled-number g m e a h ∙ ap (λ (x : Answer). thenAsk x (enabled (g .events) (relationsOf g) m e)) ok
 
-  pub step-rules : (e : ℕ) (r : Stepped) → r ≡ steppedOf g m e → r .answer ≡ Done → Stepping (relationsOf g) m e (r .marking)
-  unfolding steppedOf after
-  step-rules e r h d =
-      subst (Stepping (relationsOf g) m e)
-      (sym (ap (λ (x : Stepped). x .marking) h ∙ ap (λ (x : Answer). when isDone x then after (relationsOf g) m e else m) (sym (step-number g m e r h) ∙ d)))
-      (record { executed = λ a l. mem-those _ a l; pending = λ a l. mem-those _ a l; included = λ a l. mem-those _ a l })
-
   pub accepting-rules : (r : Verdict) → r ≡ acceptingOf g m → r .accepting ≡ accepting m
   unfolding acceptingOf _and_
   accepting-rules r h = ap (λ (x : Verdict). x .accepting) h ∙ ap (λ (x : Answer). isDone x and accepting m) ok
+
+-- a step that is done
+pub step-rules : (g : Graph) (m : Marking) (e : ℕ) (r : Stepped) → r ≡ steppedOf g m e → r .answer ≡ Done → Stepping (relationsOf g) m e (r .marking)
+unfolding steppedOf after
+step-rules g m e r h d =
+    subst (Stepping (relationsOf g) m e)
+    (sym (ap (λ (x : Stepped). x .marking) h ∙ ap (λ (x : Answer). when isDone x then after (relationsOf g) m e else m) (sym (step-number g m e r h) ∙ d)))
+    (record { executed = λ a l. mem-those _ a l; pending = λ a l. mem-those _ a l; included = λ a l. mem-those _ a l })
 
 -- and it replays step for step: to the first refusal, or through
 module _ (g : Graph) (σ : List ℕ) (ok : judgedFor g (length σ) ≡ Done) (r : Replayed) (h : r ≡ replayOf g σ) where
@@ -225,7 +203,8 @@ module _ (g : Graph) (σ : List ℕ) (ok : judgedFor g (length σ) ≡ Done) (r 
   replay-through = goes-through (g .events) (relationsOf g) (g .opening) σ r (replay-runs g σ r h ok)
 
 -- ---- files and graphs go round without a change. On the code: `graph_back` and `file_back` (src/returned.rt), which write and read, and read
--- and write, and whose statements say that the graph and the file come back. Of the statements of `read` and `write` alone:
+-- and write, and whose statements say that the graph and the file come back. Of the statements of `read` and `write` alone
+-- (`Machine` and `Bytes` say that numbers fit their places in memory, which the two functions show of what they are passed):
 
 pub graph-round : (g : Graph) (before after : List ℕ) (w : Written) (r : Reading)
     → Machine g → judged g ≡ Done → length (bytesOf g) ≤ length before

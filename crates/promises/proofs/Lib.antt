@@ -4,5 +4,6 @@ pub mod Back
 pub mod Pairs
 pub mod StepForStep
 pub mod Early
+pub mod Outcomes
 pub mod Demands
 pub mod StandIns

@@ -1,13 +1,12 @@
 -- Demand 3 carried to the code: what `mine` gives, and the replay of the log's own traces on it. Assumes nothing.
 use mathlib.Core.Path.{_≡_, refl, sym, ap, subst, _∙_}
 use mathlib.Core.Bool.{Bool, true, false, not}
-use mathlib.Core.Logic.{_⊎_, inl, inr}
 use mathlib.Core.List.{List, []}
 use Prim.Native.Nat.{ℕ, _+_, _-_, _≤_, _<_}
 use native.Mathlib.Omega.{arith}
 use borrow.Author.Tests.{not-true, not-false, lt-ltb, ltb-true, ltb-false}
-use lib.Dec.{T, ltb}
-use lib.ListN.{length, getD, take, drop, List·getD-eq-default}
+use lib.Dec.{ltb}
+use lib.ListN.{length, take, drop, List·getD-eq-default}
 use Rattle.sets.specs.Tests.{_and_, _or_, non, when_then_else_}
 use Rattle.sets.specs.Members.{bit, bitsOf, someBelow, everyBelow, isEmpty, within}
 use Rattle.sets.specs.Rows.{rowAt}
@@ -26,14 +25,12 @@ use Rattle.engine.specs.declared.replay.Replayed.{Replayed}
 use Rattle.engine.proofs.Acceptable.{replay-judged}
 use Rattle.calllog.specs.Layout.{tracesIn}
 use Rattle.calllog.specs.Judged.{judgedLog}
-use Rattle.calllog.specs.Logs.{Log, logOf, findingOf, foundOf}
+use Rattle.calllog.specs.Logs.{logOf, findingOf, foundOf}
 use Rattle.calllog.specs.declared.trace.Found.{Found}
-use Rattle.calllog.proofs.Given.{log-answer, log-refused}
+use Rattle.calllog.proofs.Given.{log-answer}
 use Rattle.calllog.proofs.Finding.{found-answer, found-below}
 use Rattle.calllog.proofs.Traces.{traces-number, trace-accepted, found-trace}
-use Rattle.rules.specs.Traces.{Traces}
 use Rattle.rules.specs.Mined.{graphFrom, minedGraph}
-use Rattle.rules.specs.Replays.{Replays}
 use Rattle.rules.proofs.Acceptable.{acceptable}
 use Rattle.rules.proofs.Demand3.{Through}
 use Rattle.rules.proofs.FromFile.{file-accepted, demand3-file}

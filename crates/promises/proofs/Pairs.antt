@@ -1,7 +1,5 @@
 -- Demand 2, the mined graph: pair for pair what the rules give, for all numbers. Assumes nothing.
-use mathlib.Core.Path.{_≡_, refl, sym, ap, subst, _∙_}
-use mathlib.Core.Bool.{Bool}
-use mathlib.Core.List.{List}
+use mathlib.Core.Path.{_≡_, refl, sym, ap, _∙_}
 use Prim.Native.Nat.{ℕ, _<_}
 use native.Mathlib.Nat.{lt-of-lt-of-le}
 use borrow.Author.Tests.{ltb-true, ltb-false}

@@ -1,11 +1,10 @@
 -- A replay goes step for step: it stops at the first event that is refused, or every event is enabled in its turn. Assumes nothing.
 use mathlib.Core.Path.{_≡_, refl, sym, ap, subst, _∙_}
-use mathlib.Core.Bool.{Bool, true, false}
+use mathlib.Core.Bool.{Bool, false}
 use mathlib.Core.List.{List, [], _∷_}
-use Prim.Native.Nat.{ℕ, zero, suc, _+_, _≤_, _<_}
+use Prim.Native.Nat.{ℕ, zero, suc, _+_, _<_}
 use native.Mathlib.Nat.{add-zero, zero-add, zero-lt-suc, not-suc-le-zero, le-of-suc-le-suc}
 use native.Mathlib.Omega.{arith}
-use lib.Dec.{T}
 use lib.ListN.{length, getD, take}
 use Rattle.sets.specs.Tests.{when_then_else_}
 use Rattle.sets.specs.Answers.{isDone}
@@ -19,7 +18,7 @@ use Rattle.engine.specs.Steps.{enabled, after, accepting}
 use Rattle.engine.specs.Replay.{ending, replayFrom}
 use Rattle.engine.specs.declared.marking.Marking.{Marking}
 use Rattle.engine.specs.declared.replay.Replayed.{Replayed}
-use Rattle.promises.specs.Demanded.{Refused, InTurn, StopsAt, GoesThrough}
+use Rattle.promises.specs.Demanded.{Refused, StopsAt, GoesThrough}
 
 module _ (events : Set) (r : Relations) where
   abbrev ran : Marking → ℕ → List ℕ → Replayed

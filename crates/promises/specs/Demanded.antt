@@ -1,6 +1,6 @@
 -- What the demands say, where it takes more than a line. The theorems are in proofs/Demands.antt.
 use mathlib.Core.Path.{_≡_}
-use mathlib.Core.Bool.{Bool, false}
+use mathlib.Core.Bool.{false}
 use mathlib.Core.List.{List}
 use Prim.Native.Nat.{ℕ, _<_}
 use lib.Dec.{eqb}
