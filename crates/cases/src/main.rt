@@ -10,7 +10,7 @@ mod text;
 const MOST_WORDS: u32 = 30000;
 
 // The cases that two files are needed for.
-fn run_pair<'a>(kind: u8, first: &'a [u8], i: u32) {
+fn run_pair(kind: u8, first: &[u8], i: u32) {
     let mut buf = [0u8; 40000];
     let n = files::load(i as usize + 2, &mut buf);
     if n == 0 {

@@ -1,4 +1,4 @@
-// Cases of replay: a graph file, and traces.
+// Cases of replay: a graph file, and traces. Of a file that is refused the graph is empty, and every step gets 8.
 use crate::files;
 use crate::text;
 use engine::Graph;
