@@ -1,0 +1,356 @@
+#!/usr/bin/env python3
+"""Writes data/, args and stdout of the program `cases`: python3 crates/cases/make.py
+
+A case is three words: what is done, a file of data/, and a second file or `-`. What it must print was worked out by hand from 01
+and stands beside it, with the reason where that is not plain; nothing here reads, mines or replays. `rt check cases` runs the
+proved code on the files and compares.
+"""
+import os
+import shutil
+
+HERE = os.path.dirname(os.path.abspath(__file__))
+GREATEST = 2**64 - 1
+
+files = {}
+words = []
+lines = []
+
+
+def case(kind, first, second, *expected):
+    words.extend([kind, first, second])
+    lines.extend(expected)
+
+
+# ---- the two files, as 01 lays them out
+
+
+def two(n):
+    return bytes([n % 256, n // 256])
+
+
+def log_file(a, traces):
+    contents, offset = b"", 0
+    for trace in traces:
+        contents += two(offset) + two(len(trace))
+        offset += len(trace)
+    return bytes([66, 76, 1, a]) + two(len(traces)) + contents + b"".join(bytes(t) for t in traces)
+
+
+def eight(members):
+    return sum(1 << a for a in members).to_bytes(8, "little")
+
+
+def graph_file(a, events, executed, pending, included, *relations):
+    """The four relations: conditions, responses, includes, excludes, each a list of rows, key and members."""
+    contents, rows = b"", b""
+    for relation in relations:
+        contents += two(len(rows)) + two(len(relation))
+        rows += b"".join(bytes([key]) + eight(members) for key, members in relation)
+    return bytes([66, 71, 1, a]) + b"".join(map(eight, (events, executed, pending, included))) + contents + rows
+
+
+def edited(file, *changes):
+    """The file with bytes put over it, each at its place."""
+    out = bytearray(file)
+    for at, new in changes:
+        out[at : at + len(new)] = new
+    return bytes(out)
+
+
+# ---- what a line says
+
+
+def found(k, number, start, length):
+    return f"; trace {k}: {number} start {start} length {length}"
+
+
+def log_good(name, file, a, t, *known):
+    """An accepted log: A, T, and number, start and length of its first and last trace. Trace T, and the greatest number: 11."""
+    files[name] = file
+    line = f"log {name}: 0 A {a} T {t}" + "".join(found(k, 0, s, n) for k, s, n in known)
+    case("log", name, "-", line + found(t, 11, 0, 0) + found(GREATEST, 11, 0, 0))
+
+
+def log_bad(name, file, number):
+    """A refused log: nothing beside the number, and each trace is refused with it, before 11."""
+    files[name] = file
+    line = f"log {name}: {number} A 0 T 0"
+    case("log", name, "-", line + found(0, number, 0, 0) + found(GREATEST, number, 0, 0))
+
+
+def said(a, events):
+    return f" A {a} events" + "".join(f" {e}" for e in events)
+
+
+def same(length, contents):
+    return f"; written: 0 length {length} contents {contents} same yes"
+
+
+def graph_good(name, file, a, events, length, contents):
+    """An accepted file: A, the events, and the same file when it is written again."""
+    files[name] = file
+    case("graph", name, "-", f"graph {name}: 0" + said(a, events) + same(length, contents))
+
+
+def graph_bad(name, file, number):
+    files[name] = file
+    case("graph", name, "-", f"graph {name}: {number}" + said(0, []))
+
+
+def ended(number, place, executed, pending, included, accepting):
+    def put(word, members):
+        return f" {word}" + "".join(f" {a}" for a in members)
+
+    sets = put("executed", executed) + put("pending", pending) + put("included", included)
+    return f": {number} place {place}" + sets + f" accepting {accepting}"
+
+
+def replays(graph, log, a, *table):
+    """Each trace with what its replay returns: number, place, executed, pending, included, accepting."""
+    files[log] = log_file(a, [trace for trace, _ in table])
+    case("replay", graph, log, *(f"replay {graph} {log} trace {k}" + ended(*end) for k, (_, end) in enumerate(table)))
+
+
+# ---- logs (01, "Log", "Numbers given back", "Calls to try")
+
+L = bytes([66, 76, 1, 3, 2, 0, 0, 0, 3, 0, 3, 0, 2, 0, 0, 1, 2, 0, 2])
+log_good("sample.log", L, 3, 2, (0, 14, 3), (1, 17, 2))  # the bodies begin at 6 + 2 * 4 = 14
+
+# 1: under 6 bytes; 6 are a log with no activity and no trace
+EMPTY_LOG = bytes([66, 76, 1, 0, 0, 0])
+log_bad("bytes-5.log", EMPTY_LOG[:5], 1)
+log_good("bytes-6.log", EMPTY_LOG, 0, 0)
+
+# 2: either letter, the edition
+log_bad("letter-first.log", edited(L, (0, b"C")), 2)
+log_bad("letter-second.log", edited(L, (1, b"G")), 2)
+log_bad("edition-0.log", edited(L, (2, b"\x00")), 2)
+log_bad("edition-2.log", edited(L, (2, b"\x02")), 2)
+
+# 3: A 64 and 65, T 1,024 and 1,025, lengths 512 and 513, totals 32,768 and 32,769
+log_good("a-64.log", log_file(64, [[63]]), 64, 1, (0, 10, 1))
+log_bad("a-65.log", log_file(65, [[63]]), 3)
+# the greatest log: 6 + 4 * 1,024 + 32,768 = 36,870 bytes; its last trace begins at 4,102 + 1,023 * 32 = 36,838
+LAP = list(range(64))
+MOST = [LAP[:32], LAP[32:]] * 512
+log_good("total-32768-t-1024.log", log_file(64, MOST), 64, 1024, (0, 4102, 32), (1023, 36838, 32))
+log_bad("total-32769.log", log_file(64, MOST[:-1] + [LAP[:33]]), 3)
+log_bad("t-1025.log", log_file(1, [[]] * 1025), 3)
+log_good("length-512.log", log_file(1, [[0] * 512]), 1, 1, (0, 10, 512))
+log_bad("length-513.log", log_file(1, [[0] * 513]), 3)
+
+# A 0 with empty traces is accepted, with one event it is 5
+log_good("a-0.log", log_file(0, [[], []]), 0, 2, (0, 14, 0), (1, 14, 0))
+log_bad("a-0-event.log", log_file(0, [[0]]), 5)
+
+# 1: the contents cut, one byte short; 4: one byte more, an offset too great, too small, not 0 at first; 5: a byte that is A
+log_bad("contents-cut.log", L[:13], 1)
+log_bad("end-short.log", L[:-1], 1)
+log_bad("end-more.log", L + b"\x00", 4)
+log_bad("offset-more.log", edited(L, (10, two(4))), 4)
+log_bad("offset-less.log", edited(L, (10, two(2))), 4)
+log_bad("offset-first.log", edited(L, (6, two(1))), 4)
+log_bad("byte-is-a.log", edited(L, (18, b"\x03")), 5)
+
+# two faults in one log: the order decides, and an entry is judged whole before the next
+log_bad("letters-then-a.log", edited(L, (0, b"C"), (3, b"\x41")), 2)
+log_bad("t-then-contents.log", edited(EMPTY_LOG, (4, two(1025))), 3)
+log_bad("contents-then-length.log", edited(EMPTY_LOG, (4, two(2))) + two(0) + two(513), 1)
+log_bad("length-then-offset.log", edited(L, (6, two(1)), (8, two(513))), 3)
+log_bad("offset-then-length.log", edited(L, (6, two(1)), (12, two(513))), 4)
+FULL = log_file(1, [[0] * 512] * 64 + [[0]])[: 6 + 4 * 65]
+log_bad("total-then-offset.log", edited(FULL, (6 + 4 * 64, two(0))), 3)
+log_bad("offset-then-end.log", edited(L, (10, two(4)))[:-1], 4)
+log_bad("short-then-byte.log", edited(L, (14, b"\x03"))[:-1], 1)
+log_bad("more-then-byte.log", edited(L, (14, b"\x03")) + b"\x00", 4)
+
+# ---- graph files (01, "Graph", "Numbers given back")
+
+# G, the graph of L as 01 lists it: 8 rows, so 52 + 72 = 124 bytes. The keys of the responses begin below the last of the conditions:
+# they rise within a relation only.
+G = graph_file(
+    3, [0, 1, 2], [], [], [0, 1, 2],
+    [(1, [0]), (2, [0])],
+    [(0, [2]), (1, [2])],
+    [(0, [1])],
+    [(0, [0]), (1, [1]), (2, [1, 2])],
+)  # fmt: skip
+G_CONTENTS = "0 2 18 2 36 1 45 3"
+graph_good("sample.graph", G, 3, [0, 1, 2], 124, G_CONTENTS)
+
+# the paper's graph a, b, c, d as 0, 1, 2, 3 (document 002, the example after Definition 3): 6 rows, 106 bytes; a is pending and b
+# is not included, so its marking is no opening one
+PAPER = graph_file(
+    4, [0, 1, 2, 3], [], [0], [0, 2, 3],
+    [(0, [1]), (1, [0])],
+    [(0, [1]), (1, [0])],
+    [(2, [1])],
+    [(3, [1, 3])],
+)  # fmt: skip
+graph_good("paper.graph", PAPER, 4, [0, 1, 2, 3], 106, "0 2 18 2 36 1 45 1")
+
+# 1: 51 bytes; 52 are a graph with no activity
+NONE = "0 0 0 0 0 0 0 0"
+EMPTY_GRAPH = graph_file(0, [], [], [], [], [], [], [], [])
+graph_bad("bytes-51.graph", EMPTY_GRAPH[:51], 1)
+graph_good("bytes-52.graph", EMPTY_GRAPH, 0, [], 52, NONE)
+
+# any marking within the events is accepted: 2 executed, 0 and 2 pending, 0 included; 1 is no event
+graph_good("marking.graph", graph_file(3, [0, 2], [2], [0, 2], [0], [], [], [], []), 3, [0, 2], 52, NONE)
+
+# 2: either letter, the edition
+graph_bad("letter-first.graph", edited(G, (0, b"C")), 2)
+graph_bad("letter-second.graph", edited(G, (1, b"L")), 2)
+graph_bad("edition-0.graph", edited(G, (2, b"\x00")), 2)
+graph_bad("edition-2.graph", edited(G, (2, b"\x02")), 2)
+
+# 3: A 64 and 65, 64 rows and 65; the greatest file has 52 + 9 * 4 * 64 = 2,356 bytes, and 64 rows take 576
+graph_good("a-64.graph", edited(G, (3, b"\x40")), 64, [0, 1, 2], 124, G_CONTENTS)
+graph_bad("a-65.graph", edited(G, (3, b"\x41")), 3)
+ALL = range(64)
+ROWS = [(a, ALL) for a in ALL]
+MOST_ROWS = graph_file(64, ALL, ALL, ALL, ALL, ROWS, ROWS, ROWS, ROWS)
+graph_good("rows-64.graph", MOST_ROWS, 64, ALL, 2356, "0 64 576 64 1152 64 1728 64")
+graph_bad("rows-65.graph", graph_file(64, ALL, [], [], ALL, ROWS + [(64, [0])], [], [], []), 3)
+
+# 5: an event that is A; executed, pending, included outside the events
+graph_bad("event-is-a.graph", edited(G, (3, b"\x02")), 5)
+graph_bad("executed-outside.graph", edited(G, (12, eight([3]))), 5)
+graph_bad("pending-outside.graph", edited(G, (20, eight([3]))), 5)
+graph_bad("included-outside.graph", edited(G, (28, eight([0, 1, 2, 3]))), 5)
+
+# 4: offsets counted in rows, the first not 0, the last one too great, one byte more; 1: one byte short
+graph_bad("offset-in-rows.graph", edited(G, (36, two(0)), (40, two(2)), (44, two(4)), (48, two(5))), 4)
+graph_bad("offset-first.graph", edited(G, (36, two(9))), 4)
+graph_bad("offset-last.graph", edited(G, (48, two(46))), 4)
+graph_bad("end-more.graph", G + b"\x00", 4)
+graph_bad("end-short.graph", G[:-1], 1)
+
+# 5 and 6, row by row. G's first row is at 52, key 1, and its set at 53; the second at 61 and 62.
+graph_bad("key-is-a.graph", edited(G, (52, b"\x03")), 5)
+graph_bad("key-no-event.graph", edited(G, (3, b"\x04"), (61, b"\x03")), 5)
+graph_bad("set-outside.graph", edited(G, (53, eight([0, 3]))), 5)
+graph_bad("more-rows.graph", graph_file(1, [0], [], [], [0], [(0, [0]), (1, [0])], [], [], []), 5)
+graph_bad("rows-falling.graph", edited(G, (52, b"\x02"), (61, b"\x01")), 6)
+graph_bad("rows-same-key.graph", edited(G, (61, b"\x01")), 6)
+graph_bad("row-empty.graph", edited(G, (53, eight([]))), 6)
+graph_bad("empty-then-outside.graph", edited(G, (53, eight([])), (61, b"\x03")), 6)  # a row is judged whole before the next
+graph_bad("outside-and-empty.graph", edited(G, (52, b"\x03"), (53, eight([]))), 5)  # in one row 5 comes first
+
+# a pair may be in includes and excludes at once
+BOTH = graph_file(2, [0, 1], [], [], [0, 1], [], [], [(0, [1])], [(0, [1])])
+graph_good("both.graph", BOTH, 2, [0, 1], 70, "0 0 0 0 0 1 9 1")
+
+# two faults in one file: the order decides
+graph_bad("letters-then-a.graph", edited(G, (0, b"C"), (3, b"\x41")), 2)
+graph_bad("a-then-marking.graph", edited(G, (3, b"\x41"), (12, eight([3]))), 3)
+graph_bad("marking-then-rows.graph", edited(G, (12, eight([3])), (38, two(65))), 5)
+graph_bad("rows-then-offset.graph", edited(G, (36, two(9)), (38, two(65))), 3)
+graph_bad("offset-then-rows.graph", edited(G, (36, two(9)), (42, two(65))), 4)
+graph_bad("offset-then-end.graph", edited(G, (48, two(46)))[:-1], 4)
+graph_bad("short-then-row.graph", edited(G, (52, b"\x03"))[:-1], 1)
+graph_bad("more-then-row.graph", edited(G, (53, eight([]))) + b"\x00", 4)
+
+# ---- a lent buffer: 124 bytes are enough for G, the rest of a larger one stays; 123 give 7, and no byte changes
+
+for size, line in (
+    (124, "0 length 124 file yes rest as it was yes"),
+    (130, "0 length 124 file yes rest as it was yes"),
+    (123, "7 length 0 file no rest as it was yes"),
+):
+    files[f"buffer-{size}"] = b"\xaa" * size
+    case("write", "sample.graph", f"buffer-{size}", f"write sample.graph buffer-{size}: {line}")
+
+# ---- mined graphs, as files: L gives G; a log with A 0 gives the empty graph; a refused log gives its number and nothing else
+
+case("mine", "sample.log", "sample.graph", "mine sample.log sample.graph: 0" + said(3, [0, 1, 2]) + same(124, G_CONTENTS))
+case("mine", "a-0.log", "bytes-52.graph", "mine a-0.log bytes-52.graph: 0" + said(0, []) + same(52, NONE))
+case("mine", "a-65.log", "bytes-52.graph", "mine a-65.log bytes-52.graph: 3" + said(0, []))
+
+# ---- replay: the paper's runs on a, b, c, d. After c, d, c the conditions between a and b bar both, and d has excluded itself.
+
+LOCKED = ([2, 3], [0], [0, 1, 2], "no")
+replays(
+    "paper.graph", "paper.log", 4,
+    ([], (0, 0, [], [0], [0, 2, 3], "no")),
+    ([0], (0, 1, [0], [1], [0, 2, 3], "yes")),
+    ([0, 2, 1, 3, 0], (0, 5, [0, 1, 2, 3], [1], [0, 2], "yes")),
+    ([2, 3, 2], (0, 3, *LOCKED)),
+    ([2, 3, 2, 0], (10, 3, *LOCKED)),
+    ([2, 3, 2, 1], (10, 3, *LOCKED)),
+    ([2, 3, 2, 3], (9, 3, *LOCKED)),
+)  # fmt: skip
+
+# a trace handed to replay: 512 events, 513, and an activity that is no event, of any number up to 255
+files["one.graph"] = graph_file(1, [0], [], [], [0], [], [], [], [])
+for name, trace, end in (
+    ("trace-512", [0] * 512, (0, 512, [0], [], [0], "yes")),
+    ("trace-513", [0] * 513, (3, 0, [], [], [], "no")),
+    ("trace-1", [0, 1], (8, 1, [0], [], [0], "no")),
+    ("trace-255", [0, 255], (8, 1, [0], [], [0], "no")),
+):
+    files[name] = bytes(trace)
+    case("trace", "one.graph", name, f"trace one.graph {name}" + ended(*end))
+
+# ---- docs/CLASSROOM.md
+
+# 1: 0 Request, 1 Inspect, 2 Assign; the graph is G
+replays(
+    "sample.graph", "class-route.log", 3,
+    ([], (0, 0, [], [], [0, 1, 2], "yes")),
+    ([0], (0, 1, [0], [2], [1, 2], "no")),
+    ([0, 2], (0, 2, [0, 2], [], [], "yes")),
+    ([0, 1], (0, 2, [0, 1], [2], [2], "no")),
+    ([0, 1, 2], (0, 3, [0, 1, 2], [], [], "yes")),
+    ([1], (10, 0, [], [], [0, 1, 2], "no")),
+    ([0, 2, 1], (9, 2, [0, 2], [], [], "no")),
+)  # fmt: skip
+
+# 2: 0 Waive, 1 Survey, 2 Assign; condition 1 to 2, 0 excludes 1
+files["class-waive.graph"] = graph_file(3, [0, 1, 2], [], [], [0, 1, 2], [(2, [1])], [], [], [(0, [1])])
+replays(
+    "class-waive.graph", "class-waive.log", 3,
+    ([2], (10, 0, [], [], [0, 1, 2], "no")),
+    ([1, 2], (0, 2, [1, 2], [], [0, 1, 2], "yes")),
+    ([0], (0, 1, [0], [], [0, 2], "yes")),
+    ([0, 2], (0, 2, [0, 2], [], [0, 2], "yes")),
+    ([0, 1], (9, 1, [0], [], [0, 2], "no")),
+)  # fmt: skip
+
+# 3: 0 Book pilot, 1 Pilot report, 2 Cancel pilot; response 0 to 1, 0 includes 1, 2 excludes 1
+files["class-pending.graph"] = graph_file(3, [0, 1, 2], [], [], [0, 1, 2], [], [(0, [1])], [(0, [1])], [(2, [1])])
+replays(
+    "class-pending.graph", "class-pending.log", 3,
+    ([0], (0, 1, [0], [1], [0, 1, 2], "no")),
+    ([0, 1], (0, 2, [0, 1], [], [0, 1, 2], "yes")),
+    ([0, 2], (0, 2, [0, 2], [1], [0, 2], "yes")),
+    ([0, 2, 1], (9, 2, [0, 2], [1], [0, 2], "no")),
+    ([0, 2, 0], (0, 3, [0, 2], [1], [0, 1, 2], "no")),
+)  # fmt: skip
+
+# 4: 0 Waive, 1 Survey, 2 Assign, 3 Damage; condition 1 to 2, 0 excludes 1, 3 includes 1
+files["class-again.graph"] = graph_file(4, [0, 1, 2, 3], [], [], [0, 1, 2, 3], [(2, [1])], [], [(3, [1])], [(0, [1])])
+replays(
+    "class-again.graph", "class-again.log", 4,
+    ([0, 2], (0, 2, [0, 2], [], [0, 2, 3], "yes")),
+    ([0, 3], (0, 2, [0, 3], [], [0, 1, 2, 3], "yes")),
+    ([0, 3, 2], (10, 2, [0, 3], [], [0, 1, 2, 3], "no")),
+    ([0, 3, 1], (0, 3, [0, 1, 3], [], [0, 1, 2, 3], "yes")),
+    ([0, 3, 1, 2], (0, 4, [0, 1, 2, 3], [], [0, 1, 2, 3], "yes")),
+    ([3, 0, 2], (0, 3, [0, 2, 3], [], [0, 2, 3], "yes")),
+)  # fmt: skip
+
+
+def main():
+    data = os.path.join(HERE, "data")
+    shutil.rmtree(data, ignore_errors=True)
+    os.mkdir(data)
+    for name, content in files.items():
+        with open(os.path.join(data, name), "wb") as out:
+            out.write(content)
+    for name, rows in (("args", words), ("stdout", lines)):
+        with open(os.path.join(HERE, name), "w", encoding="ascii") as out:
+            out.write("".join(row + "\n" for row in rows))
+
+
+main()
