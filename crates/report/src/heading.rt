@@ -79,7 +79,7 @@ fn put_events(out: &mut [u8], at: usize, events: Set) -> usize
 }
 
 // The whole line.
-pub fn put_heading<'a>(
+pub(crate) fn put_heading<'a>(
     out: &mut [u8],
     at: usize,
     events: Set,

@@ -54,7 +54,7 @@ fn put_pairs<'a>(out: &mut [u8], at: usize, letter: &'a [u8], rows: &'a Rows) ->
 }
 
 // The lines of the four relations, all in rows by source.
-pub fn put_relations<'a>(
+pub(crate) fn put_relations<'a>(
     out: &mut [u8],
     at: usize,
     conditions: &'a Rows,

@@ -75,7 +75,7 @@ fn put_trace<'a>(
 }
 
 // The lines of a log's first traces.
-pub fn put_traces<'a>(
+pub(crate) fn put_traces<'a>(
     out: &mut [u8],
     at: usize,
     log: &'a [u8],

@@ -11,7 +11,7 @@ pub const SPACE: u8 = 32;
 pub const LINE_END: u8 = 10;
 
 // One byte.
-pub fn put_byte(out: &mut [u8], at: usize, b: u8) -> usize
+pub(crate) fn put_byte(out: &mut [u8], at: usize, b: u8) -> usize
     requires { ⌜ at + 1 ≤ length (now out) ⌝ }
     ensures { λ r. ⌜ Put (now (out .entry)) at (b ∷ []) (now (out .exit)) r ⌝ }
 {
@@ -33,7 +33,7 @@ fn put_bytes(out: &mut [u8], at: usize, word: &[u8]) -> usize
 }
 
 // A word, and the byte that ends it: a space, or the end of the line.
-pub fn put_word(out: &mut [u8], at: usize, word: &[u8], end: u8) -> usize
+pub(crate) fn put_word(out: &mut [u8], at: usize, word: &[u8], end: u8) -> usize
     requires { ⌜ at + length (now word ++ (end ∷ [])) ≤ length (now out) ⌝ }
     ensures { λ r. ⌜ Put (now (out .entry)) at (now (word .entry) ++ (end ∷ [])) (now (out .exit)) r ⌝ }
 {
@@ -58,7 +58,7 @@ fn put_figures(out: &mut [u8], at: usize, k: usize, n: usize) -> usize
 }
 
 // A number in decimal, and the byte that ends it.
-pub fn put_number(out: &mut [u8], at: usize, n: usize, end: u8) -> usize
+pub(crate) fn put_number(out: &mut [u8], at: usize, n: usize, end: u8) -> usize
     requires { ⌜ at + length (decimal n ++ (end ∷ [])) ≤ length (now out) ⌝ }
     ensures { λ r. ⌜ Put (now (out .entry)) at (decimal n ++ (end ∷ [])) (now (out .exit)) r ⌝ }
 {
@@ -67,7 +67,7 @@ pub fn put_number(out: &mut [u8], at: usize, n: usize, end: u8) -> usize
 }
 
 // A word, a space, a number, and the byte that ends it.
-pub fn put_named(out: &mut [u8], at: usize, word: &[u8], n: usize, end: u8) -> usize
+pub(crate) fn put_named(out: &mut [u8], at: usize, word: &[u8], n: usize, end: u8) -> usize
     requires { ⌜ at + length (named (now word) n end) ≤ length (now out) ⌝ }
     ensures { λ r. ⌜ Put (now (out .entry)) at (named (now (word .entry)) n end) (now (out .exit)) r ⌝ }
 {
