@@ -7,3 +7,4 @@ pub mod TraceLaws
 pub mod Longest
 pub mod WholeLaws
 pub mod Ways
+pub mod Examples
