@@ -57,7 +57,7 @@ module _ (k n : ℕ) where
 
 -- ---- a number below a power of ten has at most so many figures
 
-tenth : (n j : ℕ) → n < 10 ^ suc j → n / 10 < 10 ^ j
+pub tenth : (n j : ℕ) → n < 10 ^ suc j → n / 10 < 10 ^ j
 tenth n j l = div-lt-iff-lt-mul {k = 10} {x = n} {y = 10 ^ j} (omega arith) .1 (subst (λ (x : ℕ). n < x) (pow-suc 10 j) l)
 
 pub few : (k j n : ℕ) → n < 10 ^ suc j → length (figures k n) ≤ suc j

@@ -8,3 +8,4 @@ pub mod Longest
 pub mod WholeLaws
 pub mod Ways
 pub mod Examples
+pub mod Decimal
