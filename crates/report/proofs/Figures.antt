@@ -2,10 +2,10 @@
 use mathlib.Core.Path.{_≡_, refl, sym, ap, subst, _∙_}
 use mathlib.Core.Bool.{Bool, true, false}
 use mathlib.Core.List.{List, [], _∷_, _++_}
-use Prim.Native.Nat.{ℕ, zero, suc, _+_, _-_, _*_, _/_, _%_, _^_, _≤_, _<_}
+use Prim.Native.Nat.{ℕ, zero, suc, _+_, _-_, _/_, _^_, _≤_, _<_}
 use native.Mathlib.Nat.{pow-suc, div-lt-iff-lt-mul}
 use native.Mathlib.Omega.{arith}
-use borrow.Author.Tests.{lt-ltb, le-ltb, ltb-true, ltb-false}
+use borrow.Author.Tests.{lt-ltb, le-ltb, ltb-false}
 use lib.Dec.{ltb}
 use lib.ListN.{length, length-append}
 use Rattle.sets.specs.Tests.{when_then_else_}
@@ -57,7 +57,7 @@ module _ (k n : ℕ) where
 
 -- ---- a number below a power of ten has at most so many figures
 
-tenth : (n j : ℕ) → n < 10 ^ suc j → n / 10 < 10 ^ j
+pub tenth : (n j : ℕ) → n < 10 ^ suc j → n / 10 < 10 ^ j
 tenth n j l = div-lt-iff-lt-mul {k = 10} {x = n} {y = 10 ^ j} (omega arith) .1 (subst (λ (x : ℕ). n < x) (pow-suc 10 j) l)
 
 pub few : (k j n : ℕ) → n < 10 ^ suc j → length (figures k n) ≤ suc j

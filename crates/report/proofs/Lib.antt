@@ -7,3 +7,5 @@ pub mod TraceLaws
 pub mod Longest
 pub mod WholeLaws
 pub mod Ways
+pub mod Examples
+pub mod Decimal

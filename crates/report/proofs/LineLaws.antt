@@ -1,23 +1,22 @@
 -- The lines of pairs and of the counts: how they are put. Assumes nothing.
-use mathlib.Core.Path.{_≡_, refl, sym, ap, ap₂, subst, _∙_}
+use mathlib.Core.Path.{_≡_, refl, sym, ap, subst, _∙_}
 use mathlib.Core.Bool.{Bool, true, false, not}
 use mathlib.Core.List.{List, [], _∷_, _++_, append-assoc}
-use Prim.Native.Nat.{ℕ, zero, suc, _+_, _-_, _*_, _≤_, _<_}
-use native.Mathlib.Omega.{arith}
+use Prim.Native.Nat.{ℕ, _+_, _-_, _≤_, _<_}
 use borrow.Author.Tests.{not-true, not-false}
 use lib.Dec.{eqb}
-use lib.ListN.{length, length-append}
+use lib.ListN.{length}
 use Rattle.sets.specs.Tests.{_and_, non}
 use Rattle.sets.specs.Members.{width, digit, mem, those, isEmpty, leastBelow}
-use Rattle.sets.specs.Rows.{Relation, rowAt, inRow}
+use Rattle.sets.specs.Rows.{rowAt, inRow}
 use Rattle.sets.specs.declared.set.Set.{Set}
 use Rattle.sets.specs.Answers.{numberOf}
 use Rattle.engine.specs.declared.replay.Replayed.{Replayed}
 use Rattle.report.specs.Lines.{space, lineEnd, decimal, line, T}
-use Rattle.report.specs.Pairs.{Pair, passing, withEach, pairsFrom, pairsOf}
+use Rattle.report.specs.Pairs.{Pair, passing, withEach, pairsFrom}
 use Rattle.report.specs.Listing.{pairLine, pairLines, traceLine}
 use Rattle.report.specs.Puts.{Put, named, four, countsText, traceText}
-use Rattle.report.proofs.PutLaws.{put-as, put-then, room-first, room-second, Left, left-all, left-as, left-next, left-room, left-none}
+use Rattle.report.proofs.PutLaws.{put-as, put-then, room-first, room-second, Left, left-all, left-next, left-room, left-none}
 use Rattle.report.proofs.PairLaws.{members-none, members-turn, pairs-row, pairs-end}
 
 abbrev pair : ℕ → ℕ → Pair

@@ -1,22 +1,22 @@
 -- The members of a set one by one, the pairs of a relation row by row, and how many there are. Assumes nothing.
 use mathlib.Core.Path.{_≡_, refl, sym, ap, ap₂, subst, _∙_}
-use mathlib.Core.Bool.{Bool, true, false, not}
-use mathlib.Core.List.{List, [], _∷_, _++_, map, append-assoc}
+use mathlib.Core.Bool.{Bool, true, false}
+use mathlib.Core.List.{List, [], _∷_, _++_}
 use Prim.Native.Nat.{ℕ, zero, suc, _+_, _-_, _*_, _≤_, _<_, suc-le-suc}
 use native.Mathlib.Nat.{add-zero, zero-add, add-suc, suc-add, zero-lt-suc}
 use native.Mathlib.Numerals.{add-one}
 use native.Mathlib.Omega.{arith}
-use borrow.Author.Tests.{eq-eqb, ne-eqb, eqb-false, ltb-true, ltb-false, not-true, not-false}
+use borrow.Author.Tests.{eq-eqb, ne-eqb, eqb-false, ltb-true, ltb-false}
 use lib.Dec.{T, eqb, ltb, eqb→eq}
 use lib.ListN.{length, length-append, length-map}
 use Rattle.sets.specs.Tests.{_and_, non, when_then_else_}
 use Rattle.sets.specs.Members.{width, digit, mem, those, isEmpty, countBelow, leastBelow, someBelow}
 use Rattle.sets.specs.Rows.{Relation, rowAt, inRow}
 use Rattle.sets.specs.declared.set.Set.{Set}
-use Rattle.sets.proofs.Tests.{and-true, non-false, false→F, true→T, T→true, F→false, split, either}
+use Rattle.sets.proofs.Tests.{non-false, false→F, true→T, T→true, F→false, split, either}
 use Rattle.sets.proofs.Below.{least-is, least-before, least-lt}
 use Rattle.sets.proofs.Members.{mem-those, empty-none, empty-e}
-use Rattle.report.specs.Pairs.{Pair, passing, withEach, pairsFrom, pairsOf, pairCount}
+use Rattle.report.specs.Pairs.{Pair, passing, withEach, pairsFrom, pairCount}
 
 -- ---- those of some numbers that pass
 

@@ -1,23 +1,21 @@
 -- The lines of the traces, one after another. Assumes nothing.
-use mathlib.Core.Path.{_≡_, refl, sym, ap, subst, _∙_}
-use mathlib.Core.List.{List, [], _∷_, _++_}
-use Prim.Native.Nat.{ℕ, suc, _+_, _-_, _≤_, _<_}
+use mathlib.Core.Path.{_≡_, sym, ap, _∙_}
+use mathlib.Core.List.{List, _++_}
+use Prim.Native.Nat.{ℕ, _+_, _-_, _≤_, _<_}
 use native.Mathlib.Numerals.{add-one}
-use native.Mathlib.Omega.{arith}
 use lib.ListN.{length, take, drop}
 use Rattle.sets.specs.declared.set.Set.{Set}
 use Rattle.engine.specs.declared.marking.Marking.{Marking}
 use Rattle.engine.specs.declared.replay.Replayed.{Replayed}
-use Rattle.engine.specs.Relations.{Relations, inRows}
+use Rattle.engine.specs.Relations.{inRows}
 use Rattle.engine.specs.Replay.{replayFrom}
 use Rattle.calllog.specs.declared.trace.Part.{Part}
 use Rattle.calllog.specs.Logs.{partOf}
-use Rattle.rules.specs.Traces.{Traces}
 use Rattle.miner.specs.Passes.{walked}
 use Rattle.miner.proofs.Walks.{partAt, part-cut, walked-next, walked-end, walked-start}
 use Rattle.report.specs.Listing.{traceLine, traceLines}
 use Rattle.report.specs.Puts.{Put}
-use Rattle.report.proofs.PutLaws.{put-as, Left, left-all, left-as, left-next, left-room, left-none}
+use Rattle.report.proofs.PutLaws.{Left, left-all, left-as, left-next, left-room, left-none}
 
 module _ (events : Set) (c r i x : List ℕ) (m : Marking) (log : List ℕ) (n : ℕ) where
   -- what a replay on these rows gives, and the lines from trace k on

@@ -1,5 +1,5 @@
 -- The three ways out of `write_listing`: what it gives, and what the buffer holds. Assumes nothing.
-use mathlib.Core.Path.{_≡_, refl, sym, ap, subst, _∙_}
+use mathlib.Core.Path.{_≡_, sym, ap, _∙_}
 use mathlib.Core.Bool.{Bool, true, false, not}
 use mathlib.Core.List.{List, _++_}
 use Prim.Native.Nat.{ℕ, _+_, _≤_, _<_}
@@ -14,7 +14,6 @@ use Rattle.sets.specs.Answers.{isDone}
 use Rattle.sets.specs.declared.answer.Answer.{Answer}
 use Rattle.sets.specs.declared.answer.Answer.the-variants.{BufferTooSmall}
 use Rattle.engine.specs.Relations.{emptyGraph}
-use Rattle.engine.specs.declared.graph.Graph.{Graph}
 use Rattle.calllog.specs.Logs.{logOf}
 use Rattle.rules.specs.Mined.{minedGraph}
 use Rattle.miner.specs.Mine.{minedOf}
@@ -22,7 +21,6 @@ use Rattle.miner.specs.declared.mining.Mined.{Mined}
 use Rattle.report.specs.declared.writer.Listed.{Listed}
 use Rattle.report.specs.Listing.{refusedLine, listingOf, longestListing, listedOf, bufferAfter}
 use Rattle.report.specs.Puts.{Put, graphText}
-use Rattle.report.proofs.PutLaws.{put-as}
 use Rattle.report.proofs.Longest.{longest}
 use Rattle.report.proofs.WholeLaws.{listing-done, listing-refused}
 

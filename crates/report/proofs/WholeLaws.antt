@@ -2,12 +2,12 @@
 use mathlib.Core.Path.{_≡_, refl, sym, ap, ap₂, subst, _∙_}
 use mathlib.Core.Bool.{Bool, true, false}
 use mathlib.Core.List.{List, [], _∷_, _++_, append-assoc, List·Memᴰ, List·Memᴰ·head, List·Memᴰ·tail}
-use Prim.Native.Nat.{ℕ, suc, _+_, _≤_, _<_}
+use Prim.Native.Nat.{ℕ, suc, _+_, _≤_}
 use native.Mathlib.Omega.{arith}
 use lib.ListN.{length}
 use Rattle.sets.specs.Tests.{when_then_else_}
 use Rattle.sets.specs.Members.{width, mem, countBelow}
-use Rattle.sets.specs.Rows.{Relation, inRow, rowsOf}
+use Rattle.sets.specs.Rows.{inRow, rowsOf}
 use Rattle.sets.specs.Answers.{numberOf, isDone}
 use Rattle.sets.specs.Sizes.{longestTrace}
 use Rattle.sets.specs.declared.set.Set.{Set}
@@ -16,7 +16,6 @@ use Rattle.sets.specs.declared.answer.Answer.the-variants.{Done}
 use Rattle.sets.proofs.RowLaws.{in-rowsOf}
 use Rattle.engine.specs.declared.marking.Marking.{Marking}
 use Rattle.engine.specs.declared.graph.Graph.{Graph}
-use Rattle.engine.specs.declared.replay.Replayed.{Replayed}
 use Rattle.engine.specs.Relations.{inRows, relationsOf}
 use Rattle.engine.specs.Judged.{judged}
 use Rattle.engine.specs.Replay.{replayFrom, replayOf}

@@ -1,5 +1,4 @@
 // The pairs of the relations, one a line.
-ghost use mathlib.Core.Path.{_≡_};
 ghost use Prim.Native.Nat.{_+_, _≤_};
 ghost use lib.ListN.{length};
 ghost use Rattle.sets.specs.Members.{width, mem};

@@ -2,7 +2,6 @@ use Prim.Native.Nat.{ℕ, _<_}
 use borrow.Fn.Kinds.{In}
 use borrow.Fn.PlainCycle.{Measures, is, falls, and}
 use borrow.Author.Needs.{needs}
-use Rattle.report.proofs.PutLaws.{put-length}
 use Rattle.report.proofs.Figures.{put-zero, put-one, put-more, one-room, more-room, last-room}
 use Rattle.report.proofs.text.put_figures.Reads as put-figures
 use Rattle.report.proofs.text.put_figures.Kinds as put-figures-kinds
@@ -28,7 +27,7 @@ put-figures-returns : (t : ℕ) → put-figures-lts.Need-returns (
   put-figures-below t,
   put-figures.Post,
 ) (put-figures-at t) put-figures.Post
-put-figures-returns t c = search (put-zero, put-one, put-more, one-room, more-room, last-room, put-length, needs)
+put-figures-returns t c = search (put-zero, needs)
 
 put-figures-add-last : (t : ℕ) → put-figures-lts.Need-add-last (
   put-byte-reads.Asked,
@@ -36,7 +35,7 @@ put-figures-add-last : (t : ℕ) → put-figures-lts.Need-add-last (
   put-figures-below t,
   put-figures.Post,
 ) (put-figures-at t) put-figures.Post
-put-figures-add-last t c = search (put-zero, put-one, put-more, one-room, more-room, last-room, put-length, needs)
+put-figures-add-last t c = search needs
 
 put-figures-cast-last : (t : ℕ) → put-figures-lts.Need-cast-last (
   put-byte-reads.Asked,
@@ -44,7 +43,7 @@ put-figures-cast-last : (t : ℕ) → put-figures-lts.Need-cast-last (
   put-figures-below t,
   put-figures.Post,
 ) (put-figures-at t) put-figures.Post
-put-figures-cast-last t c = search (put-zero, put-one, put-more, one-room, more-room, last-room, put-length, needs)
+put-figures-cast-last t c = search needs
 
 put-figures-put-byte-requires : (t : ℕ) → put-figures-lts.Need-put-byte-requires (
   put-byte-reads.Asked,
@@ -52,7 +51,7 @@ put-figures-put-byte-requires : (t : ℕ) → put-figures-lts.Need-put-byte-requ
   put-figures-below t,
   put-figures.Post,
 ) (put-figures-at t) put-figures.Post
-put-figures-put-byte-requires t c κs = search (put-zero, put-one, put-more, one-room, more-room, last-room, put-length, needs)
+put-figures-put-byte-requires t c κs = search (one-room, needs)
 
 put-figures-same-length : (t : ℕ) → put-figures-lts.Need-same-length (
   put-byte-reads.Asked,
@@ -60,7 +59,7 @@ put-figures-same-length : (t : ℕ) → put-figures-lts.Need-same-length (
   put-figures-below t,
   put-figures.Post,
 ) (put-figures-at t) put-figures.Post
-put-figures-same-length t c = search (put-zero, put-one, put-more, one-room, more-room, last-room, put-length, needs)
+put-figures-same-length t c = search needs
 
 put-figures-returns-2 : (t : ℕ) → put-figures-lts.Need-returns-2 (
   put-byte-reads.Asked,
@@ -68,7 +67,7 @@ put-figures-returns-2 : (t : ℕ) → put-figures-lts.Need-returns-2 (
   put-figures-below t,
   put-figures.Post,
 ) (put-figures-at t) put-figures.Post
-put-figures-returns-2 t c = search (put-zero, put-one, put-more, one-room, more-room, last-room, put-length, needs)
+put-figures-returns-2 t c = search (put-one, needs)
 
 put-figures-sub-put-figures : (t : ℕ) → put-figures-lts.Need-sub-put-figures (
   put-byte-reads.Asked,
@@ -76,7 +75,7 @@ put-figures-sub-put-figures : (t : ℕ) → put-figures-lts.Need-sub-put-figures
   put-figures-below t,
   put-figures.Post,
 ) (put-figures-at t) put-figures.Post
-put-figures-sub-put-figures t c = search (put-zero, put-one, put-more, one-room, more-room, last-room, put-length, needs)
+put-figures-sub-put-figures t c = search needs
 
 put-figures-put-figures-requires : (t : ℕ) → put-figures-lts.Need-put-figures-requires (
   put-byte-reads.Asked,
@@ -84,7 +83,7 @@ put-figures-put-figures-requires : (t : ℕ) → put-figures-lts.Need-put-figure
   put-figures-below t,
   put-figures.Post,
 ) (put-figures-at t) put-figures.Post
-put-figures-put-figures-requires t c κs = search (put-zero, put-one, put-more, one-room, more-room, last-room, put-length, needs)
+put-figures-put-figures-requires t c κs = search (more-room, needs)
 
 put-figures-put-byte-requires-2 : (t : ℕ) → put-figures-lts.Need-put-byte-requires-2 (
   put-byte-reads.Asked,
@@ -92,7 +91,7 @@ put-figures-put-byte-requires-2 : (t : ℕ) → put-figures-lts.Need-put-byte-re
   put-figures-below t,
   put-figures.Post,
 ) (put-figures-at t) put-figures.Post
-put-figures-put-byte-requires-2 t c κs = search (put-zero, put-one, put-more, one-room, more-room, last-room, put-length, needs)
+put-figures-put-byte-requires-2 t c κs = search (last-room, needs)
 
 put-figures-same-length-2 : (t : ℕ) → put-figures-lts.Need-same-length-2 (
   put-byte-reads.Asked,
@@ -100,7 +99,7 @@ put-figures-same-length-2 : (t : ℕ) → put-figures-lts.Need-same-length-2 (
   put-figures-below t,
   put-figures.Post,
 ) (put-figures-at t) put-figures.Post
-put-figures-same-length-2 t c = search (put-zero, put-one, put-more, one-room, more-room, last-room, put-length, needs)
+put-figures-same-length-2 t c = search needs
 
 put-figures-returns-3 : (t : ℕ) → put-figures-lts.Need-returns-3 (
   put-byte-reads.Asked,
@@ -108,7 +107,7 @@ put-figures-returns-3 : (t : ℕ) → put-figures-lts.Need-returns-3 (
   put-figures-below t,
   put-figures.Post,
 ) (put-figures-at t) put-figures.Post
-put-figures-returns-3 t c = search (put-zero, put-one, put-more, one-room, more-room, last-room, put-length, needs)
+put-figures-returns-3 t c = search (put-more, needs)
 
 pub +put-figures-spec : {M : Type 1} → statement M
 +put-figures-spec = close μ-put-figures λ t. put-figures-lts.spec (

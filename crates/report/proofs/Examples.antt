@@ -1,0 +1,103 @@
+-- 01's listing of the log L, computed from the definition, and the line of a log that is refused. Assumes nothing.
+use mathlib.Core.Path.{_≡_, refl, ap, _∙_}
+use mathlib.Core.List.{List, [], _∷_, _++_}
+use Prim.Native.Nat.{ℕ, _+_}
+use Rattle.sets.specs.Tests.{_and_, _or_, non}
+use Rattle.sets.specs.Members.{bit, bitsOf, someBelow, everyBelow, countBelow, isEmpty, within}
+use Rattle.sets.specs.Rows.{rowAt, inRow, listFrom, rowsOf}
+use Rattle.engine.specs.declared.graph.Graph.{Graph}
+use Rattle.engine.specs.Steps.{waits, enabled, after, accepting}
+use Rattle.engine.specs.Judged.{markingWithin, rowWithin, rowsWithin, relationsWithin, graphWithin, judgedFor}
+use Rattle.engine.specs.Replay.{replayFrom, replayOf}
+use Rattle.calllog.specs.Layout.{opensWith, numberAt, activitiesIn, tracesIn, offsetAt, lengthAt, bodiesStart, eventsBefore}
+use Rattle.calllog.specs.Judged.{firstRefusal, allBelow, judgedHead, judgedEntry, judgedBodies, judgedContents, judgedLog}
+use Rattle.calllog.specs.Logs.{tracesFrom, logOf}
+use Rattle.rules.specs.Traces.{_has_, _beginsWith_, atEachFrom, atSomeFrom, everyTrace, someTrace}
+use Rattle.rules.specs.Mining.{noPair, noRelations, smallestSource, _without_, event, someEvent, _with_, atMostOnce, precedes, answers, chained, together, before, followed, between, alternates, beforeFirst, step1, step2, directlyBefore, step3, neverTogether, step4, closes, step5, step6, step7, reduced, step8, includedAfter, neverMissed, step9, step10, afterFive, afterSeven, afterEight, mined}
+use Rattle.rules.specs.Mined.{graphFrom, minedGraph}
+use Rattle.rules.proofs.Cases.{L, G}
+use Rattle.report.specs.Lines.{figures, decimal, line}
+use Rattle.report.specs.Pairs.{passing, pairsFrom}
+use Rattle.report.specs.Listing.{firstLine, pairLine, pairLines, traceLine, traceLines, relationLines, linesOf, refusedLine, listingOf}
+
+-- all bytes of L's file
+pub file : List ℕ
+file = 66 ∷ 76 ∷ 1 ∷ 3 ∷ 2 ∷ 0 ∷ 0 ∷ 0 ∷ 3 ∷ 0 ∷ 3 ∷ 0 ∷ 2 ∷ 0 ∷ 0 ∷ 1 ∷ 2 ∷ 0 ∷ 2 ∷ []
+
+-- ---- the listing as 01 prints it, byte by byte: 32 is the space, 48 the figure 0, 10 the end of a line
+
+-- a letter and two figures
+abbrev three : ℕ → ℕ → ℕ → List ℕ
+three x a b = x ∷ 32 ∷ (48 + a) ∷ 32 ∷ (48 + b) ∷ 10 ∷ []
+
+-- a letter and four figures
+abbrev five : ℕ → ℕ → ℕ → ℕ → ℕ → List ℕ
+five x a b n w = x ∷ 32 ∷ (48 + a) ∷ 32 ∷ (48 + b) ∷ 32 ∷ (48 + n) ∷ 32 ∷ (48 + w) ∷ 10 ∷ []
+
+-- events 3 C 2 R 2 I 1 E 4 traces 2
+first : List ℕ
+first =
+    101 ∷ 118 ∷ 101 ∷ 110 ∷ 116 ∷ 115 ∷ 32 ∷ 51 ∷ 32
+    ∷ 67 ∷ 32 ∷ 50 ∷ 32 ∷ 82 ∷ 32 ∷ 50 ∷ 32 ∷ 73 ∷ 32 ∷ 49 ∷ 32 ∷ 69 ∷ 32 ∷ 52 ∷ 32
+    ∷ 116 ∷ 114 ∷ 97 ∷ 99 ∷ 101 ∷ 115 ∷ 32 ∷ 50 ∷ 10 ∷ []
+
+-- the listing, whole
+pub printed : List ℕ
+printed =
+    first
+    -- C
+    ++ three 67 0 1
+    ++ three 67 0 2
+    -- R
+    ++ three 82 0 2
+    ++ three 82 1 2
+    -- I
+    ++ three 73 0 1
+    -- E
+    ++ three 69 0 0
+    ++ three 69 1 1
+    ++ three 69 2 1
+    ++ three 69 2 2
+    -- T
+    ++ five 84 0 3 0 1
+    ++ five 84 1 2 0 1
+
+-- ---- the same from the definition
+
+-- the graph of L, by its rows
+graph : minedGraph 3 L ≡ G
+unfolding L G
+    _and_ _or_ non bit bitsOf someBelow everyBelow listFrom rowsOf
+    _has_ _beginsWith_ atEachFrom atSomeFrom everyTrace someTrace
+    noPair noRelations smallestSource _without_ event someEvent _with_ atMostOnce precedes answers chained together before followed between alternates beforeFirst
+    step1 step2 directlyBefore step3 neverTogether step4 closes step5 step6 step7 reduced step8 includedAfter neverMissed step9 step10
+    afterFive afterSeven afterEight mined graphFrom minedGraph
+graph = refl
+
+lines : linesOf G L ≡ printed
+unfolding L G printed first
+    _and_ _or_ non bit bitsOf someBelow everyBelow countBelow isEmpty within rowAt inRow listFrom
+    waits enabled after accepting markingWithin rowWithin rowsWithin relationsWithin graphWithin judgedFor replayFrom replayOf
+    figures line passing pairsFrom firstLine pairLine pairLines traceLine traceLines relationLines linesOf
+lines = refl
+
+read : listingOf file ≡ linesOf (minedGraph 3 L) L
+unfolding file L
+    _and_ _or_ non opensWith numberAt activitiesIn tracesIn offsetAt lengthAt bodiesStart eventsBefore
+    firstRefusal allBelow judgedHead judgedEntry judgedBodies judgedContents judgedLog tracesFrom logOf listingOf
+read = refl
+
+-- THE THEOREM
+pub listing-of-L : listingOf file ≡ printed
+listing-of-L = read ∙ ap (λ (g : Graph). linesOf g L) graph ∙ lines
+
+-- refused 1: no bytes at all
+pub listing-of-nothing : listingOf [] ≡ 114 ∷ 101 ∷ 102 ∷ 117 ∷ 115 ∷ 101 ∷ 100 ∷ 32 ∷ 49 ∷ 10 ∷ []
+unfolding judgedHead judgedLog logOf figures line refusedLine listingOf
+listing-of-nothing = refl
+
+-- numbers of one to five figures
+pub numbers : decimal 0 ++ decimal 9 ++ decimal 10 ++ decimal 4096 ++ decimal 32768
+    ≡ 48 ∷ 57 ∷ 49 ∷ 48 ∷ 52 ∷ 48 ∷ 57 ∷ 54 ∷ 51 ∷ 50 ∷ 55 ∷ 54 ∷ 56 ∷ []
+unfolding figures
+numbers = refl
