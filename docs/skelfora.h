@@ -1,0 +1,48 @@
+/* The functions of the library port (crates/port/src/lib.rt), for C and C++. docs/PORT.md explains them.
+ * Nothing checks these declarations against the source: keep them in step by hand. */
+#ifndef SKELFORA_H
+#define SKELFORA_H
+
+#include <stddef.h>
+#include <stdint.h>
+
+#ifdef __cplusplus
+extern "C" {
+#endif
+
+/* Room that is always enough, in bytes. */
+#define SKELFORA_GRAPH_ROOM 2356     /* a graph file: 52, and 9 for each of 4 x 64 rows */
+#define SKELFORA_LISTING_ROOM 147506 /* a listing; skelfora_listing asks for no less */
+#define SKELFORA_MARKING_SIZE 24     /* a marking: executed, pending, included, 8 bytes each */
+
+/* Mines a log and writes its graph file into the first bytes of file.
+ * Gives number + 256 * length of the file. */
+uint64_t skelfora_mine(const uint8_t *log, size_t log_len, uint8_t *file, size_t room);
+
+/* Mines a log, replays it, and writes its listing into the first bytes of out.
+ * Gives number + 256 * length of the listing. */
+uint64_t skelfora_listing(const uint8_t *log, size_t log_len, uint8_t *out, size_t room);
+
+/* Reads a graph file and writes it again into the first bytes of out.
+ * Gives number + 256 * length of the file. */
+uint64_t skelfora_rewrite(const uint8_t *file, size_t file_len, uint8_t *out, size_t room);
+
+/* Replays a trace, one byte an event, on the graph of a file.
+ * Gives number + 256 * place, and 2^32 more where it ends accepting. */
+uint64_t skelfora_replay(const uint8_t *file, size_t file_len, const uint8_t *trace, size_t trace_len);
+
+/* One step of an activity on the graph of a file, at the marking in the first 24 lent bytes.
+ * Gives the number. */
+uint64_t skelfora_step(const uint8_t *file, size_t file_len, uint8_t *marking, size_t marking_len, uint8_t activity);
+
+/* The parts of what the first four give. */
+static inline unsigned skelfora_number(uint64_t given) { return (unsigned)(given & 0xff); }
+static inline size_t skelfora_length(uint64_t given) { return (size_t)((given >> 8) & 0xffffff); }
+static inline size_t skelfora_place(uint64_t given) { return skelfora_length(given); }
+static inline int skelfora_accepting(uint64_t given) { return (int)((given >> 32) & 1); }
+
+#ifdef __cplusplus
+}
+#endif
+
+#endif
