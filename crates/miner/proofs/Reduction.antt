@@ -153,35 +153,3 @@ unfolding non
 judging-end rows s kept targets r hr he h =
     let none = empty-e targets (true→T (sym hr ∙ not-false r he)) in
     h .judged ∙ those-ext _ _ (λ x l. ap (λ (t : Bool). reducedOf rows s x and non t) (F→false (mem targets x) (none x l)) ∙ and-true (reducedOf rows s x))
-
--- ---- a loop that fills row by row
-
--- the pairs of a relation in the rows below i
-unfoldable pub upTo : Relation → ℕ → Relation
-upTo F i a x = ltb a i and F a x
-
-below-next : (a i : ℕ) → (a ≡ i → ⊥) → (t : Bool) → ltb a i ≡ t → t ≡ ltb a (i + 1)
-below-next a i ne true e = let l : a < i = ltb-true a i e in sym (lt-ltb a (i + 1) (omega arith))
-below-next a i ne false e = let l : i ≤ a = ltb-false a i e in sym (le-ltb a (i + 1) (omega arith))
-
-module _ (F : Relation) where
-  pub fill-start : (out : List ℕ) → out ≡ noRows → out ≡ rowsOf (upTo F 0)
-  unfolding upTo _and_
-  fill-start out h = h ∙ empty-rowsOf (upTo F 0) (λ a x la lx. ap (λ (t : Bool). t and F a x) (le-ltb a 0 (omega arith)))
-
-  pick : (i a x : ℕ) (t : Bool) → eqb a i ≡ t → (when t then F i x else upTo F i a x) ≡ upTo F (i + 1) a x
-  unfolding upTo _and_
-  pick i a x true e =
-      let same : a ≡ i = eqb-true a i e in
-      ap (λ (n : ℕ). F n x) (sym same) ∙ ap (λ (t : Bool). t and F a x) (sym (lt-ltb a (i + 1) (omega arith)))
-  pick i a x false e = ap (λ (t : Bool). t and F a x) (below-next a i (eqb-false a i e) (ltb a i) refl)
-
-  pub fill-turn : (i : ℕ) (s : Set) (out out′ : List ℕ) → out ≡ rowsOf (upTo F i) → s ≡ those (F i) → out′ ≡ withRow out i s
-      → out′ ≡ rowsOf (upTo F (i + 1))
-  fill-turn i s out out′ ho hs h =
-      h ∙ ap₂ (λ (l : List ℕ) (u : Set). withRow l i u) ho hs ∙ put-rowsOf (upTo F i) i (F i)
-      ∙ rowsOf-ext _ (upTo F (i + 1)) (λ a x la lx. pick i a x (eqb a i) refl)
-
-  pub fill-end : (i : ℕ) (out : List ℕ) → width ≤ i → out ≡ rowsOf (upTo F i) → out ≡ rowsOf F
-  unfolding upTo _and_
-  fill-end i out g h = h ∙ rowsOf-ext (upTo F i) F (λ a x la lx. ap (λ (t : Bool). t and F a x) (lt-ltb a i (omega arith)))

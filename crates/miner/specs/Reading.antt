@@ -1,4 +1,4 @@
--- The steps as they are read from sets and rows: each definition is what one function of src/steps.rt, src/reduce.rt or src/mine.rt gives.
+-- The steps as they are read from sets and rows: each definition is what one function of src/steps.rt, src/reduce.rt or src/mining.rt gives.
 -- `inRow rows a x` says that x stands in row a. That the relations so read are those of the rules is a theorem, so a reader of `mine` need
 -- not believe this file.
 use mathlib.Core.Bool.{Bool}
@@ -61,7 +61,7 @@ notRedundant events excludes unalternated a x =
 unfoldable pub reducedOf : List ℕ → Relation
 reducedOf rows a x = inRow rows a x and non (someBelow width (λ u. inRow rows a u and inRow rows u x))
 
--- step 9: to the target a from x, where x is before the first a of some trace and at no a still to come
+-- step 9: to the target a from x, where x is before the first a of some trace and is missed at no a
 unfoldable pub waited : Set → List ℕ → List ℕ → List ℕ → Relation
 waited events conditions beforeFirst missed a x =
     mem events a and mem events x and (inRow conditions a x or non (eqb x a) and inRow beforeFirst a x and non (inRow missed a x))

@@ -1,5 +1,5 @@
-// The tally of a log: what steps 1 to 7 ask of it. All but `events` and `followed` keep what breaks a rule, over all activities
-// of the width, so the facts of two logs join by union.
+// The tally of a log: what steps 1 to 7 ask of it. `before`, `later` and `followed` keep what was seen, the other rows what breaks a
+// rule, over all activities of the width: all of it only grows, so the facts of two logs join by union.
 ghost use mathlib.Core.Path.{_≡_};
 ghost use mathlib.Core.List.{[]};
 ghost use Rattle.sets.specs.Tests.{_or_};

@@ -57,7 +57,7 @@ replayNumber file trace =
 abbrev pub refusedStep : Answer → Stepped
 refusedStep a = record { answer = a; marking = emptyMarking }
 
--- skelfora_step: 7 where the marking has too few bytes, then the file's refusals, then the step's; nothing beside the number but of a step
+-- skelfora_step: 7 where the marking has too few bytes, then the file's refusals, then what the step gives
 unfoldable pub stepOf : List ℕ → List ℕ → ℕ → Stepped
 stepOf file bytes a =
     when ltb (length bytes) 24 then refusedStep BufferTooSmall

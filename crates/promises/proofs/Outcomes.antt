@@ -7,10 +7,15 @@
 --   engine      Graph::empty emptyGraph; Marking::of markingOf, opening openingOf;
 --               marking_within markingWithin, rows_within rowsWithin, judge_for judgedFor, judge judged, judge_beside and judge_with judgedWith;
 --               ask enabled, next after, is_accepting accepting; enabled enabledOf, step steppedOf, accepting acceptingOf;
---               run replayFrom, replay replayOf
---   calllog     judge_log judgedOf, trace_part partOf, find_trace foundOf, ask askedOf
---   graphfile   read readOf; write writtenOf, and the lent buffer is bufferAfter
---   miner       mine minedOf
+--               run replayFrom, replay replayOf; execute: steppedOf's answer, and the lent marking is steppedOf's
+--   calllog     judge_log judgedOf, trace_part partOf, find_trace foundOf, ask askedOf;
+--               LogReader: open opened; trace and next_trace foundOf, and the lent reader is after; read_trace foundOf
+--   graphfile   read readOf; write writtenOf, and the lent buffer is bufferAfter;
+--               read_marking markingFrom; write_marking: the lent bytes are markingInto
+--   miner       mine minedOf; turned rowsOf of turned; without_least: by members
+--   report      write_listing listedOf, and the lent buffer is bufferAfter
+--   port        skelfora_mine mineNumber, rewrite rewriteNumber, listing listingNumber, replay replayNumber, step numberOf of stepOf's answer; the
+--               lent bytes are mineBuffer, rewriteBuffer, report's bufferAfter, stepBytes
 --   promises    replay_own ownReplay, replay_none ending Done 0 ..; graph_back graphBack, and the lent buffer is bufferAfter;
 --               file_back fileBack, and the lent buffer is fileCopied
 use mathlib.Core.Path.{_≡_, sym, _∙_}

@@ -30,6 +30,8 @@ use Rattle.rules.specs.Mining.{noPair, noRelations, smallestSource, _without_, 
 use Rattle.rules.specs.Mined.{graphFrom, minedGraph}
 use Rattle.rules.proofs.Cases.{G}
 use Rattle.miner.specs.Mine.{minedOf}
+use Rattle.report.specs.Listing.{listingOf}
+use Rattle.report.proofs.Examples.{file, conditions-counted}
 use Rattle.miner.specs.declared.mining.Mined.{Mined}
 use Rattle.promises.specs.Demanded.{Refused}
 
@@ -110,4 +112,8 @@ only-moves-on meets =
     ap (λ (t : Bool). isDone ((when t then ending Done (replayOf G (0 ∷ []) .place .0 + 1) (replayOf G (0 ∷ []) .marking) (replayOf G (0 ∷ []) .accepting) else replayOf G (0 ∷ [])) .answer)) (ap isDone (on-G .0)) in
     false→F (ap (λ (r : Replayed). isDone (r .answer)) (meets G (0 ∷ 0 ∷ [])) ∙ ap isDone (on-G .1)) (true→T still)
 
--- ---- 5. a listing with invented pair counts: its place is here, beside the statement of the listing
+-- ---- 5. a listing with invented pair counts
+
+-- whatever lists as the definition does prints 2 where L's first line has the number of conditions (report/proofs/Examples.antt)
+pub invents-counts : (f : List ℕ → List ℕ) → ((bytes : List ℕ) → f bytes ≡ listingOf bytes) → getD (f file) 11 0 ≡ 50
+invents-counts f meets = ap (λ (text : List ℕ). getD text 11 0) (meets file) ∙ conditions-counted

@@ -2,6 +2,7 @@
 use mathlib.Core.Path.{_≡_, refl, ap, _∙_}
 use mathlib.Core.List.{List, [], _∷_, _++_}
 use Prim.Native.Nat.{ℕ, _+_}
+use lib.ListN.{getD}
 use Rattle.sets.specs.Tests.{_and_, _or_, non}
 use Rattle.sets.specs.Members.{bit, bitsOf, someBelow, everyBelow, countBelow, isEmpty, within}
 use Rattle.sets.specs.Rows.{rowAt, inRow, listFrom, rowsOf}
@@ -101,3 +102,8 @@ pub numbers : decimal 0 ++ decimal 9 ++ decimal 10 ++ decimal 4096 ++ decimal 32
     ≡ 48 ∷ 57 ∷ 49 ∷ 48 ∷ 52 ∷ 48 ∷ 57 ∷ 54 ∷ 51 ∷ 50 ∷ 55 ∷ 54 ∷ 56 ∷ []
 unfolding figures
 numbers = refl
+
+-- where L's first line gives the number of conditions, it says 2
+pub conditions-counted : getD (listingOf file) 11 0 ≡ 50
+unfolding printed first
+conditions-counted = ap (λ (text : List ℕ). getD text 11 0) listing-of-L

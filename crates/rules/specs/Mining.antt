@@ -181,7 +181,7 @@ module _ (L : Traces) where
       }
 
   -- 9. Whether s is included once the past has been replayed, by includes and excludes alone: at first every event is; then each event of
-  -- the past took out what it excludes and put in what it includes. The excludes are those that step 7 left.
+  -- the past took out what it excludes and put in what it includes. Includes and excludes are those that step 7 left.
   unfoldable pub includedAfter : Relations → List ℕ → ℕ → Bool
   includedAfter g [] s = event s
   includedAfter g (x ∷ past) s = includedAfter g past s and non (g .excludes x s) or g .includes x s

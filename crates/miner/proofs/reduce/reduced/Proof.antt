@@ -8,7 +8,8 @@ use Rattle.sets.specs.Members.{width, mem, countBelow}
 use Rattle.sets.specs.Rows.{rowsOf}
 use Rattle.sets.proofs.Members.{fewer}
 use Rattle.miner.specs.Reading.{reducedOf}
-use Rattle.miner.proofs.Reduction.{Trying, trying-row, trying-next, Judging, judging-row, judging-goes, judging-stays, judging-end, upTo, fill-start, fill-turn, fill-end}
+use Rattle.miner.proofs.Reduction.{Trying, trying-row, trying-next, Judging, judging-row, judging-goes, judging-stays, judging-end}
+use Rattle.miner.proofs.StepLaws.{upTo, filling}
 use Rattle.miner.proofs.reduce.reduced.Statement.{statement}
 use Rattle.miner.proofs.reduce.reduced.Tie as tie
 
@@ -35,7 +36,7 @@ empty-requires :
 empty-requires c κs = search needs
 
 source-holds : tie.Need-source-holds Inv-middle μ-middle Inv-target μ-target Inv-source μ-source
-source-holds c = (omega arith, search (fill-start, needs))
+source-holds c = (omega arith, search (filling, needs))
 
 row-requires : tie.Need-row-requires Inv-middle μ-middle Inv-target μ-target Inv-source μ-source
 row-requires c κs = search needs
@@ -121,10 +122,10 @@ source-less : tie.Need-source-less Inv-middle μ-middle Inv-target μ-target Inv
 source-less c = omega arith
 
 source-again : tie.Need-source-again Inv-middle μ-middle Inv-target μ-target Inv-source μ-source
-source-again c = (omega arith, search (fill-turn, judging-end, needs))
+source-again c = (omega arith, search (filling, judging-end, needs))
 
 returns : tie.Need-returns Inv-middle μ-middle Inv-target μ-target Inv-source μ-source
-returns c = search (fill-end, needs)
+returns c = search (filling, needs)
 
 pub reduced-spec : {M : Type 1} → statement M
 reduced-spec =
