@@ -1,6 +1,6 @@
 -- What an accepted log keeps to, all of it: a log is accepted just where these facts hold. Assumes nothing.
 use mathlib.Core.Path.{_≡_, refl, sym, subst, _∙_}
-use mathlib.Core.Bool.{true, not}
+use mathlib.Core.Bool.{Bool, true, false, not}
 use mathlib.Core.List.{List}
 use Prim.Native.Nat.{ℕ, zero, suc, _+_, _≤_, _<_}
 use native.Mathlib.Nat.{le-refl}
@@ -12,9 +12,11 @@ use Rattle.sets.specs.declared.answer.Answer.the-variants.{Done, TooShort, Wron
 use Rattle.sets.proofs.Tests.{non-false, split, either, T→true}
 use Rattle.calllog.specs.Layout.{letters, headSize, longestLog, opensWith, activitiesIn, tracesIn, offsetAt, lengthAt, bodiesStart, eventsBefore}
 use Rattle.sets.specs.Sizes.{mostActivities, mostTraces, longestTrace, mostEvents}
-use Rattle.calllog.specs.Judged.{firstRefusal, allBelow, judgedHead, entryOf, judgedBodies, judgedContents, judgedLog}
-use Rattle.calllog.proofs.Order.{none-refuses, no-refusal}
-use Rattle.sets.proofs.Asking.{both, went, ask-on}
+use Rattle.sets.specs.Answers.{isDone, firstRefusal}
+use Rattle.sets.specs.declared.answer.Answer.{Answer}
+use Rattle.calllog.specs.Judged.{allBelow, judgedHead, entryOf, judgedBodies, judgedContents, judgedLog}
+use Rattle.sets.proofs.Order.{none-refuses, no-refusal}
+use Rattle.sets.proofs.Asking.{both, went, ask-on, gone-on}
 use Rattle.calllog.proofs.Verdicts.{head-done, entry-done, bodies-done}
 use Rattle.calllog.proofs.Contents.{entry-good}
 
@@ -31,18 +33,24 @@ pub record Accepted (bytes : List ℕ) : Type 0 where
 
 module _ (bytes : List ℕ) where
   pub head-good : judgedHead bytes ≡ Done
-      → (headSize ≤ length bytes) × (opensWith letters bytes ≡ true) × (activitiesIn bytes ≤ mostActivities) × (tracesIn bytes ≤ mostTraces)
+      → (headSize ≤ length bytes) × (opensWith letters bytes ≡ true) × (activitiesIn bytes ≤ mostActivities) × (tracesIn bytes ≤ mostTraces) × (bodiesStart bytes ≤ length bytes)
   unfolding judgedHead
   head-good d =
       let p = went _ TooShort _ refl d in
       let q = went _ WrongLetters _ refl (p .1) in
       let r = went _ AboveLimit _ refl (q .1) in
-      let s = went _ AboveLimit _ refl (r .1) in (
+      let s = went _ AboveLimit _ refl (r .1) in
+      let c = went _ TooShort _ refl (s .1) in (
         ltb-false (length bytes) headSize (p .0),
         T→true _ (non-false _ (q .0)),
         ltb-false mostActivities (activitiesIn bytes) (r .0),
         ltb-false mostTraces (tracesIn bytes) (s .0),
+        ltb-false (length bytes) (bodiesStart bytes) (c .0),
       )
+
+  -- what the code goes on by
+  pub entries-there : (a : Answer) (d : Bool) → a ≡ judgedHead bytes → d ≡ isDone a → not d ≡ false → bodiesStart bytes ≤ length bytes
+  entries-there a d e t n = head-good (gone-on a (judgedHead bytes) d e t n) .4
 
   bodies-good : (events : ℕ) → judgedBodies bytes events ≡ Done
       → (length bytes ≡ bodiesStart bytes + events) × (allBelow (activitiesIn bytes) (drop (bodiesStart bytes) bytes) ≡ true)

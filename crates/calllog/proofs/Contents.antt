@@ -7,14 +7,14 @@ use native.Mathlib.Numerals.{add-one}
 use native.Mathlib.Omega.{arith}
 use borrow.Author.Tests.{not-true, not-false, ltb-false}
 use lib.Dec.{eqb→eq}
-use Rattle.sets.specs.Answers.{isDone}
+use Rattle.sets.specs.Answers.{isDone, firstRefusal}
 use Rattle.sets.specs.declared.answer.Answer.{Answer}
 use Rattle.sets.specs.declared.answer.Answer.the-variants.{Done, AboveLimit, WrongOffset}
 use Rattle.sets.proofs.Tests.{non-false}
 use Rattle.calllog.specs.Layout.{tracesIn, offsetAt, lengthAt, eventsBefore}
 use Rattle.sets.specs.Sizes.{longestTrace, mostEvents}
-use Rattle.calllog.specs.Judged.{firstRefusal, judgedEntry, entryOf, judgedBodies, judgedContents}
-use Rattle.calllog.proofs.Order.{refusal-next, refusal-stands}
+use Rattle.calllog.specs.Judged.{judgedEntry, entryOf, judgedBodies, judgedContents}
+use Rattle.sets.proofs.Order.{turns-begin, turn-passed, turn-refused, turns-end}
 use Rattle.sets.proofs.Asking.{done-is, ask-on, ask-stop, went}
 
 -- what an entry that is done tells
@@ -44,14 +44,13 @@ module _ (bytes : List ℕ) (k events size offset : ℕ) (a : Answer) (r : Bool)
   contents-room d = entry-good events offset size (sym ea ∙ entry-fine d) .1
 
   pub contents-next : not r ≡ false → firstRefusal k (entryOf bytes) ≡ Done → firstRefusal (k + 1) (entryOf bytes) ≡ Done
-  contents-next d f = refusal-next (entryOf bytes) k f (sym entry-is ∙ entry-fine d)
+  contents-next d f = turn-passed (entryOf bytes) k a r entry-is er f d
 
   pub contents-refused : (t : ℕ) → t ≡ tracesIn bytes → k < t → firstRefusal k (entryOf bytes) ≡ Done → not r ≡ true → a ≡ judgedContents bytes
   unfolding judgedContents
   contents-refused t et l f n =
-      let stop : isDone (entryOf bytes k) ≡ false = ap isDone (sym entry-is) ∙ sym er ∙ not-true r n in
-      let stands : firstRefusal (tracesIn bytes) (entryOf bytes) ≡ entryOf bytes k = refusal-stands (entryOf bytes) (tracesIn bytes) k (omega arith) f stop in
-      entry-is ∙ sym (ask-stop _ _ (ap isDone stands ∙ stop) ∙ stands)
+      let stands = turn-refused (entryOf bytes) k a r entry-is er f (tracesIn bytes) (omega arith) n in
+      stands ∙ sym (ask-stop _ _ (ap isDone (sym stands) ∙ sym er ∙ not-true r n))
 
 pub contents-end : (bytes : List ℕ) (k events t : ℕ) (b : Answer) → t ≡ tracesIn bytes → t ≤ k → k ≤ t → events ≡ eventsBefore bytes k
     → firstRefusal k (entryOf bytes) ≡ Done → b ≡ judgedBodies bytes events → b ≡ judgedContents bytes
@@ -60,6 +59,6 @@ contents-end bytes k events t b et l g ee f eb =
     let q : k ≡ tracesIn bytes = omega arith in
     eb
     ∙ ap (judgedBodies bytes) (ee ∙ ap (eventsBefore bytes) q)
-    ∙ sym (ask-on _ _ (ap (λ (n : ℕ). firstRefusal n (entryOf bytes)) (sym q) ∙ f))
+    ∙ sym (ask-on _ _ (sym (turns-end (entryOf bytes) (tracesIn bytes) k (omega arith) (omega arith) f)))
 
-pub ruleset turns = (events-next, contents-room, contents-next, contents-refused, contents-end)
+pub ruleset contents = (turns-begin, events-next, contents-room, contents-next, contents-refused, contents-end)

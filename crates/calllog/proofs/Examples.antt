@@ -3,10 +3,10 @@ use mathlib.Core.Path.{_≡_, refl}
 use mathlib.Core.List.{List, [], _∷_, map}
 use Prim.Native.Nat.{ℕ}
 use Rattle.sets.specs.Tests.{_and_, non}
-use Rattle.sets.specs.Answers.{numberOf}
+use Rattle.sets.specs.Answers.{numberOf, firstRefusal}
 use Rattle.sets.specs.declared.answer.Answer.the-variants.{Done}
 use Rattle.calllog.specs.Layout.{opensWith, numberAt, activitiesIn, tracesIn, offsetAt, lengthAt, bodiesStart, eventsBefore}
-use Rattle.calllog.specs.Judged.{firstRefusal, allBelow, judgedHead, judgedEntry, judgedBodies, judgedContents, judgedLog}
+use Rattle.calllog.specs.Judged.{allBelow, judgedHead, judgedEntry, judgedBodies, judgedContents, judgedLog}
 use Rattle.calllog.specs.Logs.{tracesFrom, logOf}
 use Rattle.calllog.specs.Written.{entriesOf, endToEnd, logBytes}
 

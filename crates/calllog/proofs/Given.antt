@@ -3,7 +3,8 @@ use mathlib.Core.Path.{_≡_, refl, sym, ap, ap₂, _∙_}
 use mathlib.Core.Bool.{Bool, true, false, not}
 use mathlib.Core.List.{List, []}
 use Prim.Native.Nat.{ℕ, zero, suc, _+_, _≤_, _<_}
-use borrow.Author.Tests.{not-true, not-false, lt-ltb, le-ltb}
+use native.Mathlib.Omega.{arith}
+use borrow.Author.Tests.{lt-ltb, le-ltb}
 use lib.ListN.{length}
 use Rattle.sets.specs.Answers.{isDone}
 use Rattle.sets.specs.declared.answer.Answer.{Answer}
@@ -13,7 +14,7 @@ use Rattle.calllog.specs.Judged.{judgedHead, judgedContents, judgedLog}
 use Rattle.calllog.specs.Logs.{Log, tracesFrom, logOf, judgedOf, noPart, wherePart, partOf}
 use Rattle.calllog.specs.declared.judge.Judged.{Judged}
 use Rattle.calllog.specs.declared.trace.Part.{Part}
-use Rattle.sets.proofs.Asking.{done-is, ask-on, ask-stop}
+use Rattle.sets.proofs.Asking.{done-is, refused, passed}
 
 -- ---- the log as a whole
 
@@ -53,11 +54,11 @@ judged-refused bytes d =
 module _ (bytes : List ℕ) (a : Answer) (r : Bool) where
   pub judge-stop : a ≡ judgedHead bytes → r ≡ isDone a → not r ≡ true → a ≡ judgedLog bytes
   unfolding judgedLog
-  judge-stop e d n = e ∙ sym (ask-stop (judgedHead bytes) (judgedContents bytes) (ap isDone (sym e) ∙ sym d ∙ not-true r n))
+  judge-stop e d n = refused a (judgedHead bytes) r e d (judgedContents bytes) n
 
   pub judge-on : (b : Answer) → a ≡ judgedHead bytes → r ≡ isDone a → not r ≡ false → b ≡ judgedContents bytes → b ≡ judgedLog bytes
   unfolding judgedLog
-  judge-on b e d n f = f ∙ sym (ask-on (judgedHead bytes) (judgedContents bytes) (sym e ∙ done-is a (sym d ∙ not-false r n)))
+  judge-on b e d n f = f ∙ sym (passed a (judgedHead bytes) r e d (judgedContents bytes) n)
 
   pub log-done : (x t : ℕ) → a ≡ judgedLog bytes → r ≡ isDone a → r ≡ true → x ≡ activitiesIn bytes → t ≡ tracesIn bytes
       → _≡_ {A = Judged} (record { answer = Done; activities = x; traces = t }) (judgedOf bytes)
@@ -83,6 +84,10 @@ module _ (bytes : List ℕ) (k s o n : ℕ) (es : s ≡ bodiesStart bytes) (eo :
   unfolding wherePart
   where-is l = rw (← es, ← eo, ← en, le-ltb (length bytes) (s + o + n) l)
 
+-- bytes that end before the bodies have no part
+pub where-cut : (bytes : List ℕ) (k s : ℕ) → s ≡ bodiesStart bytes → length bytes < s → noPart ≡ wherePart bytes k
+where-cut bytes k s es l = where-not bytes k s (offsetAt bytes k) (lengthAt bytes k) es refl refl (omega arith)
+
 module _ (bytes : List ℕ) (k t : ℕ) (et : t ≡ tracesIn bytes) where
   pub part-none : t ≤ k → noPart ≡ partOf bytes k
   unfolding partOf
@@ -92,4 +97,4 @@ module _ (bytes : List ℕ) (k t : ℕ) (et : t ≡ tracesIn bytes) where
   unfolding partOf
   part-of p l e = rw (← et, lt-ltb k t l) e
 
-pub ruleset parts = (where-not, where-is, part-none, part-of)
+pub ruleset parts = (where-cut, where-not, where-is, part-none, part-of)

@@ -1,7 +1,6 @@
 -- The modules of `proofs/` that belong to no one function.
 pub mod Scans
 pub mod Verdicts
-pub mod Order
 pub mod Contents
 pub mod Accepted
 pub mod Given

@@ -10,13 +10,13 @@ use lib.Dec.{eqb, ltb}
 use lib.ListN.{length, take}
 use lib.Seq.{getD-take, length-take-le}
 use Rattle.sets.specs.Tests.{_and_, non, when_then_else_}
-use Rattle.sets.specs.Answers.{isDone, thenAsk}
+use Rattle.sets.specs.Answers.{isDone, thenAsk, firstRefusal}
 use Rattle.sets.specs.declared.answer.Answer.{Answer}
 use Rattle.sets.specs.declared.answer.Answer.the-variants.{Done, TooShort, WrongLetters, AboveLimit}
 use Rattle.calllog.specs.Layout.{letters, headSize, longestLog, opensWith, numberAt, activitiesIn, tracesIn, offsetAt, lengthAt, bodiesStart, eventsBefore}
 use Rattle.sets.specs.Sizes.{mostActivities, mostTraces}
-use Rattle.calllog.specs.Judged.{firstRefusal, judgedHead, judgedEntry, entryOf, judgedBodies, judgedContents, judgedLog}
-use Rattle.calllog.proofs.Order.{none-refuses, refusals-same}
+use Rattle.calllog.specs.Judged.{judgedHead, judgedEntry, entryOf, judgedBodies, judgedContents, judgedLog}
+use Rattle.sets.proofs.Order.{none-refuses, refusals-same}
 use Rattle.sets.proofs.Asking.{done-is, ask-stop}
 use Rattle.calllog.proofs.Verdicts.{bodies-more}
 use Rattle.calllog.proofs.Contents.{entry-good}

@@ -5,16 +5,11 @@ use Prim.Native.Nat.{ℕ, zero, suc, _+_}
 use lib.Dec.{eqb, ltb}
 use lib.ListN.{length, drop}
 use Rattle.sets.specs.Tests.{_and_, non, when_then_else_}
-use Rattle.sets.specs.Answers.{isDone, thenAsk}
+use Rattle.sets.specs.Answers.{thenAsk, firstRefusal}
 use Rattle.sets.specs.declared.answer.Answer.{Answer}
 use Rattle.sets.specs.declared.answer.Answer.the-variants.{Done, TooShort, WrongLetters, AboveLimit, WrongOffset, Outside}
 use Rattle.calllog.specs.Layout.{letters, headSize, opensWith, activitiesIn, tracesIn, offsetAt, lengthAt, bodiesStart, eventsBefore}
 use Rattle.sets.specs.Sizes.{mostActivities, mostTraces, longestTrace, mostEvents}
-
--- of the questions 0 to n - 1, asked in this order, the first refusal; done where there is none
-unfoldable pub firstRefusal : ℕ → (ℕ → Answer) → Answer
-firstRefusal zero ask = Done
-firstRefusal (suc n) ask = thenAsk (firstRefusal n ask) (ask n)
 
 -- every one is below a
 unfoldable pub allBelow : ℕ → List ℕ → Bool

@@ -1,6 +1,8 @@
 // The refusals of a log, in the order of 01, "Numbers given back". Time is linear in the bytes.
 ghost use mathlib.Core.Path.{_≡_};
-ghost use lib.ListN.{drop};
+ghost use Prim.Native.Nat.{_≤_};
+ghost use lib.ListN.{length, drop};
+ghost use Rattle.calllog.specs.Layout.{bodiesStart};
 ghost use Rattle.calllog.specs.Judged.{allBelow, judgedHead, judgedEntry, judgedBodies, judgedContents, judgedLog};
 ghost use Rattle.calllog.specs.Logs.{judgedOf};
 use crate::layout;
@@ -84,6 +86,7 @@ fn judge_entry(earlier: u32, offset: u16, size: u16) -> Answer
 
 // Entry by entry, then the bodies.
 fn judge_contents(bytes: &[u8]) -> Answer
+    requires { ⌜ bodiesStart (now bytes) ≤ length (now bytes) ⌝ }
     ensures { λ r. ⌜ r ≡ judgedContents (now (bytes .entry)) ⌝ }
 {
     let traces = layout::traces(bytes);

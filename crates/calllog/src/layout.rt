@@ -1,6 +1,7 @@
-// Where a log file keeps what (01, "Sizes" and "Log"). Bytes that are missing read as 0.
+// Where a log file keeps what (01, "Sizes" and "Log"). Of the head, bytes that are missing read as 0.
 ghost use mathlib.Core.Path.{_≡_};
-ghost use lib.ListN.{getD};
+ghost use Prim.Native.Nat.{_+_, _≤_, _<_};
+ghost use lib.ListN.{length, getD};
 ghost use Rattle.calllog.specs.Layout.{opensWith, numberAt, activitiesIn, tracesIn, offsetAt, lengthAt, bodiesStart};
 use sets::Activity;
 use sets::Place;
@@ -67,6 +68,23 @@ fn number_at(bytes: &[u8], i: usize) -> u16
     low as u16 + 256 * (high as u16)
 }
 
+fn present_byte(bytes: &[u8], i: usize) -> u8
+    requires { ⌜ i < length (now bytes) ⌝ }
+    ensures { λ r. ⌜ r ≡ getD (now (bytes .entry)) i 0 ⌝ }
+{
+    bytes[i]
+}
+
+// A number of two bytes that are there.
+fn present_number(bytes: &[u8], i: usize) -> u16
+    requires { ⌜ i + 1 < length (now bytes) ⌝ }
+    ensures { λ r. ⌜ r ≡ numberAt (now (bytes .entry)) i ⌝ }
+{
+    let low = present_byte(bytes, i);
+    let high = present_byte(bytes, i + 1);
+    low as u16 + 256 * (high as u16)
+}
+
 // A.
 pub fn activities(bytes: &[u8]) -> u8
     ensures { λ r. ⌜ r ≡ activitiesIn (now (bytes .entry)) ⌝ }
@@ -81,20 +99,22 @@ pub fn traces(bytes: &[u8]) -> u16
     number_at(bytes, TRACES_AT)
 }
 
-// The offset of entry k.
-pub fn offset(bytes: &[u8], k: u16) -> u16
+// The offset of entry k, where the bytes have all entries: a walk over them looks at each without asking again.
+pub(crate) fn offset(bytes: &[u8], k: u16) -> u16
+    requires { ⌜ (k < tracesIn (now bytes)) × (bodiesStart (now bytes) ≤ length (now bytes)) ⌝ }
     ensures { λ r. ⌜ r ≡ offsetAt (now (bytes .entry)) k ⌝ }
 {
     let entry = HEAD_SIZE + ENTRY_SIZE * (k as usize);
-    number_at(bytes, entry)
+    present_number(bytes, entry)
 }
 
 // The length of entry k.
-pub fn length(bytes: &[u8], k: u16) -> u16
+pub(crate) fn length(bytes: &[u8], k: u16) -> u16
+    requires { ⌜ (k < tracesIn (now bytes)) × (bodiesStart (now bytes) ≤ length (now bytes)) ⌝ }
     ensures { λ r. ⌜ r ≡ lengthAt (now (bytes .entry)) k ⌝ }
 {
     let entry = HEAD_SIZE + ENTRY_SIZE * (k as usize);
-    number_at(bytes, entry + LENGTH_AT)
+    present_number(bytes, entry + LENGTH_AT)
 }
 
 // Where the first body byte stands.

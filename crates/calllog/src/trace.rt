@@ -1,5 +1,7 @@
 // Where the traces of a log stand in its bytes, so that a trace is a part of the caller's slice.
 ghost use mathlib.Core.Path.{_≡_};
+ghost use Prim.Native.Nat.{_<_};
+ghost use Rattle.calllog.specs.Layout.{tracesIn};
 ghost use Rattle.calllog.specs.Logs.{partOf, wherePart, foundOf, askedOf};
 use crate::judge;
 use crate::layout;
@@ -45,9 +47,14 @@ pub fn trace_part(bytes: &[u8], k: usize) -> Part
 
 // The part of the bytes that entry k names, where they have all of it.
 fn entry_part(bytes: &[u8], k: u16) -> Part
+    requires { ⌜ k < tracesIn (now bytes) ⌝ }
     ensures { λ r. ⌜ r ≡ wherePart (now (bytes .entry)) k ⌝ }
 {
-    let start = layout::bodies_start(bytes) as usize + layout::offset(bytes, k) as usize;
+    let bodies = layout::bodies_start(bytes) as usize;
+    if bytes.len() < bodies {
+        return Part::NONE;
+    }
+    let start = bodies + layout::offset(bytes, k) as usize;
     let length = layout::length(bytes, k) as usize;
     if bytes.len() < start + length {
         return Part::NONE;

@@ -4,7 +4,7 @@ use mathlib.Core.Path.{_≡_, refl, sym, ap, subst}
 use mathlib.Core.Bool.{Bool, true, false}
 use mathlib.Core.List.{List}
 use Prim.Native.Nat.{ℕ, _≤_, _<_}
-use borrow.Author.Tests.{ltb-false, le-ltb}
+use borrow.Author.Tests.{ltb-false, lt-ltb, le-ltb}
 use lib.Dec.{T, ltb, eqb→eq}
 use lib.ListN.{length}
 use Rattle.sets.specs.Tests.{_and_, _or_, non, when_then_else_}
@@ -15,6 +15,7 @@ use Rattle.sets.specs.declared.set.Set.{Set}
 use Rattle.sets.specs.declared.answer.Answer.{Answer}
 use Rattle.sets.specs.declared.answer.Answer.the-variants.{Done, AboveLimit, Outside, NoEvent, NotIncluded, Waiting}
 use Rattle.sets.proofs.Tests.{and-l, and-r, and-i, or-e, T→true, F→false, non-false, true→T, false→F, either}
+use Rattle.sets.proofs.Asking.{went}
 use Rattle.sets.proofs.Members.{those-e, within-e, within-i}
 use Rattle.sets.proofs.Below.{every-e}
 use Rattle.engine.specs.declared.marking.Marking.{Marking}
@@ -23,23 +24,19 @@ use Rattle.engine.specs.Relations.{Relations, relationsOf}
 use Rattle.engine.specs.Steps.{waits, enabled, after}
 use Rattle.engine.specs.Judged.{markingWithin, rowWithin, rowsWithin, relationsWithin, graphWithin, judgedFor, judged, judgedWith}
 use Rattle.sets.specs.Sizes.{mostActivities, longestTrace}
-use Rattle.engine.specs.Replay.{enabledOf, steppedOf, replayFrom, replayOf}
+use Rattle.engine.specs.Replay.{enabledOf, steppedOf, ending, replayFrom, replayOf}
+use Rattle.engine.specs.Markings.{emptyMarking}
 
--- ---- the parts of a chain of answers that is done
-
--- a refusal that was not given: its test failed, and the rest is done
-passed : (t : Bool) (a b : Answer) → isDone a ≡ false → (when t then a else b) ≡ Done → (t ≡ false) × (b ≡ Done)
-passed true a b n h = absurd (false→F n (true→T (ap isDone h)))
-passed false a b n h = (refl, h)
+-- ---- what was judged
 
 module _ (g : Graph) (n : ℕ) (h : judgedFor g n ≡ Done) where
   -- the three tests of a judgement, none of which refused
   tests : (ltb mostActivities (g .activities) ≡ false) × (ltb longestTrace n ≡ false) × (non (graphWithin g) ≡ false)
   unfolding judgedFor
   tests =
-      let a = passed _ _ _ refl h in
-      let b = passed _ _ _ refl (a .1) in
-      (a .0, b .0, passed _ _ _ refl (b .1) .0)
+      let a = went _ _ _ refl h in
+      let b = went _ _ _ refl (a .1) in
+      (a .0, b .0, went _ _ _ refl (b .1) .0)
 
   pub judged-activities : g .activities ≤ mostActivities
   judged-activities = ltb-false mostActivities (g .activities) (tests .0)
@@ -81,6 +78,20 @@ module _ (g : Graph) (h : judged g ≡ Done) where
       → replayOf g trace ≡ replayFrom (g .events) (relationsOf g) (g .opening) 0 trace
   unfolding replayOf
   replay-judged trace l = rw (judged-for (length trace) l)
+
+-- ---- a trace that is too long is refused on any graph
+
+either-way : (t : Bool) → (when t then AboveLimit else AboveLimit) ≡ AboveLimit
+either-way true = refl
+either-way false = refl
+
+judged-long : (g : Graph) (n : ℕ) → longestTrace < n → judgedFor g n ≡ AboveLimit
+unfolding judgedFor
+judged-long g n l = rw (lt-ltb longestTrace n l) (either-way (ltb mostActivities (g .activities)))
+
+pub replay-long : (g : Graph) (trace : List ℕ) → longestTrace < length trace → replayOf g trace ≡ ending AboveLimit 0 emptyMarking false
+unfolding replayOf
+replay-long g trace l = rw (judged-long g (length trace) l)
 
 -- ---- within the events
 
@@ -150,6 +161,6 @@ module _ (events : Set) (r : Relations) (m : Marking) (e : ℕ) where
   pub done-enabled : enabled events r m e ≡ Done → T (mem events e) × T (mem (m .included) e) × (T (waits r m e) → ⊥)
   unfolding enabled
   done-enabled h =
-      let a = passed _ _ _ refl h in
-      let b = passed _ _ _ refl (a .1) in
-      (non-false _ (a .0), non-false _ (b .0), false→F (passed (waits r m e) Waiting Done refl (b .1) .0))
+      let a = went _ _ _ refl h in
+      let b = went _ _ _ refl (a .1) in
+      (non-false _ (a .0), non-false _ (b .0), false→F (went (waits r m e) Waiting Done refl (b .1) .0))

@@ -2,41 +2,26 @@
 use mathlib.Core.Path.{_≡_, refl, sym, ap, _∙_}
 use mathlib.Core.Bool.{Bool, false, not}
 use mathlib.Core.List.{List}
-use Prim.Native.Nat.{ℕ, zero, suc, _+_, _*_, _≤_, _<_, suc-le-suc}
-use native.Mathlib.Nat.{not-suc-le-zero, le-of-suc-le-suc, zero-lt-suc, add-zero, add-suc, suc-add, zero-add}
+use Prim.Native.Nat.{ℕ, _*_, _≤_, _<_}
 use native.Mathlib.Omega.{arith}
-use borrow.Author.Tests.{le-ltb, eq-eqb, ltb-false, eqb-true, not-false}
+use borrow.Author.Tests.{le-ltb, eq-eqb, ltb-false, eqb-true}
 use lib.Dec.{T, eqb, ltb}
 use lib.ListN.{length, take}
 use Rattle.sets.specs.Tests.{_and_, _or_, non}
 use Rattle.sets.specs.Members.{those, within}
-use Rattle.sets.specs.Answers.{isDone, thenAsk}
+use Rattle.sets.specs.Answers.{isDone, thenAsk, firstRefusal}
 use Rattle.sets.specs.declared.answer.Answer.{Answer}
 use Rattle.sets.specs.declared.answer.Answer.the-variants.{Done, TooShort, WrongLetters, AboveLimit, WrongOffset, Outside}
-use Rattle.sets.proofs.Asking.{done-is, ask-on, both, went}
+use Rattle.sets.proofs.Asking.{ask-on, both, went, gone-on}
+use Rattle.sets.proofs.Order.{none-refuses, no-refusal}
 use Rattle.sets.proofs.Tests.{T→true, non-false}
 use Rattle.engine.specs.Judged.{markingWithin}
 use Rattle.sets.specs.Sizes.{mostActivities}
 use Rattle.graphfile.specs.Layout.{letters, headLength, rowLength, relationCount, activitiesIn, eventsIn, markingIn, offsetIn, countIn, earlierRows, endOf}
-use Rattle.graphfile.specs.Refusals.{mostRows, same, inTurn, judgedHead, judgedEntry, judgedEnd, judgedRow, judgedRelation, judgedFile}
-
--- ---- in turn
+use Rattle.graphfile.specs.Refusals.{mostRows, same, judgedHead, judgedEntry, judgedEnd, judgedBeforeRows, judgedRow, judgedRelation, judgedFile}
 
 pub done-then : {a b : Answer} → a ≡ Done → b ≡ Done → thenAsk a b ≡ Done
 done-then {a} {b} e f = ask-on a b e ∙ f
-
-pub turns-done : (ask : ℕ → Answer) (n i : ℕ) → inTurn ask n i ≡ Done → (k : ℕ) → k < n → ask (i + k) ≡ Done
-unfolding inTurn
-turns-done ask zero i h k l = absurd (not-suc-le-zero l)
-turns-done ask (suc n) i h zero l = ap ask (add-zero i) ∙ both _ _ h .0
-turns-done ask (suc n) i h (suc k) l = ap ask (add-suc i k ∙ sym (suc-add i k)) ∙ turns-done ask n (suc i) (both (ask i) (inTurn ask n (suc i)) h .1) k (le-of-suc-le-suc l)
-
-pub done-turns : (ask : ℕ → Answer) (n i : ℕ) → ((k : ℕ) → k < n → ask (i + k) ≡ Done) → inTurn ask n i ≡ Done
-unfolding inTurn
-done-turns ask zero i f = refl
-done-turns ask (suc n) i f =
-    done-then (ap ask (sym (add-zero i)) ∙ f 0 (zero-lt-suc n))
-    (done-turns ask n (suc i) (λ k l. ap ask (suc-add i k ∙ sym (add-suc i k)) ∙ f (suc k) (suc-le-suc l)))
 
 -- ---- a file
 
@@ -58,36 +43,37 @@ done-end : (bytes : List ℕ) → length bytes ≡ endOf bytes → judgedEnd byt
 unfolding judgedEnd
 done-end bytes e = rw (le-ltb (length bytes) (endOf bytes) (omega arith), le-ltb (endOf bytes) (length bytes) (omega arith))
 
+-- what stands before the rows
+front-done : (bytes : List ℕ) → judgedBeforeRows bytes ≡ Done
+    → (headLength ≤ length bytes) × (judgedHead bytes ≡ Done) × ((r : ℕ) → r < relationCount → judgedEntry bytes r ≡ Done) × (length bytes ≡ endOf bytes)
+unfolding judgedBeforeRows
+front-done bytes h =
+    let short = went (ltb (length bytes) headLength) TooShort _ refl h in
+    let head = both _ _ (short .1) in
+    let rest = both _ _ (head .1) in
+    (ltb-false (length bytes) headLength (short .0), head .0, none-refuses (judgedEntry bytes) relationCount (rest .0), end-done bytes (rest .1))
+
 pub accepted : (bytes : List ℕ) → judgedFile bytes ≡ Done → Accepted bytes
 unfolding judgedFile judgedRelation
 accepted bytes h =
-    let short = went (ltb (length bytes) headLength) TooShort _ refl h in
-    let head = both _ _ (short .1) in
-    let entries = both _ _ (head .1) in
-    let end = both _ _ (entries .1) in
+    let p = both (judgedBeforeRows bytes) (firstRefusal relationCount (judgedRelation bytes)) h in
+    let f = front-done bytes (p .0) in
     record {
-      long = ltb-false (length bytes) headLength (short .0);
-      head = head .0;
-      entry = λ r l. ap (judgedEntry bytes) (sym (zero-add r)) ∙ turns-done (judgedEntry bytes) relationCount 0 (entries .0) r l;
-      end = end-done bytes (end .0);
-      row = λ r l j m.
-          ap (judgedRow bytes (earlierRows bytes r)) (sym (zero-add j))
-          ∙ turns-done (judgedRow bytes (earlierRows bytes r)) (countIn bytes r) 0
-          (ap (judgedRelation bytes) (sym (zero-add r)) ∙ turns-done (judgedRelation bytes) relationCount 0 (end .1) r l) j m;
+      long = f .0;
+      head = f .1;
+      entry = f .2;
+      end = f .3;
+      row = λ r l. none-refuses (judgedRow bytes (earlierRows bytes r)) (countIn bytes r) (none-refuses (judgedRelation bytes) relationCount (p .1) r l);
     }
 
 pub acceptable : (bytes : List ℕ) → Accepted bytes → judgedFile bytes ≡ Done
-unfolding judgedFile judgedRelation
+unfolding judgedFile judgedBeforeRows judgedRelation
 acceptable bytes a =
+    let front : judgedBeforeRows bytes ≡ Done =
     rw (le-ltb (length bytes) headLength (a .long))
-    (done-then (a .head)
-    (done-then (done-turns (judgedEntry bytes) relationCount 0 (λ r l. ap (judgedEntry bytes) (zero-add r) ∙ a .entry r l))
-    (done-then (done-end bytes (a .end))
-    (done-turns (judgedRelation bytes) relationCount 0
-    (λ r l.
-    ap (judgedRelation bytes) (zero-add r)
-    ∙ done-turns (judgedRow bytes (earlierRows bytes r)) (countIn bytes r) 0
-    (λ j m. ap (judgedRow bytes (earlierRows bytes r)) (zero-add j) ∙ a .row r l j m))))))
+    (done-then (a .head) (done-then (no-refusal (judgedEntry bytes) relationCount (a .entry)) (done-end bytes (a .end)))) in
+    done-then front
+    (no-refusal (judgedRelation bytes) relationCount (λ r l. no-refusal (judgedRow bytes (earlierRows bytes r)) (countIn bytes r) (a .row r l)))
 
 -- ---- the head and an entry
 
@@ -134,11 +120,5 @@ done-entry bytes r few e = rw (le-ltb mostRows (countIn bytes r) few, eq-eqb (of
 
 -- ---- what the code goes on by
 
-pub code-done : (a x : Answer) (d : Bool) → a ≡ x → d ≡ isDone a → not d ≡ false → x ≡ Done
-code-done a x d e t n = sym e ∙ done-is a (sym t ∙ not-false d n)
-
-pub end-within : (bytes : List ℕ) (end : Answer) (d : Bool) → end ≡ judgedEnd bytes → d ≡ isDone end → not d ≡ false → endOf bytes ≤ length bytes
-end-within bytes end d e t n = omega (arith, end-done bytes (code-done end (judgedEnd bytes) d e t n))
-
-pub file-within : (bytes : List ℕ) (a : Answer) (d : Bool) → a ≡ judgedFile bytes → d ≡ isDone a → not d ≡ false → endOf bytes ≤ length bytes
-file-within bytes a d e t n = omega (arith, accepted bytes (code-done a (judgedFile bytes) d e t n) .end)
+pub end-within : (bytes : List ℕ) (a : Answer) (d : Bool) → a ≡ judgedBeforeRows bytes → d ≡ isDone a → not d ≡ false → endOf bytes ≤ length bytes
+end-within bytes a d e t n = omega (arith, front-done bytes (gone-on a (judgedBeforeRows bytes) d e t n) .3)

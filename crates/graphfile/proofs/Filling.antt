@@ -1,28 +1,33 @@
--- The reader's loop over the rows of a relation, and the graph put together from its parts. Assumes nothing.
-use mathlib.Core.Path.{_≡_, sym, ap, ap₂, _∙_}
+-- The reader's loop over the rows of a relation, and what it reads put together. Assumes nothing.
+use mathlib.Core.Path.{_≡_, refl, sym, ap, _∙_}
 use mathlib.Core.Bool.{Bool, true, false, not}
 use mathlib.Core.List.{List}
 use Prim.Native.Nat.{ℕ, suc, _+_, _-_, _≤_, _<_}
 use native.Mathlib.Nat.{sub-zero, add-zero}
 use native.Mathlib.Omega.{arith}
+use lib.Dec.{lit<}
 use borrow.Author.Tests.{not-true, not-false}
 use Rattle.sets.specs.Tests.{when_then_else_}
 use Rattle.sets.specs.Rows.{noRows, withRow}
-use Rattle.sets.specs.Answers.{isDone}
+use Rattle.sets.specs.Answers.{isDone, firstRefusal}
 use Rattle.sets.specs.declared.set.Set.{Set}
 use Rattle.sets.specs.declared.answer.Answer.{Answer}
+use Rattle.sets.specs.declared.answer.Answer.the-variants.{Done}
+use Rattle.sets.proofs.Asking.{done-is, refused, passed, never-done}
+use Rattle.sets.proofs.Order.{refusal-last, turns-begin, turn-passed, turn-refused, turns-end}
+use Rattle.graphfile.proofs.Judging.{row-judged}
 use Rattle.engine.specs.declared.marking.Marking.{Marking}
 use Rattle.engine.specs.declared.graph.Graph.{Graph}
 use Rattle.graphfile.specs.declared.reader.Reading.{Reading}
-use Rattle.graphfile.specs.Layout.{activitiesIn, eventsIn, markingIn, countIn, earlierRows, keyIn, rowIn}
-use Rattle.graphfile.specs.Refusals.{judgedFile}
-use Rattle.graphfile.specs.Held.{filled, relationIn, graphIn, readOf}
+use Rattle.graphfile.specs.Layout.{relationCount, activitiesIn, eventsIn, markingIn, countIn, earlierRows, keyIn, rowIn}
+use Rattle.graphfile.specs.Refusals.{rises, rowAnswer, judgedRow, judgedBeforeRows, judgedRelation, judgedFile}
+use Rattle.graphfile.specs.Held.{filled, relationIn, graphIn, readingOf, readOf}
 use Rattle.engine.specs.Relations.{graphOf, emptyGraph}
 
 -- ---- row by row: what is left to fill in, filled in, gives the whole
 
-pub fill-begin : (bytes held : List ℕ) (count first : ℕ) → held ≡ noRows → filled bytes held (count - 0) (first + 0) ≡ filled bytes noRows count first
-fill-begin bytes held count first e = λ i. filled bytes (e i) (sub-zero count i) (add-zero first i)
+pub fill-begin : (bytes held : List ℕ) (count first : ℕ) → filled bytes held (count - 0) (first + 0) ≡ filled bytes held count first
+fill-begin bytes held count first = λ i. filled bytes held (sub-zero count i) (add-zero first i)
 
 pub fill-turn : (bytes held held′ whole : List ℕ) (count first j key : ℕ) (row : Set) → j < count
     → filled bytes held (count - j) (first + j) ≡ whole → key ≡ keyIn bytes (first + j) → row ≡ rowIn bytes (first + j) → held′ ≡ withRow held key row
@@ -42,36 +47,91 @@ fill-end bytes held whole count first j l h =
     let none : count - j ≡ 0 = omega arith in
     ap (λ (n : ℕ). filled bytes held n (first + j)) (sym none) ∙ h
 
-pub ruleset filling = (fill-begin, fill-turn, fill-end)
+-- ---- row by row: judged, then put
 
-pub relation-filled : (bytes rows : List ℕ) (r first count : ℕ) → first ≡ earlierRows bytes r → count ≡ countIn bytes r
-    → rows ≡ filled bytes noRows count first → rows ≡ relationIn bytes r
-unfolding relationIn
-relation-filled bytes rows r first count e f h = h ∙ ap₂ (λ (n x : ℕ). filled bytes noRows n x) f e
+module _ (bytes held : List ℕ) (first count j key : ℕ) (events row : Set) (above : Bool) (a : Answer) (d : Bool) (he : events ≡ eventsIn bytes)
+    (hk : key ≡ keyIn bytes (first + j)) (hr : row ≡ rowIn bytes (first + j)) (hu : above ≡ rises bytes first j)
+    (ha : a ≡ rowAnswer events key row above) (hd : d ≡ isDone a) (f : firstRefusal j (judgedRow bytes first) ≡ Done) where
+  here : a ≡ judgedRow bytes first j
+  here = row-judged bytes first j key events row above a he hk hr hu ha
 
--- ---- a graph, part by part
+  pub take-refused : (whole : List ℕ) → j < count → not d ≡ true → (a ≡ firstRefusal count (judgedRow bytes first)) × (a ≡ Done → held ≡ whole)
+  take-refused whole l n = (turn-refused (judgedRow bytes first) j a d here hd f count l n, never-done a _ d here hd n)
 
-pub graph-held : (bytes : List ℕ) (s : Set) (m : Marking) (c r i e : List ℕ)
-    → s ≡ eventsIn bytes → m ≡ markingIn bytes → c ≡ relationIn bytes 0 → r ≡ relationIn bytes 1 → i ≡ relationIn bytes 2 → e ≡ relationIn bytes 3
-    → graphOf (activitiesIn bytes) s m c r i e ≡ graphIn bytes
-unfolding graphIn
-graph-held bytes s m c r i e hs hm hc hr hi he = λ k. graphOf (activitiesIn bytes) (hs k) (hm k) (hc k) (hr k) (hi k) (he k)
+  pub take-passed : not d ≡ false → firstRefusal (j + 1) (judgedRow bytes first) ≡ Done
+  take-passed n = turn-passed (judgedRow bytes first) j a d here hd f n
+
+pub take-end : (bytes held whole : List ℕ) (first count j : ℕ) → firstRefusal j (judgedRow bytes first) ≡ Done → filled bytes held (count - j) (first + j) ≡ whole
+    → count ≤ j → j ≤ count → (Done ≡ firstRefusal count (judgedRow bytes first)) × (Done ≡ Done → held ≡ whole)
+take-end bytes held whole first count j f h l g = (turns-end (judgedRow bytes first) count j l g f, λ q. fill-end bytes held whole count first j l h)
+
+pub ruleset taking = (turns-begin, fill-begin, take-passed, fill-turn)
+
+pub relation-taken : (bytes held rows : List ℕ) (r first count : ℕ) (a : Answer) → held ≡ noRows → first ≡ earlierRows bytes r → count ≡ countIn bytes r
+    → a ≡ firstRefusal count (judgedRow bytes first) → (a ≡ Done → rows ≡ filled bytes held count first)
+    → (a ≡ judgedRelation bytes r) × (a ≡ Done → rows ≡ relationIn bytes r)
+unfolding judgedRelation relationIn
+relation-taken bytes held rows r first count a n e f h g = (h ∙ (λ i. firstRefusal (f i) (judgedRow bytes (e i))), λ q. g q ∙ (λ i. filled bytes (n i) (f i) (e i)))
+
+-- ---- the four relations in turn
+
+-- where one is refused, nothing is said of the rows
+pub nothing-due : (a : Answer) (d : Bool) → d ≡ isDone a → not d ≡ true → {P Q R S : Type 0}
+    → (a ≡ Done → P) × ((a ≡ Done → Q) × ((a ≡ Done → R) × (a ≡ Done → S)))
+nothing-due a d t n = (never-done a a d refl t n, (never-done a a d refl t n, (never-done a a d refl t n, never-done a a d refl t n)))
+
+module _ (bytes : List ℕ) (a₀ : Answer) (d₀ : Bool) (e₀ : a₀ ≡ judgedRelation bytes 0) (t₀ : d₀ ≡ isDone a₀) where
+  pub stops-0 : not d₀ ≡ true → a₀ ≡ firstRefusal relationCount (judgedRelation bytes)
+  stops-0 n = turn-refused (judgedRelation bytes) 0 a₀ d₀ e₀ t₀ (turns-begin (judgedRelation bytes)) relationCount (lit< tt) n
+
+  module _ (n₀ : not d₀ ≡ false) (a₁ : Answer) (d₁ : Bool) (e₁ : a₁ ≡ judgedRelation bytes 1) (t₁ : d₁ ≡ isDone a₁) where
+    one : firstRefusal 1 (judgedRelation bytes) ≡ Done
+    one = turn-passed (judgedRelation bytes) 0 a₀ d₀ e₀ t₀ (turns-begin (judgedRelation bytes)) n₀
+
+    pub stops-1 : not d₁ ≡ true → a₁ ≡ firstRefusal relationCount (judgedRelation bytes)
+    stops-1 n = turn-refused (judgedRelation bytes) 1 a₁ d₁ e₁ t₁ one relationCount (lit< tt) n
+
+    module _ (n₁ : not d₁ ≡ false) (a₂ : Answer) (d₂ : Bool) (e₂ : a₂ ≡ judgedRelation bytes 2) (t₂ : d₂ ≡ isDone a₂) where
+      two : firstRefusal 2 (judgedRelation bytes) ≡ Done
+      two = turn-passed (judgedRelation bytes) 1 a₁ d₁ e₁ t₁ one n₁
+
+      pub stops-2 : not d₂ ≡ true → a₂ ≡ firstRefusal relationCount (judgedRelation bytes)
+      stops-2 n = turn-refused (judgedRelation bytes) 2 a₂ d₂ e₂ t₂ two relationCount (lit< tt) n
+
+      pub stops-3 : not d₂ ≡ false → (a₃ : Answer) → a₃ ≡ judgedRelation bytes 3 → a₃ ≡ firstRefusal relationCount (judgedRelation bytes)
+      stops-3 n₂ a₃ e₃ = e₃ ∙ sym (refusal-last (judgedRelation bytes) 3 (turn-passed (judgedRelation bytes) 2 a₂ d₂ e₂ t₂ two n₂))
+
+-- ---- what is read, by the answer
+
+module _ (bytes : List ℕ) (a x : Answer) (d : Bool) (e : a ≡ x) (t : d ≡ isDone a) where
+  said : (b : Bool) → d ≡ b → isDone x ≡ b
+  said b h = ap isDone (sym e) ∙ sym t ∙ h
+
+  reading : (b : Bool) (g : Graph) → d ≡ b → g ≡ when b then graphIn bytes else emptyGraph → _≡_ {A = Reading} (record { answer = a; graph = g }) (readingOf x bytes)
+  reading b g q h = λ i. record { answer = e i; graph = (h ∙ ap (λ (y : Bool). when y then graphIn bytes else emptyGraph) (sym (said b q))) i }
+
+  pub reading-refused : (g : Graph) → not d ≡ true → g ≡ emptyGraph → _≡_ {A = Reading} (record { answer = a; graph = g }) (readingOf x bytes)
+  reading-refused g n h = reading false g (not-true d n) h
+
+  pub reading-taken : (s : Set) (m : Marking) (c r i u : List ℕ) → not d ≡ false → s ≡ eventsIn bytes → m ≡ markingIn bytes
+      → (a ≡ Done → c ≡ relationIn bytes 0) → (a ≡ Done → r ≡ relationIn bytes 1) → (a ≡ Done → i ≡ relationIn bytes 2) → (a ≡ Done → u ≡ relationIn bytes 3)
+      → _≡_ {A = Reading} (record { answer = a; graph = graphOf (activitiesIn bytes) s m c r i u }) (readingOf x bytes)
+  unfolding graphIn
+  reading-taken s m c r i u n hs hm hc hr hi hu =
+      let done = done-is a (sym t ∙ not-false d n) in
+      reading true _ (not-false d n) (λ k. graphOf (activitiesIn bytes) (hs k) (hm k) (hc done k) (hr done k) (hi done k) (hu done k))
+
+pub ruleset readings = (reading-refused, reading-taken)
 
 -- ---- a read
 
-reading-of : (bytes : List ℕ) (a : Answer) (d : Bool) (g : Graph) → a ≡ judgedFile bytes → isDone (judgedFile bytes) ≡ d → g ≡ when d then graphIn bytes else emptyGraph
-    → _≡_ {A = Reading} (record { answer = a; graph = g }) (readOf bytes)
-unfolding readOf
-reading-of bytes a d g e t h = λ i. record { answer = e i; graph = (h ∙ ap (λ (b : Bool). when b then graphIn bytes else emptyGraph) (sym t)) i }
+module _ (bytes : List ℕ) (a : Answer) (d : Bool) (e : a ≡ judgedBeforeRows bytes) (t : d ≡ isDone a) where
+  pub read-refused : (g : Graph) → not d ≡ true → g ≡ emptyGraph → _≡_ {A = Reading} (record { answer = a; graph = g }) (readOf bytes)
+  unfolding readOf judgedFile
+  read-refused g n h = reading-refused bytes a (judgedFile bytes) d (refused a (judgedBeforeRows bytes) d e t _ n) t g n h
 
-module _ (bytes : List ℕ) (a : Answer) (d : Bool) (g : Graph) (e : a ≡ judgedFile bytes) (t : d ≡ isDone a) where
-  answered : (b : Bool) → d ≡ b → isDone (judgedFile bytes) ≡ b
-  answered b h = ap isDone (sym e) ∙ sym t ∙ h
+  pub read-on : (r : Reading) → not d ≡ false → r ≡ readingOf (firstRefusal relationCount (judgedRelation bytes)) bytes → r ≡ readOf bytes
+  unfolding readOf judgedFile
+  read-on r n h = h ∙ ap (λ (x : Answer). readingOf x bytes) (sym (passed a (judgedBeforeRows bytes) d e t _ n))
 
-  pub read-refused : not d ≡ true → g ≡ emptyGraph → _≡_ {A = Reading} (record { answer = a; graph = g }) (readOf bytes)
-  read-refused n h = reading-of bytes a false g e (answered false (not-true d n)) h
-
-  pub read-accepted : not d ≡ false → g ≡ graphIn bytes → _≡_ {A = Reading} (record { answer = a; graph = g }) (readOf bytes)
-  read-accepted n h = reading-of bytes a true g e (answered true (not-false d n)) h
-
-pub ruleset reads = (read-refused, read-accepted)
+pub ruleset reads = (read-refused, read-on)

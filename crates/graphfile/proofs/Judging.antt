@@ -9,15 +9,16 @@ use lib.Dec.{ltb}
 use lib.ListN.{length, take}
 use Rattle.sets.specs.Tests.{_or_, non, when_then_else_}
 use Rattle.sets.specs.Members.{mem, those, isEmpty, within}
+use Rattle.sets.specs.Answers.{firstRefusal}
 use Rattle.sets.specs.declared.set.Set.{Set}
 use Rattle.sets.specs.declared.answer.Answer.{Answer}
-use Rattle.sets.specs.declared.answer.Answer.the-variants.{Done, TooShort, WrongLetters, AboveLimit, WrongOffset, Outside}
+use Rattle.sets.specs.declared.answer.Answer.the-variants.{Done, TooShort, WrongLetters, AboveLimit, WrongOffset, Outside, BadRow}
 use Rattle.sets.proofs.Tests.{not-non}
 use Rattle.engine.specs.Judged.{markingWithin}
 use Rattle.sets.specs.Sizes.{mostActivities}
 use Rattle.engine.specs.declared.marking.Marking.{Marking}
 use Rattle.graphfile.specs.Layout.{letters, headLength, rowLength, relationCount, activitiesIn, eventsIn, markingIn, offsetIn, countIn, earlierRows, keyIn, rowIn, endOf}
-use Rattle.graphfile.specs.Refusals.{mostRows, same, inTurn, judgedHead, judgedEntry, judgedEnd, rises, rowOutside, rowBad, rowAnswer, judgedRow, judgedRelation}
+use Rattle.graphfile.specs.Refusals.{mostRows, same, judgedHead, judgedEntry, judgedEnd, rises, rowAnswer, judgedRow, judgedRelation}
 
 -- ---- the end
 
@@ -73,38 +74,37 @@ rises-next bytes first (suc j) before key n e f =
     let back : first + suc j - 1 ≡ first + j = omega arith in
     ap₂ ltb (e ∙ ap (keyIn bytes) back) f
 
-module _ (bytes : List ℕ) (k key : ℕ) (events : Set) (t : Bool) (he : events ≡ eventsIn bytes) (hk : key ≡ keyIn bytes k) (ht : t ≡ mem events key) where
-  outside-is : (b : Bool) → t ≡ b → (row : Set) → row ≡ rowIn bytes k → (non b or non (within row events)) ≡ rowOutside bytes k
-  unfolding rowOutside
-  outside-is b e row hr = (λ i. non ((sym e ∙ ht) i) or non (within row events)) ∙ (λ i. non (mem (he i) (hk i)) or non (within (hr i) (he i)))
+pub ruleset keys = (rises-first, rises-next)
 
-  pub outside-key : not t ≡ true → true ≡ rowOutside bytes k
-  unfolding _or_ non
-  outside-key n = outside-is false (not-true t n) _ refl
+module _ (events : Set) (key : ℕ) (row : Set) (above : Bool) (k : Bool) (hk : k ≡ mem events key) where
+  pub row-no-event : not k ≡ true → Outside ≡ rowAnswer events key row above
+  unfolding rowAnswer _or_ non
+  row-no-event n = rw (← hk, not-true k n)
 
-  pub outside-set : not t ≡ false → (row : Set) (u : Bool) → row ≡ rowIn bytes k → u ≡ within row events → not u ≡ rowOutside bytes k
-  unfolding _or_ non
-  outside-set n row u hr hu = not-non u ∙ ap non hu ∙ outside-is true (not-false t n) row hr
+  module _ (yk : not k ≡ false) (w : Bool) (hw : w ≡ within row events) where
+    pub row-outside : not w ≡ true → Outside ≡ rowAnswer events key row above
+    unfolding rowAnswer _or_ non
+    row-outside n = rw (← hk, not-false k yk, ← hw, not-true w n)
 
-module _ (bytes : List ℕ) (first j : ℕ) (row : Set) (e : Bool) (hr : row ≡ rowIn bytes (first + j)) (he : e ≡ isEmpty row) where
-  bad-is : (b : Bool) → e ≡ b → (b or non (rises bytes first j)) ≡ rowBad bytes first j
-  unfolding rowBad
-  bad-is b h = λ i. (sym h ∙ he ∙ ap isEmpty hr) i or non (rises bytes first j)
+    module _ (yw : not w ≡ false) (e : Bool) (he : e ≡ isEmpty row) where
+      pub row-empty : e ≡ true → BadRow ≡ rowAnswer events key row above
+      unfolding rowAnswer _or_ non
+      row-empty n = rw (← hk, not-false k yk, ← hw, not-false w yw, ← he, n)
 
-  pub bad-empty : e ≡ true → true ≡ rowBad bytes first j
-  unfolding _or_
-  bad-empty h = bad-is true h
+      pub row-falls : e ≡ false → not above ≡ true → BadRow ≡ rowAnswer events key row above
+      unfolding rowAnswer _or_ non
+      row-falls n a = rw (← hk, not-false k yk, ← hw, not-false w yw, ← he, n, not-true above a)
 
-  pub bad-falls : e ≡ false → (u : Bool) → u ≡ rises bytes first j → not u ≡ rowBad bytes first j
-  unfolding _or_
-  bad-falls h u hu = not-non u ∙ ap non hu ∙ bad-is false h
+      pub row-right : e ≡ false → not above ≡ false → Done ≡ rowAnswer events key row above
+      unfolding rowAnswer _or_ non
+      row-right n a = rw (← hk, not-false k yk, ← hw, not-false w yw, ← he, n, not-false above a)
 
-pub row-judged : (bytes : List ℕ) (first j : ℕ) (a : Answer) (outside bad : Bool) → outside ≡ rowOutside bytes (first + j) → bad ≡ rowBad bytes first j
-    → a ≡ rowAnswer outside bad → a ≡ judgedRow bytes first j
-unfolding judgedRow
-row-judged bytes first j a outside bad ho hb h = h ∙ ap₂ rowAnswer ho hb
+pub ruleset row-by-row = (row-no-event, row-outside, row-empty, row-falls, row-right)
 
-pub ruleset row-by-row = (rises-first, rises-next, outside-key, outside-set, bad-empty, bad-falls, row-judged)
+-- row j of a relation, read part by part
+pub row-judged : (bytes : List ℕ) (first j key : ℕ) (events row : Set) (above : Bool) (a : Answer) → events ≡ eventsIn bytes → key ≡ keyIn bytes (first + j)
+    → row ≡ rowIn bytes (first + j) → above ≡ rises bytes first j → a ≡ rowAnswer events key row above → a ≡ judgedRow bytes first j
+row-judged bytes first j key events row above a he hk hr ha h = h ∙ (λ i. rowAnswer (he i) (hk i) (hr i) (ha i))
 
 -- ---- the head
 
@@ -152,6 +152,6 @@ module _ (bytes : List ℕ) (l : Bool) (hl : l ≡ same (take 3 bytes) letters) 
 pub ruleset heads = (head-letters, head-above, head-events, head-marking, head-right)
 
 pub relation-is : (bytes : List ℕ) (r first count : ℕ) (a : Answer) → first ≡ earlierRows bytes r → count ≡ countIn bytes r
-    → a ≡ inTurn (judgedRow bytes first) count 0 → a ≡ judgedRelation bytes r
+    → a ≡ firstRefusal count (judgedRow bytes first) → a ≡ judgedRelation bytes r
 unfolding judgedRelation
-relation-is bytes r first count a e f h = h ∙ ap₂ (λ (x n : ℕ). inTurn (judgedRow bytes x) n 0) e f
+relation-is bytes r first count a e f h = h ∙ ap₂ (λ (x n : ℕ). firstRefusal n (judgedRow bytes x)) e f

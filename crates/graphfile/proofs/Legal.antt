@@ -19,7 +19,7 @@ use Rattle.sets.proofs.Tests.{split, T→true, false→F, non-false, and-i, or-
 use Rattle.sets.proofs.RowLaws.{row-in, put-in}
 use Rattle.engine.specs.Judged.{rowWithin}
 use Rattle.graphfile.specs.Layout.{eventsIn, keyIn, rowIn}
-use Rattle.graphfile.specs.Refusals.{rises, rowOutside, rowBad, judgedRow}
+use Rattle.graphfile.specs.Refusals.{rises, rowAnswer, judgedRow}
 use Rattle.graphfile.specs.Held.{filled}
 use Rattle.sets.proofs.Asking.{went}
 
@@ -119,7 +119,7 @@ module _ (bytes : List ℕ) (first : ℕ) where
   after-last (suc j) a f h = lt-ltb (keyIn bytes (first + j)) (keyIn bytes (first + suc j)) (omega (arith, f j refl))
 
   row-done : (j : ℕ) → LegalRow (eventsIn bytes) bytes (first + j) → rises bytes first j ≡ true → judgedRow bytes first j ≡ Done
-  unfolding judgedRow rowOutside rowBad _or_ non
+  unfolding rowAnswer _or_ non
   row-done j l u =
       rw (T→true (mem (eventsIn bytes) (keyIn bytes (first + j))) (l .event), T→true (within (rowIn bytes (first + j)) (eventsIn bytes)) (l .inside), l .some, u)
 
@@ -129,10 +129,10 @@ module _ (bytes : List ℕ) (first : ℕ) where
 
   module _ (low : (x : ℕ) → T (mem (eventsIn bytes) x) → x < width) where
     row-facts : (j : ℕ) → judgedRow bytes first j ≡ Done → LegalRow (eventsIn bytes) bytes (first + j) × (rises bytes first j ≡ true)
-    unfolding judgedRow rowOutside rowBad
+    unfolding rowAnswer
     row-facts j h =
-        let five = went (rowOutside bytes (first + j)) Outside _ refl h in
-        let six = went (rowBad bytes first j) BadRow Done refl (five .1) in
+        let five = went _ Outside _ refl h in
+        let six = went _ BadRow Done refl (five .1) in
         let inside = neither _ _ (five .0) in
         let event = non-false _ (inside .0) in
         let stands = neither _ _ (six .0) in (

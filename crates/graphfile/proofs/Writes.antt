@@ -18,8 +18,7 @@ use Rattle.engine.specs.declared.graph.Graph.{Graph}
 use Rattle.graphfile.specs.declared.writer.Written.{Written}
 use Rattle.graphfile.specs.Layout.{headLength, rowLength}
 use Rattle.graphfile.specs.Writing.{rowTotal, bytesOf, judgedWrite, writtenOf, bufferAfter}
-use Rattle.graphfile.proofs.Accepted.{code-done}
-use Rattle.graphfile.proofs.Asking.{refused, passed}
+use Rattle.sets.proofs.Asking.{refused, passed, gone-on}
 use Rattle.graphfile.proofs.Stores.{length-file}
 
 -- the result and the buffer, by whether the write is done
@@ -35,7 +34,7 @@ module _ (g : Graph) (out : List ℕ) (b : Bool) (h : isDone (judgedWrite g (len
 module _ (g : Graph) (out : List ℕ) (a : Answer) (d : Bool) (e : a ≡ judged g) (t : d ≡ isDone a) where
   answer-refused : not d ≡ true → a ≡ judgedWrite g (length out)
   unfolding judgedWrite
-  answer-refused n = refused a (judged g) _ d e t n
+  answer-refused n = refused a (judged g) d e t _ n
 
   not-done : not d ≡ true → isDone (judgedWrite g (length out)) ≡ false
   not-done n = ap isDone (sym (answer-refused n)) ∙ sym t ∙ not-true d n
@@ -52,7 +51,7 @@ module _ (g : Graph) (out : List ℕ) (a : Answer) (d : Bool) (e : a ≡ judged 
 
     space-asked : (b : Bool) → ltb (length out) (length (bytesOf g)) ≡ b → judgedWrite g (length out) ≡ when b then BufferTooSmall else Done
     unfolding judgedWrite
-    space-asked b h = passed a (judged g) _ d e t n ∙ ap (λ (x : Bool). when x then BufferTooSmall else Done) h
+    space-asked b h = passed a (judged g) d e t _ n ∙ ap (λ (x : Bool). when x then BufferTooSmall else Done) h
 
     small : length out < len → judgedWrite g (length out) ≡ BufferTooSmall
     small l = space-asked true (lt-ltb (length out) (length (bytesOf g)) (omega (arith, file-len)))
@@ -68,7 +67,7 @@ module _ (g : Graph) (out : List ℕ) (a : Answer) (d : Bool) (e : a ≡ judged 
 
     pub write-done : len ≤ length out → _≡_ {A = Written} (record { answer = a; length = len }) (writtenOf g (length out))
     write-done l =
-        (λ i. record { answer = (e ∙ code-done a (judged g) d e t n ∙ sym (enough l)) i; length = file-len i })
+        (λ i. record { answer = (e ∙ gone-on a (judged g) d e t n ∙ sym (enough l)) i; length = file-len i })
         ∙ sym (written-is g out true (ap isDone (enough l)))
 
     pub done-holds : (out′ : List ℕ) → len ≤ length out → out′ ≡ sets out 0 (bytesOf g) → out′ ≡ bufferAfter g out

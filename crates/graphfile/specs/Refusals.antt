@@ -6,10 +6,11 @@ use lib.Dec.{eqb, ltb}
 use lib.ListN.{length, take}
 use Rattle.sets.specs.Tests.{_and_, _or_, non, when_then_else_}
 use Rattle.sets.specs.Members.{mem, those, isEmpty, within}
+use Rattle.sets.specs.declared.set.Set.{Set}
 use Rattle.sets.specs.declared.answer.Answer.{Answer}
 use Rattle.sets.specs.declared.answer.Answer.the-variants.{Done, TooShort, WrongLetters, AboveLimit, WrongOffset, Outside, BadRow}
 use Rattle.engine.specs.Judged.{markingWithin}
-use Rattle.sets.specs.Answers.{thenAsk}
+use Rattle.sets.specs.Answers.{thenAsk, firstRefusal}
 use Rattle.sets.specs.Sizes.{mostActivities}
 use Rattle.graphfile.specs.Layout.{letters, headLength, rowLength, relationCount, activitiesIn, eventsIn, markingIn, offsetIn, countIn, earlierRows, keyIn, rowIn, endOf}
 
@@ -23,11 +24,6 @@ same [] [] = true
 same [] (y ∷ ys) = false
 same (x ∷ xs) [] = false
 same (x ∷ xs) (y ∷ ys) = eqb x y and same xs ys
-
--- n questions from number i on, each asked where those before it were done: the first refusal
-unfoldable pub inTurn : (ℕ → Answer) → ℕ → ℕ → Answer
-inTurn ask zero i = Done
-inTurn ask (suc n) i = thenAsk (ask i) (inTurn ask n (suc i))
 
 -- 2; 3 for A; 5 for an event not below A, then for the marking
 unfoldable pub judgedHead : List ℕ → Answer
@@ -52,37 +48,33 @@ judgedEnd bytes =
     else when ltb (endOf bytes) (length bytes) then WrongOffset
     else Done
 
+-- all that stands before the rows: 1 under the length of the head; the head; entry by entry; the end
+unfoldable pub judgedBeforeRows : List ℕ → Answer
+judgedBeforeRows bytes =
+    when ltb (length bytes) headLength then TooShort
+    else thenAsk (judgedHead bytes) (thenAsk (firstRefusal relationCount (judgedEntry bytes)) (judgedEnd bytes))
+
 -- the key of a relation's row j is above the one before; a relation's first row has none before it
 unfoldable pub rises : List ℕ → ℕ → ℕ → Bool
 rises bytes first zero = true
 rises bytes first (suc j) = ltb (keyIn bytes (first + j)) (keyIn bytes (first + suc j))
 
--- row k of the file has a key that is no event, or a set outside the events
-unfoldable pub rowOutside : List ℕ → ℕ → Bool
-rowOutside bytes k = non (mem (eventsIn bytes) (keyIn bytes k)) or non (within (rowIn bytes k) (eventsIn bytes))
-
--- row j of the relation whose first row is given is empty, or its key is not above the one before
-unfoldable pub rowBad : List ℕ → ℕ → ℕ → Bool
-rowBad bytes first j = isEmpty (rowIn bytes (first + j)) or non (rises bytes first j)
-
--- 5, then 6
-abbrev pub rowAnswer : Bool → Bool → Answer
-rowAnswer outside bad = when outside then Outside else when bad then BadRow else Done
+-- a row of a key and a set, whose key is above the one before or not: 5 where the key is no event or the set is outside the events,
+-- then 6 where the set is empty or the key not above
+unfoldable pub rowAnswer : Set → ℕ → Set → Bool → Answer
+rowAnswer events key row above =
+    when non (mem events key) or non (within row events) then Outside
+    else when isEmpty row or non above then BadRow
+    else Done
 
 -- row j of the relation whose first row is given
-unfoldable pub judgedRow : List ℕ → ℕ → ℕ → Answer
-judgedRow bytes first j = rowAnswer (rowOutside bytes (first + j)) (rowBad bytes first j)
+abbrev pub judgedRow : List ℕ → ℕ → ℕ → Answer
+judgedRow bytes first j = rowAnswer (eventsIn bytes) (keyIn bytes (first + j)) (rowIn bytes (first + j)) (rises bytes first j)
 
 -- a relation, row by row
 unfoldable pub judgedRelation : List ℕ → ℕ → Answer
-judgedRelation bytes r = inTurn (judgedRow bytes (earlierRows bytes r)) (countIn bytes r) 0
+judgedRelation bytes r = firstRefusal (countIn bytes r) (judgedRow bytes (earlierRows bytes r))
 
--- 1 under the length of the head; the head; entry by entry; the end; row by row
+-- the whole file: what stands before the rows, then relation by relation
 unfoldable pub judgedFile : List ℕ → Answer
-judgedFile bytes =
-    when ltb (length bytes) headLength then TooShort
-    else
-    thenAsk (judgedHead bytes)
-    (thenAsk (inTurn (judgedEntry bytes) relationCount 0)
-    (thenAsk (judgedEnd bytes)
-    (inTurn (judgedRelation bytes) relationCount 0)))
+judgedFile bytes = thenAsk (judgedBeforeRows bytes) (firstRefusal relationCount (judgedRelation bytes))

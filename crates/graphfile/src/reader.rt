@@ -1,12 +1,15 @@
-// The reader: what a file holds.
+// The reader: what a file holds. Each row is judged and put into its relation in one pass, so that its bytes are looked at once.
 ghost use mathlib.Core.Path.{_≡_};
 ghost use Prim.Native.Nat.{_+_, _*_, _≤_, _<_};
 ghost use lib.ListN.{length};
 ghost use Rattle.sets.specs.Rows.{noRows};
-ghost use Rattle.graphfile.specs.Layout.{headLength, rowLength, relationCount, endOf};
-ghost use Rattle.graphfile.specs.Held.{filled, relationIn, graphIn, readOf};
+ghost use Rattle.sets.specs.declared.answer.Answer.the-variants.{Done};
+ghost use Rattle.graphfile.specs.Layout.{headLength, rowLength, relationCount, countIn, earlierRows, endOf};
+ghost use Rattle.sets.specs.Answers.{firstRefusal};
+ghost use Rattle.graphfile.specs.Refusals.{judgedRow, judgedRelation};
+ghost use Rattle.graphfile.specs.Held.{filled, relationIn, readingOf, readOf};
 use crate::layout;
-use crate::refusal::judge;
+use crate::refusal;
 use engine::Graph;
 use sets::Activity;
 use sets::Answer;
@@ -19,49 +22,105 @@ pub struct Reading {
     pub graph: Graph,
 }
 
-// So many rows of the file, each set at its key.
-fn fill(bytes: &[u8], count: usize, first: usize) -> Rows
+// So many rows of the file, each put at its key, up to the first that is refused.
+fn take_rows(bytes: &[u8], count: usize, first: usize, held: &mut Rows) -> Answer
     requires { ⌜ headLength + rowLength * (first + count) ≤ length (now bytes) ⌝ }
-    ensures { λ r. ⌜ r ≡ filled (now (bytes .entry)) noRows count first ⌝ }
+    ensures { λ a. ⌜ a ≡ firstRefusal count (judgedRow (now (bytes .entry)) first) ⌝ }
+    ensures { λ a. ⌜ (a ≡ Done → now (held .exit) ≡ filled (now (bytes .entry)) (now (held .entry)) count first) ⌝ }
 {
-    let mut held = rows::empty();
+    let events = layout::set_at(bytes, layout::EVENTS);
     let mut j = 0;
     while j < count {
         let key = layout::key_in(bytes, first + j);
         let row = layout::row_in(bytes, first + j);
-        rows::put(&mut held, Activity(key), row);
+        let above = refusal::key_rises(bytes, first, j);
+        let answer = refusal::judge_row(events, key, row, above);
+        if !answer.is_done() {
+            return answer;
+        }
+        rows::put(held, Activity(key), row);
         j += 1;
     }
-    held
+    Answer::Done
 }
 
-fn relation_in(bytes: &[u8], r: usize) -> Rows
-    requires { ⌜ (r < relationCount) × (endOf (now bytes) ≤ length (now bytes)) ⌝ }
-    ensures { λ rows. ⌜ rows ≡ relationIn (now (bytes .entry)) r ⌝ }
+// A relation's rows.
+fn take_relation(bytes: &[u8], r: usize, held: &mut Rows) -> Answer
+    requires { ⌜ (r < relationCount) × (endOf (now bytes) ≤ length (now bytes)) × (now held ≡ noRows) ⌝ }
+    ensures { λ a. ⌜ a ≡ judgedRelation (now (bytes .entry)) r ⌝ }
+    ensures { λ a. ⌜ (a ≡ Done → now (held .exit) ≡ relationIn (now (bytes .entry)) r) ⌝ }
 {
     let first = layout::earlier_rows(bytes, r);
     let count = layout::count_in(bytes, r);
-    fill(bytes, count, first)
+    take_rows(bytes, count, first, held)
 }
 
-fn graph_in(bytes: &[u8]) -> Graph
+// The four relations in turn.
+fn take_relations(
+    bytes: &[u8],
+    conditions: &mut Rows,
+    responses: &mut Rows,
+    includes: &mut Rows,
+    excludes: &mut Rows,
+) -> Answer
     requires { ⌜ endOf (now bytes) ≤ length (now bytes) ⌝ }
-    ensures { λ r. ⌜ r ≡ graphIn (now (bytes .entry)) ⌝ }
+    requires { ⌜ (now conditions ≡ noRows) × (now responses ≡ noRows) × (now includes ≡ noRows) × (now excludes ≡ noRows) ⌝ }
+    ensures { λ a. ⌜ a ≡ firstRefusal relationCount (judgedRelation (now (bytes .entry))) ⌝ }
+    ensures { λ a. ⌜ (a ≡ Done → now (conditions .exit) ≡ relationIn (now (bytes .entry)) 0) ⌝ }
+    ensures { λ a. ⌜ (a ≡ Done → now (responses .exit) ≡ relationIn (now (bytes .entry)) 1) ⌝ }
+    ensures { λ a. ⌜ (a ≡ Done → now (includes .exit) ≡ relationIn (now (bytes .entry)) 2) ⌝ }
+    ensures { λ a. ⌜ (a ≡ Done → now (excludes .exit) ≡ relationIn (now (bytes .entry)) 3) ⌝ }
 {
+    let first = take_relation(bytes, 0, conditions);
+    if !first.is_done() {
+        return first;
+    }
+    let second = take_relation(bytes, 1, responses);
+    if !second.is_done() {
+        return second;
+    }
+    let third = take_relation(bytes, 2, includes);
+    if !third.is_done() {
+        return third;
+    }
+    take_relation(bytes, 3, excludes)
+}
+
+// The rows, where all that stands before them was accepted.
+fn take_graph(bytes: &[u8]) -> Reading
+    requires { ⌜ endOf (now bytes) ≤ length (now bytes) ⌝ }
+    ensures { λ r. ⌜ r ≡ readingOf (firstRefusal relationCount (judgedRelation (now (bytes .entry)))) (now (bytes .entry)) ⌝ }
+{
+    let mut conditions = rows::empty();
+    let mut responses = rows::empty();
+    let mut includes = rows::empty();
+    let mut excludes = rows::empty();
+    let answer = take_relations(
+        bytes,
+        &mut conditions,
+        &mut responses,
+        &mut includes,
+        &mut excludes,
+    );
+    if !answer.is_done() {
+        return Reading {
+            answer,
+            graph: Graph::empty(),
+        };
+    }
     let events = layout::set_at(bytes, layout::EVENTS);
     let opening = layout::marking_in(bytes);
-    let conditions = relation_in(bytes, 0);
-    let responses = relation_in(bytes, 1);
-    let includes = relation_in(bytes, 2);
-    let excludes = relation_in(bytes, 3);
-    Graph {
-        activities: bytes[3],
-        events,
-        opening,
-        conditions,
-        responses,
-        includes,
-        excludes,
+    Reading {
+        answer,
+        graph: Graph {
+            activities: bytes[3],
+            events,
+            opening,
+            conditions,
+            responses,
+            includes,
+            excludes,
+        },
     }
 }
 
@@ -69,15 +128,12 @@ fn graph_in(bytes: &[u8]) -> Graph
 pub fn read(bytes: &[u8]) -> Reading
     ensures { λ r. ⌜ r ≡ readOf (now (bytes .entry)) ⌝ }
 {
-    let answer = judge(bytes);
+    let answer = refusal::judge_before_rows(bytes);
     if !answer.is_done() {
         return Reading {
             answer,
             graph: Graph::empty(),
         };
     }
-    Reading {
-        answer,
-        graph: graph_in(bytes),
-    }
+    take_graph(bytes)
 }

@@ -1,9 +1,10 @@
-// The refusals of a graph file, in 01's order.
+// The refusals of a graph file, in 01's order: of all that stands before the rows, and of one row. The reader goes from row to row.
 ghost use mathlib.Core.Path.{_≡_};
 ghost use Prim.Native.Nat.{_+_, _*_, _≤_, _<_};
 ghost use lib.ListN.{length};
-ghost use Rattle.graphfile.specs.Layout.{headLength, rowLength, relationCount, endOf};
-ghost use Rattle.graphfile.specs.Refusals.{inTurn, judgedHead, judgedEntry, judgedEnd, rises, rowOutside, rowBad, rowAnswer, judgedRow, judgedRelation, judgedFile};
+ghost use Rattle.graphfile.specs.Layout.{headLength, rowLength, relationCount};
+ghost use Rattle.sets.specs.Answers.{firstRefusal};
+ghost use Rattle.graphfile.specs.Refusals.{judgedHead, judgedEntry, judgedEnd, judgedBeforeRows, rises, rowAnswer};
 use crate::layout;
 use engine::judge::marking_within;
 use sets::Activity;
@@ -49,7 +50,7 @@ fn judge_entry(bytes: &[u8], r: usize) -> Answer
 
 fn judge_entries(bytes: &[u8]) -> Answer
     requires { ⌜ headLength ≤ length (now bytes) ⌝ }
-    ensures { λ a. ⌜ a ≡ inTurn (judgedEntry (now (bytes .entry))) relationCount 0 ⌝ }
+    ensures { λ a. ⌜ a ≡ firstRefusal relationCount (judgedEntry (now (bytes .entry))) ⌝ }
 {
     let mut r = 0;
     while r < layout::RELATIONS {
@@ -77,7 +78,7 @@ fn judge_end(bytes: &[u8]) -> Answer
 }
 
 // Whether a relation's row j has a key above the one before; the first row has none before it.
-fn key_rises(bytes: &[u8], first: usize, j: usize) -> bool
+pub(crate) fn key_rises(bytes: &[u8], first: usize, j: usize) -> bool
     requires { ⌜ headLength + rowLength * (first + j) < length (now bytes) ⌝ }
     ensures { λ r. ⌜ r ≡ rises (now (bytes .entry)) first j ⌝ }
 {
@@ -88,93 +89,28 @@ fn key_rises(bytes: &[u8], first: usize, j: usize) -> bool
     before < layout::key_in(bytes, first + j)
 }
 
-// Whether the key of row k is no event, or its set is outside the events.
-fn row_outside(bytes: &[u8], k: usize) -> bool
-    requires { ⌜ headLength + rowLength * k + rowLength ≤ length (now bytes) ⌝ }
-    ensures { λ r. ⌜ r ≡ rowOutside (now (bytes .entry)) k ⌝ }
+// A row, by its key and its set: 5, then 6.
+pub(crate) fn judge_row(events: Set, key: u8, row: Set, above: bool) -> Answer
+    ensures { λ a. ⌜ a ≡ rowAnswer events key row above ⌝ }
 {
-    let events = layout::set_at(bytes, layout::EVENTS);
-    if !events.has(Activity(layout::key_in(bytes, k))) {
-        return true;
-    }
-    !layout::row_in(bytes, k).is_within(events)
-}
-
-// Whether a relation's row j is empty, or its key is not above the one before.
-fn row_bad(bytes: &[u8], first: usize, j: usize) -> bool
-    requires { ⌜ headLength + rowLength * (first + j) + rowLength ≤ length (now bytes) ⌝ }
-    ensures { λ r. ⌜ r ≡ rowBad (now (bytes .entry)) first j ⌝ }
-{
-    if layout::row_in(bytes, first + j).is_empty() {
-        return true;
-    }
-    !key_rises(bytes, first, j)
-}
-
-// The answer to a row: 5 before 6.
-fn row_answer(outside: bool, bad: bool) -> Answer
-    ensures { λ a. ⌜ a ≡ rowAnswer outside bad ⌝ }
-{
-    if outside {
+    if !events.has(Activity(key)) {
         return Answer::Outside;
     }
-    if bad {
+    if !row.is_within(events) {
+        return Answer::Outside;
+    }
+    if row.is_empty() {
+        return Answer::BadRow;
+    }
+    if !above {
         return Answer::BadRow;
     }
     Answer::Done
 }
 
-fn judge_row(bytes: &[u8], first: usize, j: usize) -> Answer
-    requires { ⌜ headLength + rowLength * (first + j) + rowLength ≤ length (now bytes) ⌝ }
-    ensures { λ a. ⌜ a ≡ judgedRow (now (bytes .entry)) first j ⌝ }
-{
-    let outside = row_outside(bytes, first + j);
-    let bad = row_bad(bytes, first, j);
-    row_answer(outside, bad)
-}
-
-fn judge_rows(bytes: &[u8], first: usize, count: usize) -> Answer
-    requires { ⌜ headLength + rowLength * (first + count) ≤ length (now bytes) ⌝ }
-    ensures { λ a. ⌜ a ≡ inTurn (judgedRow (now (bytes .entry)) first) count 0 ⌝ }
-{
-    let mut j = 0;
-    while j < count {
-        let answer = judge_row(bytes, first, j);
-        if !answer.is_done() {
-            return answer;
-        }
-        j += 1;
-    }
-    Answer::Done
-}
-
-fn judge_relation(bytes: &[u8], r: usize) -> Answer
-    requires { ⌜ (r < relationCount) × (endOf (now bytes) ≤ length (now bytes)) ⌝ }
-    ensures { λ a. ⌜ a ≡ judgedRelation (now (bytes .entry)) r ⌝ }
-{
-    let first = layout::earlier_rows(bytes, r);
-    let count = layout::count_in(bytes, r);
-    judge_rows(bytes, first, count)
-}
-
-fn judge_relations(bytes: &[u8]) -> Answer
-    requires { ⌜ endOf (now bytes) ≤ length (now bytes) ⌝ }
-    ensures { λ a. ⌜ a ≡ inTurn (judgedRelation (now (bytes .entry))) relationCount 0 ⌝ }
-{
-    let mut r = 0;
-    while r < layout::RELATIONS {
-        let answer = judge_relation(bytes, r);
-        if !answer.is_done() {
-            return answer;
-        }
-        r += 1;
-    }
-    Answer::Done
-}
-
-// The file's answer.
-pub fn judge(bytes: &[u8]) -> Answer
-    ensures { λ a. ⌜ a ≡ judgedFile (now (bytes .entry)) ⌝ }
+// All that stands before the rows: the head, entry by entry, then the end.
+pub(crate) fn judge_before_rows(bytes: &[u8]) -> Answer
+    ensures { λ a. ⌜ a ≡ judgedBeforeRows (now (bytes .entry)) ⌝ }
 {
     if bytes.len() < layout::HEAD {
         return Answer::TooShort;
@@ -187,9 +123,5 @@ pub fn judge(bytes: &[u8]) -> Answer
     if !entries.is_done() {
         return entries;
     }
-    let end = judge_end(bytes);
-    if !end.is_done() {
-        return end;
-    }
-    judge_relations(bytes)
+    judge_end(bytes)
 }

@@ -9,13 +9,22 @@ use lib.ListN.{length}
 use Rattle.sets.specs.Tests.{when_then_else_}
 use Rattle.sets.specs.Answers.{numberOf, isDone}
 use Rattle.sets.specs.declared.answer.Answer.{Answer}
-use Rattle.sets.specs.declared.answer.Answer.the-variants.{BufferTooSmall}
-use Rattle.engine.specs.Replay.{replayOf, steppedOf}
+use Rattle.sets.specs.declared.answer.Answer.the-variants.{Done, AboveLimit, BufferTooSmall}
+use Rattle.sets.specs.Sizes.{longestTrace}
+use Rattle.sets.proofs.Asking.{gone-on}
+use Rattle.engine.specs.Markings.{emptyMarking}
+use Rattle.engine.specs.Relations.{relationsOf, emptyGraph}
+use Rattle.engine.specs.Judged.{judged}
+use Rattle.engine.specs.Replay.{ending, replayFrom, replayOf, steppedOf}
+use Rattle.engine.proofs.Acceptable.{replay-judged, replay-long}
 use Rattle.engine.specs.declared.marking.Marking.{Marking}
 use Rattle.engine.specs.declared.step.Stepped.{Stepped}
 use Rattle.engine.specs.declared.graph.Graph.{Graph}
 use Rattle.engine.specs.declared.replay.Replayed.{Replayed}
-use Rattle.graphfile.specs.Held.{readOf}
+use Rattle.graphfile.specs.Refusals.{judgedFile}
+use Rattle.graphfile.specs.Held.{graphIn, readOf}
+use Rattle.graphfile.proofs.Codec.{Bytes}
+use Rattle.graphfile.proofs.RoundTrips.{file-graph}
 use Rattle.graphfile.specs.Writing.{writtenOf, bufferAfter}
 use Rattle.graphfile.specs.declared.reader.Reading.{Reading}
 use Rattle.graphfile.specs.declared.writer.Written.{Written}
@@ -76,6 +85,24 @@ listing-number m m′ n e h = h ∙ ap (λ (x : Listed). packedOf (x .answer) (x
 
 -- ---- a replay
 
+-- the graph that was read was judged by reading it
+pub read-judged : (file : List ℕ) (r : Reading) (d : Bool) → Bytes file → r ≡ readOf file → d ≡ isDone (r .answer) → not d ≡ false → judged (r .graph) ≡ Done
+unfolding readOf
+read-judged file r d small hr hd n =
+    let ok : judgedFile file ≡ Done = gone-on (r .answer) (judgedFile file) d (ap (λ (x : Reading). x .answer) hr) hd n in
+    ap (λ (x : Reading). judged (x .graph)) hr
+    ∙ ap (λ (a : Answer). judged (when isDone a then graphIn file else emptyGraph)) ok
+    ∙ file-graph file small ok
+
+module _ (g : Graph) (trace : List ℕ) where
+  pub too-long : longestTrace < length trace → ending AboveLimit 0 emptyMarking false ≡ replayOf g trace
+  too-long l = sym (replay-long g trace l)
+
+  pub as-judged : judged g ≡ Done → (p : Replayed) → length trace ≤ longestTrace → p ≡ replayFrom (g .events) (relationsOf g) (g .opening) 0 trace → p ≡ replayOf g trace
+  as-judged ok p l e = e ∙ sym (replay-judged g ok trace l)
+
+pub ruleset judged-replay = (too-long, as-judged)
+
 module _ (file trace : List ℕ) (r : Reading) (hr : r ≡ readOf file) (d : Bool) (hd : d ≡ isDone (r .answer)) where
   file-done : (t : Bool) → d ≡ t → isDone (readOf file .answer) ≡ t
   file-done t h = sym (ap (λ (x : Reading). isDone (x .answer)) hr) ∙ sym hd ∙ h
@@ -92,8 +119,8 @@ module _ (file trace : List ℕ) (r : Reading) (hr : r ≡ readOf file) (d : Boo
   replay-refused n h e = e ∙ ap (λ (x : Reading). packedOf (x .answer) 0) hr ∙ sym (ap shown (file-done false (not-true d h)))
 
   module _ (p : Replayed) (hp : p ≡ replayOf (r .graph) trace) (h : not d ≡ false) where
-    ending : p ≡ replayOf (readOf file .graph) trace
-    ending = hp ∙ ap (λ (x : Reading). replayOf (x .graph) trace) hr
+    the-replay : p ≡ replayOf (readOf file .graph) trace
+    the-replay = hp ∙ ap (λ (x : Reading). replayOf (x .graph) trace) hr
 
     add : ℕ → Replayed → ℕ
     add low x = low + (when x .accepting then 2 ^ 32 else 0)
@@ -103,7 +130,7 @@ module _ (file trace : List ℕ) (r : Reading) (hr : r ≡ readOf file) (d : Boo
     replay-accepting low e y =
         ap (λ (t : Bool). low + (when t then 2 ^ 32 else 0)) (sym y)
         ∙ ap (λ (x : ℕ). add x p) e
-        ∙ ap (λ (x : Replayed). add (packedOf (x .answer) (x .place .0)) x) ending
+        ∙ ap (λ (x : Replayed). add (packedOf (x .answer) (x .place .0)) x) the-replay
         ∙ sym (ap shown (file-done true (not-false d h)))
 
     pub replay-other : (low : ℕ) → low ≡ packedOf (p .answer) (p .place .0) → p .accepting ≡ false → low ≡ replayNumber file trace
@@ -113,7 +140,7 @@ module _ (file trace : List ℕ) (r : Reading) (hr : r ≡ readOf file) (d : Boo
         same
         ∙ ap (λ (t : Bool). low + (when t then 2 ^ 32 else 0)) (sym y)
         ∙ ap (λ (x : ℕ). add x p) e
-        ∙ ap (λ (x : Replayed). add (packedOf (x .answer) (x .place .0)) x) ending
+        ∙ ap (λ (x : Replayed). add (packedOf (x .answer) (x .place .0)) x) the-replay
         ∙ sym (ap shown (file-done true (not-false d h)))
 
 pub ruleset replaying = (replay-refused, replay-accepting, replay-other)

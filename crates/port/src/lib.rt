@@ -6,11 +6,16 @@ ghost use lib.ListN.{length};
 ghost use Rattle.port.specs.Port.{packedOf, putNumber, putBuffer, mineNumber, mineBuffer, rewriteNumber, rewriteBuffer, replayNumber, listingNumber, stepOf, stepBytes};
 ghost use Rattle.report.specs.Listing.{bufferAfter};
 ghost use Rattle.sets.specs.Answers.{numberOf};
+ghost use Rattle.sets.specs.declared.answer.Answer.the-variants.{Done};
+ghost use Rattle.engine.specs.Judged.{judged};
+ghost use Rattle.engine.specs.Replay.{replayOf};
 use engine::Graph;
 use engine::Marking;
+use engine::Replayed;
 use engine::Stepped;
 use sets::Activity;
 use sets::Answer;
+use sets::Place;
 
 // The number, and a length or place above it: 256 times. No length or place here reaches the 24 bits that it has.
 fn packed(answer: Answer, n: usize) -> u64
@@ -69,6 +74,30 @@ pub extern "C" fn skelfora_rewrite(file: &[u8], out: &mut [u8]) -> u64
     put(answer, g, out)
 }
 
+// A replay on a graph that was judged already, as one that was read was: what is left to judge is the length of the trace.
+fn replayed(g: Graph, trace: &[u8]) -> Replayed
+    requires { ⌜ judged g ≡ Done ⌝ }
+    ensures { λ r. ⌜ r ≡ replayOf g (now (trace .entry)) ⌝ }
+{
+    if Place::LIMIT < trace.len() {
+        return Replayed {
+            answer: Answer::AboveLimit,
+            place: Place::FIRST,
+            marking: Marking::EMPTY,
+            accepting: false,
+        };
+    }
+    engine::replay::run(
+        g.events,
+        &g.conditions,
+        &g.responses,
+        &g.includes,
+        &g.excludes,
+        g.opening,
+        trace,
+    )
+}
+
 // Replays a trace on the graph of a file: the number, the place, and 2^32 where it ends accepting.
 #[no_mangle]
 pub extern "C" fn skelfora_replay(file: &[u8], trace: &[u8]) -> u64
@@ -80,7 +109,7 @@ pub extern "C" fn skelfora_replay(file: &[u8], trace: &[u8]) -> u64
         return packed(answer, 0);
     }
     let g = r.graph;
-    let p = engine::replay::replay(g, trace);
+    let p = replayed(g, trace);
     let a = p.answer;
     let place = p.place.0;
     let low = packed(a, place);

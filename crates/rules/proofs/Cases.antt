@@ -13,7 +13,8 @@ use Rattle.engine.specs.Judged.{markingWithin, rowWithin, rowsWithin, relations
 use Rattle.engine.specs.Replay.{enabledOf, steppedOf, replayFrom, replayOf}
 use Rattle.engine.proofs.Examples.{table3, table3-before, table3-after}
 use Rattle.calllog.specs.Layout.{opensWith, numberAt, activitiesIn, tracesIn, offsetAt, lengthAt, bodiesStart, eventsBefore}
-use Rattle.calllog.specs.Judged.{firstRefusal, allBelow, judgedHead, judgedEntry, judgedBodies, judgedContents, judgedLog}
+use Rattle.sets.specs.Answers.{firstRefusal}
+use Rattle.calllog.specs.Judged.{allBelow, judgedHead, judgedEntry, judgedBodies, judgedContents, judgedLog}
 use Rattle.calllog.specs.Logs.{tracesFrom, logOf}
 use Rattle.rules.specs.Traces.{Traces, _has_, _beginsWith_, atEachFrom, atSomeFrom, everyTrace, someTrace}
 use Rattle.rules.specs.Mining.{noPair, noRelations, smallestSource, _without_, event, someEvent, _with_, atMostOnce, precedes, answers, chained, together, before, followed, between, alternates, beforeFirst, step1, step2, directlyBefore, step3, neverTogether, step4, closes, step5, step6, step7, reduced, step8, includedAfter, neverMissed, step9, step10, afterFive, afterSeven, afterEight, mined}

@@ -5,3 +5,4 @@ pub mod Below
 pub mod Members
 pub mod RowLaws
 pub mod Asking
+pub mod Order

@@ -1,5 +1,5 @@
 use borrow.Author.Needs.{needs}
-use Rattle.port.proofs.Packing.{replaying}
+use Rattle.port.proofs.Packing.{replaying, read-judged}
 use Rattle.port.proofs.skelfora_replay.Statement.{statement}
 use Rattle.port.proofs.skelfora_replay.Tie as tie
 
@@ -15,8 +15,11 @@ packed-requires c κs = search needs
 returns : tie.Need-returns
 returns c = search (replaying, needs)
 
-replay-requires : tie.Need-replay-requires
-replay-requires c κs = search needs
+replayed-requires : tie.Need-replayed-requires
+replayed-requires c κs =
+    let left = c .before in
+    let r = left .before .before in
+    read-judged _ _ _ (λ k. r .before .before .shared-slice-known .given k .fits) (r .read .ensures) (left .before .is-done .ensures) (left .if1 .left)
 
 packed-requires-2 : tie.Need-packed-requires-2
 packed-requires-2 c κs = search needs
@@ -38,7 +41,7 @@ skelfora-replay-spec =
     is-done-requires
     packed-requires
     returns
-    replay-requires
+    replayed-requires
     packed-requires-2
     add-result
     returns-2

@@ -1,5 +1,6 @@
 use borrow.Author.Needs.{needs}
 use Rattle.calllog.proofs.Given.{judging}
+use Rattle.calllog.proofs.Accepted.{entries-there}
 use Rattle.calllog.proofs.judge.judge.Statement.{statement}
 use Rattle.calllog.proofs.judge.judge.Tie as tie
 
@@ -13,7 +14,7 @@ returns : tie.Need-returns
 returns c = search (judging, needs)
 
 judge-contents-requires : tie.Need-judge-contents-requires
-judge-contents-requires c κs = search needs
+judge-contents-requires c κs = search (entries-there, needs)
 
 returns-2 : tie.Need-returns-2
 returns-2 c = search (judging, needs)

@@ -1,8 +1,9 @@
 use Rattle.sets.specs.declared.answer.Answer.the-variants.{Done}
 use Rattle.calllog.specs.Layout.{tracesIn, eventsBefore}
 use Rattle.sets.specs.Sizes.{mostEvents}
-use Rattle.calllog.specs.Judged.{firstRefusal, entryOf}
-use Rattle.calllog.proofs.Contents.{turns}
+use Rattle.sets.specs.Answers.{firstRefusal}
+use Rattle.calllog.specs.Judged.{entryOf}
+use Rattle.calllog.proofs.Contents.{contents}
 use Prim.Native.Nat.{_-_, _≤_}
 use mathlib.Core.Path.{_≡_}
 use borrow.Author.Needs.{needs}
@@ -19,8 +20,8 @@ traces-requires : tie.Need-traces-requires Inv-loop μ-loop
 traces-requires c κs = search needs
 
 loop-holds : tie.Need-loop-holds Inv-loop μ-loop
-unfolding eventsBefore firstRefusal
-loop-holds c = search needs
+unfolding eventsBefore
+loop-holds c = search (contents, needs)
 
 length-requires : tie.Need-length-requires Inv-loop μ-loop
 length-requires c κs = search needs
@@ -35,13 +36,13 @@ is-done-requires : tie.Need-is-done-requires Inv-loop μ-loop
 is-done-requires c κs = search needs
 
 returns : tie.Need-returns Inv-loop μ-loop
-returns c = search (turns, needs)
+returns c = search (contents, needs)
 
 cast-events : tie.Need-cast-events Inv-loop μ-loop
 cast-events c = search needs
 
 add-events : tie.Need-add-events Inv-loop μ-loop
-add-events c = search (turns, needs)
+add-events c = search (contents, needs)
 
 add-k : tie.Need-add-k Inv-loop μ-loop
 add-k c = search needs
@@ -50,13 +51,13 @@ loop-less : tie.Need-loop-less Inv-loop μ-loop
 loop-less c = search needs
 
 loop-again : tie.Need-loop-again Inv-loop μ-loop
-loop-again c = search (turns, needs)
+loop-again c = search (contents, needs)
 
 judge-bodies-requires : tie.Need-judge-bodies-requires Inv-loop μ-loop
 judge-bodies-requires c κs = search needs
 
 returns-2 : tie.Need-returns-2 Inv-loop μ-loop
-returns-2 c = search (turns, needs)
+returns-2 c = search (contents, needs)
 
 pub judge-contents-spec : {M : Type 1} → statement M
 judge-contents-spec =

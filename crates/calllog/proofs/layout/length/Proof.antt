@@ -1,4 +1,4 @@
-use Rattle.calllog.specs.Layout.{lengthAt}
+use Rattle.calllog.specs.Layout.{bodiesStart, lengthAt}
 use borrow.Author.Needs.{needs}
 use Rattle.calllog.proofs.layout.length.Statement.{statement}
 use Rattle.calllog.proofs.layout.length.Tie as tie
@@ -9,15 +9,17 @@ mul-entry c = search needs
 add-entry : tie.Need-add-entry
 add-entry c = search needs
 
-add-number-at : tie.Need-add-number-at
-add-number-at c = search needs
+add-present-number : tie.Need-add-present-number
+add-present-number c = search needs
 
-number-at-requires : tie.Need-number-at-requires
-number-at-requires c κs = search needs
+present-number-requires : tie.Need-present-number-requires
+unfolding bodiesStart
+present-number-requires c κs = search (needs)
 
 returns : tie.Need-returns
 unfolding lengthAt
-returns c = c .number-at .ensures
+returns c = c .present-number .ensures
 
 pub length-spec : {M : Type 1} → statement M
-length-spec = tie.close (tie.spec mul-entry add-entry add-number-at number-at-requires returns)
+length-spec =
+    tie.close (tie.spec mul-entry add-entry add-present-number present-number-requires returns)

@@ -1,4 +1,4 @@
-use Rattle.calllog.specs.Layout.{offsetAt}
+use Rattle.calllog.specs.Layout.{bodiesStart, offsetAt}
 use borrow.Author.Needs.{needs}
 use Rattle.calllog.proofs.layout.offset.Statement.{statement}
 use Rattle.calllog.proofs.layout.offset.Tie as tie
@@ -9,12 +9,13 @@ mul-entry c = search needs
 add-entry : tie.Need-add-entry
 add-entry c = search needs
 
-number-at-requires : tie.Need-number-at-requires
-number-at-requires c κs = search needs
+present-number-requires : tie.Need-present-number-requires
+unfolding bodiesStart
+present-number-requires c κs = search (needs)
 
 returns : tie.Need-returns
 unfolding offsetAt
-returns c = c .number-at .ensures
+returns c = c .present-number .ensures
 
 pub offset-spec : {M : Type 1} → statement M
-offset-spec = tie.close (tie.spec mul-entry add-entry number-at-requires returns)
+offset-spec = tie.close (tie.spec mul-entry add-entry present-number-requires returns)

@@ -1,14 +1,16 @@
 use Prim.Native.Nat.{_-_, _≤_}
 use mathlib.Core.Path.{_≡_}
 use Rattle.graphfile.specs.Layout.{relationCount}
-use Rattle.graphfile.specs.Refusals.{inTurn, judgedEntry}
-use Rattle.graphfile.proofs.Asking.{turns}
+use Rattle.sets.specs.Answers.{firstRefusal}
+use Rattle.sets.specs.declared.answer.Answer.the-variants.{Done}
+use Rattle.sets.proofs.Order.{turns}
+use Rattle.graphfile.specs.Refusals.{judgedEntry}
 use borrow.Author.Needs.{needs}
 use Rattle.graphfile.proofs.refusal.judge_entries.Statement.{statement}
 use Rattle.graphfile.proofs.refusal.judge_entries.Tie as tie
 
 abbrev Inv-loop : tie.InvT-loop
-Inv-loop bytes r₀ r = (r ≤ relationCount) × (inTurn (judgedEntry bytes) (relationCount - r) r ≡ inTurn (judgedEntry bytes) relationCount 0)
+Inv-loop bytes r₀ r = (r ≤ relationCount) × (firstRefusal r (judgedEntry bytes) ≡ Done)
 
 abbrev μ-loop : tie.MeasureT-loop
 μ-loop bytes r₀ r = relationCount - r

@@ -1,24 +1,41 @@
-use borrow.Author.Needs.{needs}
 use Rattle.graphfile.proofs.Judging.{row-by-row}
+use borrow.Author.Needs.{needs}
 use Rattle.graphfile.proofs.refusal.judge_row.Statement.{statement}
 use Rattle.graphfile.proofs.refusal.judge_row.Tie as tie
 
-add-row-outside : tie.Need-add-row-outside
-add-row-outside c = search needs
-
-row-outside-requires : tie.Need-row-outside-requires
-row-outside-requires c κs = search needs
-
-row-bad-requires : tie.Need-row-bad-requires
-row-bad-requires c κs = search needs
-
-row-answer-requires : tie.Need-row-answer-requires
-row-answer-requires c κs = search needs
+has-requires : tie.Need-has-requires
+has-requires c κs = search needs
 
 returns : tie.Need-returns
 returns c = search (row-by-row, needs)
 
+is-within-requires : tie.Need-is-within-requires
+is-within-requires c κs = search needs
+
+returns-2 : tie.Need-returns-2
+returns-2 c = search (row-by-row, needs)
+
+is-empty-requires : tie.Need-is-empty-requires
+is-empty-requires c κs = search needs
+
+returns-3 : tie.Need-returns-3
+returns-3 c = search (row-by-row, needs)
+
+returns-4 : tie.Need-returns-4
+returns-4 c = search (row-by-row, needs)
+
+returns-5 : tie.Need-returns-5
+returns-5 c = search (row-by-row, needs)
+
 pub judge-row-spec : {M : Type 1} → statement M
 judge-row-spec =
     tie.close
-    (tie.spec add-row-outside row-outside-requires row-bad-requires row-answer-requires returns)
+    (tie.spec
+    has-requires
+    returns
+    is-within-requires
+    returns-2
+    is-empty-requires
+    returns-3
+    returns-4
+    returns-5)

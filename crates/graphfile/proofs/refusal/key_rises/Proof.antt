@@ -1,10 +1,10 @@
+use Rattle.graphfile.proofs.Judging.{keys}
 use borrow.Author.Needs.{needs}
-use Rattle.graphfile.proofs.Judging.{row-by-row}
 use Rattle.graphfile.proofs.refusal.key_rises.Statement.{statement}
 use Rattle.graphfile.proofs.refusal.key_rises.Tie as tie
 
 returns : tie.Need-returns
-returns c = search (row-by-row, needs)
+returns c = search (keys, needs)
 
 add-key-in : tie.Need-add-key-in
 add-key-in c = search needs
@@ -22,7 +22,7 @@ key-in-requires-2 : tie.Need-key-in-requires-2
 key-in-requires-2 c κs = search needs
 
 returns-2 : tie.Need-returns-2
-returns-2 c = search (row-by-row, needs)
+returns-2 c = search (keys, needs)
 
 pub key-rises-spec : {M : Type 1} → statement M
 key-rises-spec =
