@@ -6,7 +6,7 @@ use Prim.Native.Nat.{ℕ, suc, _+_, _-_, _≤_, _<_}
 use native.Mathlib.Nat.{sub-zero, add-zero}
 use native.Mathlib.Omega.{arith}
 use lib.Dec.{lit<}
-use borrow.Author.Tests.{not-true, not-false}
+use lib.ListN.{length}
 use Rattle.sets.specs.Tests.{when_then_else_}
 use Rattle.sets.specs.Rows.{noRows, withRow}
 use Rattle.sets.specs.Answers.{isDone, firstRefusal}
@@ -16,12 +16,14 @@ use Rattle.sets.specs.declared.answer.Answer.the-variants.{Done}
 use Rattle.sets.proofs.Asking.{done-is, refused, passed, never-done}
 use Rattle.sets.proofs.Order.{refusal-last, turns-begin, turn-passed, turn-refused, turns-end}
 use Rattle.graphfile.proofs.Judging.{row-judged}
+use Rattle.graphfile.proofs.Accepted.{accepted}
+use Rattle.engine.specs.Markings.{noSet, emptyMarking}
 use Rattle.engine.specs.declared.marking.Marking.{Marking}
 use Rattle.engine.specs.declared.graph.Graph.{Graph}
 use Rattle.graphfile.specs.declared.reader.Reading.{Reading}
-use Rattle.graphfile.specs.Layout.{relationCount, activitiesIn, eventsIn, markingIn, countIn, earlierRows, keyIn, rowIn}
+use Rattle.graphfile.specs.Layout.{headLength, relationCount, activitiesIn, eventsIn, markingIn, countIn, earlierRows, keyIn, rowIn}
 use Rattle.graphfile.specs.Refusals.{rises, rowAnswer, judgedRow, judgedBeforeRows, judgedRelation, judgedFile}
-use Rattle.graphfile.specs.Held.{filled, relationIn, graphIn, readingOf, readOf}
+use Rattle.graphfile.specs.Held.{filled, relationIn, graphIn, readOf}
 use Rattle.engine.specs.Relations.{graphOf, emptyGraph}
 
 -- ---- row by row: what is left to fill in, filled in, gives the whole
@@ -101,37 +103,39 @@ module _ (bytes : List ℕ) (a₀ : Answer) (d₀ : Bool) (e₀ : a₀ ≡ judge
       pub stops-3 : not d₂ ≡ false → (a₃ : Answer) → a₃ ≡ judgedRelation bytes 3 → a₃ ≡ firstRefusal relationCount (judgedRelation bytes)
       stops-3 n₂ a₃ e₃ = e₃ ∙ sym (refusal-last (judgedRelation bytes) 3 (turn-passed (judgedRelation bytes) 2 a₂ d₂ e₂ t₂ two n₂))
 
--- ---- what is read, by the answer
-
-module _ (bytes : List ℕ) (a x : Answer) (d : Bool) (e : a ≡ x) (t : d ≡ isDone a) where
-  said : (b : Bool) → d ≡ b → isDone x ≡ b
-  said b h = ap isDone (sym e) ∙ sym t ∙ h
-
-  reading : (b : Bool) (g : Graph) → d ≡ b → g ≡ when b then graphIn bytes else emptyGraph → _≡_ {A = Reading} (record { answer = a; graph = g }) (readingOf x bytes)
-  reading b g q h = λ i. record { answer = e i; graph = (h ∙ ap (λ (y : Bool). when y then graphIn bytes else emptyGraph) (sym (said b q))) i }
-
-  pub reading-refused : (g : Graph) → not d ≡ true → g ≡ emptyGraph → _≡_ {A = Reading} (record { answer = a; graph = g }) (readingOf x bytes)
-  reading-refused g n h = reading false g (not-true d n) h
-
-  pub reading-taken : (s : Set) (m : Marking) (c r i u : List ℕ) → not d ≡ false → s ≡ eventsIn bytes → m ≡ markingIn bytes
-      → (a ≡ Done → c ≡ relationIn bytes 0) → (a ≡ Done → r ≡ relationIn bytes 1) → (a ≡ Done → i ≡ relationIn bytes 2) → (a ≡ Done → u ≡ relationIn bytes 3)
-      → _≡_ {A = Reading} (record { answer = a; graph = graphOf (activitiesIn bytes) s m c r i u }) (readingOf x bytes)
-  unfolding graphIn
-  reading-taken s m c r i u n hs hm hc hr hi hu =
-      let done = done-is a (sym t ∙ not-false d n) in
-      reading true _ (not-false d n) (λ k. graphOf (activitiesIn bytes) (hs k) (hm k) (hc done k) (hr done k) (hi done k) (hu done k))
-
-pub ruleset readings = (reading-refused, reading-taken)
-
--- ---- a read
+-- ---- the whole file
 
 module _ (bytes : List ℕ) (a : Answer) (d : Bool) (e : a ≡ judgedBeforeRows bytes) (t : d ≡ isDone a) where
-  pub read-refused : (g : Graph) → not d ≡ true → g ≡ emptyGraph → _≡_ {A = Reading} (record { answer = a; graph = g }) (readOf bytes)
-  unfolding readOf judgedFile
-  read-refused g n h = reading-refused bytes a (judgedFile bytes) d (refused a (judgedBeforeRows bytes) d e t _ n) t g n h
+  pub front-stops : not d ≡ true → a ≡ judgedFile bytes
+  unfolding judgedFile
+  front-stops n = refused a (judgedBeforeRows bytes) d e t _ n
 
-  pub read-on : (r : Reading) → not d ≡ false → r ≡ readingOf (firstRefusal relationCount (judgedRelation bytes)) bytes → r ≡ readOf bytes
-  unfolding readOf judgedFile
-  read-on r n h = h ∙ ap (λ (x : Answer). readingOf x bytes) (sym (passed a (judgedBeforeRows bytes) d e t _ n))
+  pub rows-follow : not d ≡ false → (x : Answer) → x ≡ firstRefusal relationCount (judgedRelation bytes) → x ≡ judgedFile bytes
+  unfolding judgedFile
+  rows-follow n x h = h ∙ sym (passed a (judgedBeforeRows bytes) d e t _ n)
 
-pub ruleset reads = (read-refused, read-on)
+-- ---- what is read, by the answer
+
+module _ (bytes : List ℕ) (a : Answer) (d : Bool) (e : a ≡ judgedFile bytes) (t : d ≡ isDone a) where
+  reading : (b : Bool) (g : Graph) → d ≡ b → g ≡ when b then graphIn bytes else emptyGraph → _≡_ {A = Reading} (record { answer = a; graph = g }) (readOf bytes)
+  unfolding readOf
+  reading b g q h =
+      let said : isDone (judgedFile bytes) ≡ b = ap isDone (sym e) ∙ sym t ∙ q in
+      λ i. record { answer = e i; graph = (h ∙ ap (λ (y : Bool). when y then graphIn bytes else emptyGraph) (sym said)) i }
+
+  pub read-long : d ≡ true → headLength ≤ length bytes
+  read-long y = accepted bytes (sym e ∙ done-is a (sym t ∙ y)) .long
+
+  module _ (c r i x : List ℕ) where
+    pub read-refused : d ≡ false → c ≡ noRows → r ≡ noRows → i ≡ noRows → x ≡ noRows
+        → _≡_ {A = Reading} (record { answer = a; graph = graphOf 0 noSet emptyMarking c r i x }) (readOf bytes)
+    read-refused n hc hr hi hx = reading false _ n (λ k. graphOf 0 noSet emptyMarking (hc k) (hr k) (hi k) (hx k))
+
+    module _ (y : d ≡ true) where
+      pub read-taken : (s : Set) (m : Marking) → s ≡ eventsIn bytes → m ≡ markingIn bytes
+          → (a ≡ Done → c ≡ relationIn bytes 0) → (a ≡ Done → r ≡ relationIn bytes 1) → (a ≡ Done → i ≡ relationIn bytes 2) → (a ≡ Done → x ≡ relationIn bytes 3)
+          → _≡_ {A = Reading} (record { answer = a; graph = graphOf (activitiesIn bytes) s m c r i x }) (readOf bytes)
+      unfolding graphIn
+      read-taken s m hs hm hc hr hi hx =
+          let done = done-is a (sym t ∙ y) in
+          reading true _ y (λ k. graphOf (activitiesIn bytes) (hs k) (hm k) (hc done k) (hr done k) (hi done k) (hx done k))

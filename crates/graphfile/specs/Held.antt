@@ -4,7 +4,6 @@ use Prim.Native.Nat.{ℕ, zero, suc}
 use Rattle.sets.specs.Tests.{when_then_else_}
 use Rattle.sets.specs.Rows.{noRows, withRow}
 use Rattle.sets.specs.Answers.{isDone}
-use Rattle.sets.specs.declared.answer.Answer.{Answer}
 use Rattle.engine.specs.Relations.{graphOf, emptyGraph}
 use Rattle.engine.specs.declared.graph.Graph.{Graph}
 use Rattle.graphfile.specs.declared.reader.Reading.{Reading}
@@ -26,10 +25,10 @@ graphIn bytes =
     graphOf (activitiesIn bytes) (eventsIn bytes) (markingIn bytes)
     (relationIn bytes 0) (relationIn bytes 1) (relationIn bytes 2) (relationIn bytes 3)
 
--- what is read, by the answer: the graph; the empty graph where refused (01, "Nothing else")
-abbrev pub readingOf : Answer → List ℕ → Reading
-readingOf a bytes = record { answer = a; graph = when isDone a then graphIn bytes else emptyGraph }
-
--- a read: the file's answer, and its graph
+-- a read: the file's answer, and its graph; the empty graph where refused (01, "Nothing else")
 unfoldable pub readOf : List ℕ → Reading
-readOf bytes = readingOf (judgedFile bytes) bytes
+readOf bytes =
+    record {
+      answer = judgedFile bytes;
+      graph = when isDone (judgedFile bytes) then graphIn bytes else emptyGraph;
+    }

@@ -4,16 +4,18 @@ ghost use Prim.Native.Nat.{_+_, _*_, _≤_, _<_};
 ghost use lib.ListN.{length};
 ghost use Rattle.sets.specs.Rows.{noRows};
 ghost use Rattle.sets.specs.declared.answer.Answer.the-variants.{Done};
-ghost use Rattle.graphfile.specs.Layout.{headLength, rowLength, relationCount, countIn, earlierRows, endOf};
+ghost use Rattle.graphfile.specs.Layout.{headLength, rowLength, relationCount, endOf};
 ghost use Rattle.sets.specs.Answers.{firstRefusal};
-ghost use Rattle.graphfile.specs.Refusals.{judgedRow, judgedRelation};
-ghost use Rattle.graphfile.specs.Held.{filled, relationIn, readingOf, readOf};
+ghost use Rattle.graphfile.specs.Refusals.{judgedRow, judgedRelation, judgedFile};
+ghost use Rattle.graphfile.specs.Held.{filled, relationIn, readOf};
 use crate::layout;
 use crate::refusal;
 use engine::Graph;
+use engine::Marking;
 use sets::Activity;
 use sets::Answer;
 use sets::Rows;
+use sets::Set;
 use sets::rows;
 
 // What a read gives: the answer, and the graph; the empty graph where the file is refused.
@@ -86,34 +88,60 @@ fn take_relations(
     take_relation(bytes, 3, excludes)
 }
 
-// The rows, where all that stands before them was accepted.
-fn take_graph(bytes: &[u8]) -> Reading
-    requires { ⌜ endOf (now bytes) ≤ length (now bytes) ⌝ }
-    ensures { λ r. ⌜ r ≡ readingOf (firstRefusal relationCount (judgedRelation (now (bytes .entry)))) (now (bytes .entry)) ⌝ }
+// All of a file: its answer, and the four relations' rows; of a refused file the rows are of no use.
+fn take(
+    bytes: &[u8],
+    conditions: &mut Rows,
+    responses: &mut Rows,
+    includes: &mut Rows,
+    excludes: &mut Rows,
+) -> Answer
+    requires { ⌜ (now conditions ≡ noRows) × (now responses ≡ noRows) × (now includes ≡ noRows) × (now excludes ≡ noRows) ⌝ }
+    ensures { λ a. ⌜ a ≡ judgedFile (now (bytes .entry)) ⌝ }
+    ensures { λ a. ⌜ (a ≡ Done → now (conditions .exit) ≡ relationIn (now (bytes .entry)) 0) ⌝ }
+    ensures { λ a. ⌜ (a ≡ Done → now (responses .exit) ≡ relationIn (now (bytes .entry)) 1) ⌝ }
+    ensures { λ a. ⌜ (a ≡ Done → now (includes .exit) ≡ relationIn (now (bytes .entry)) 2) ⌝ }
+    ensures { λ a. ⌜ (a ≡ Done → now (excludes .exit) ≡ relationIn (now (bytes .entry)) 3) ⌝ }
+{
+    let answer = refusal::judge_before_rows(bytes);
+    if !answer.is_done() {
+        return answer;
+    }
+    take_relations(bytes, conditions, responses, includes, excludes)
+}
+
+// Reads a graph file. There is one way out, so that the rows are copied once: a refused file's are cleared.
+pub fn read(bytes: &[u8]) -> Reading
+    ensures { λ r. ⌜ r ≡ readOf (now (bytes .entry)) ⌝ }
 {
     let mut conditions = rows::empty();
     let mut responses = rows::empty();
     let mut includes = rows::empty();
     let mut excludes = rows::empty();
-    let answer = take_relations(
+    let mut activities = 0;
+    let mut events = Set::EMPTY;
+    let mut opening = Marking::EMPTY;
+    let answer = take(
         bytes,
         &mut conditions,
         &mut responses,
         &mut includes,
         &mut excludes,
     );
-    if !answer.is_done() {
-        return Reading {
-            answer,
-            graph: Graph::empty(),
-        };
+    if answer.is_done() {
+        activities = bytes[3];
+        events = layout::set_at(bytes, layout::EVENTS);
+        opening = layout::marking_in(bytes);
+    } else {
+        conditions = rows::empty();
+        responses = rows::empty();
+        includes = rows::empty();
+        excludes = rows::empty();
     }
-    let events = layout::set_at(bytes, layout::EVENTS);
-    let opening = layout::marking_in(bytes);
     Reading {
         answer,
         graph: Graph {
-            activities: bytes[3],
+            activities,
             events,
             opening,
             conditions,
@@ -122,18 +150,4 @@ fn take_graph(bytes: &[u8]) -> Reading
             excludes,
         },
     }
-}
-
-// Reads a graph file.
-pub fn read(bytes: &[u8]) -> Reading
-    ensures { λ r. ⌜ r ≡ readOf (now (bytes .entry)) ⌝ }
-{
-    let answer = refusal::judge_before_rows(bytes);
-    if !answer.is_done() {
-        return Reading {
-            answer,
-            graph: Graph::empty(),
-        };
-    }
-    take_graph(bytes)
 }

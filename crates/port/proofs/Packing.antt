@@ -94,15 +94,6 @@ read-judged file r d small hr hd n =
     ∙ ap (λ (a : Answer). judged (when isDone a then graphIn file else emptyGraph)) ok
     ∙ file-graph file small ok
 
-module _ (g : Graph) (trace : List ℕ) where
-  pub too-long : longestTrace < length trace → ending AboveLimit 0 emptyMarking false ≡ replayOf g trace
-  too-long l = sym (replay-long g trace l)
-
-  pub as-judged : judged g ≡ Done → (p : Replayed) → length trace ≤ longestTrace → p ≡ replayFrom (g .events) (relationsOf g) (g .opening) 0 trace → p ≡ replayOf g trace
-  as-judged ok p l e = e ∙ sym (replay-judged g ok trace l)
-
-pub ruleset judged-replay = (too-long, as-judged)
-
 module _ (file trace : List ℕ) (r : Reading) (hr : r ≡ readOf file) (d : Bool) (hd : d ≡ isDone (r .answer)) where
   file-done : (t : Bool) → d ≡ t → isDone (readOf file .answer) ≡ t
   file-done t h = sym (ap (λ (x : Reading). isDone (x .answer)) hr) ∙ sym hd ∙ h
@@ -118,12 +109,22 @@ module _ (file trace : List ℕ) (r : Reading) (hr : r ≡ readOf file) (d : Boo
   unfolding replayNumber
   replay-refused n h e = e ∙ ap (λ (x : Reading). packedOf (x .answer) 0) hr ∙ sym (ap shown (file-done false (not-true d h)))
 
-  module _ (p : Replayed) (hp : p ≡ replayOf (r .graph) trace) (h : not d ≡ false) where
-    the-replay : p ≡ replayOf (readOf file .graph) trace
-    the-replay = hp ∙ ap (λ (x : Reading). replayOf (x .graph) trace) hr
+  add : ℕ → Replayed → ℕ
+  add low x = low + (when x .accepting then 2 ^ 32 else 0)
 
-    add : ℕ → Replayed → ℕ
-    add low x = low + (when x .accepting then 2 ^ 32 else 0)
+  pub replay-too-long : (n : ℕ) → not d ≡ false → longestTrace < length trace → n ≡ packedOf AboveLimit 0 → n ≡ replayNumber file trace
+  unfolding replayNumber add
+  replay-too-long n h l e =
+      let same : packedOf AboveLimit 0 ≡ packedOf AboveLimit 0 + 0 = omega arith in
+      e
+      ∙ same
+      ∙ ap (λ (x : Replayed). add (packedOf (x .answer) (x .place .0)) x) (sym (replay-long (readOf file .graph) trace l))
+      ∙ sym (ap shown (file-done true (not-false d h)))
+
+  module _ (h : not d ≡ false) (small : Bytes file) (l : length trace ≤ longestTrace) (p : Replayed)
+      (hp : p ≡ replayFrom (r .graph .events) (relationsOf (r .graph)) (r .graph .opening) 0 trace) where
+    the-replay : p ≡ replayOf (readOf file .graph) trace
+    the-replay = hp ∙ sym (replay-judged (r .graph) (read-judged file r d small hr hd h) trace l) ∙ ap (λ (x : Reading). replayOf (x .graph) trace) hr
 
     pub replay-accepting : (low : ℕ) → low ≡ packedOf (p .answer) (p .place .0) → p .accepting ≡ true → low + 4294967296 ≡ replayNumber file trace
     unfolding replayNumber add
@@ -143,7 +144,7 @@ module _ (file trace : List ℕ) (r : Reading) (hr : r ≡ readOf file) (d : Boo
         ∙ ap (λ (x : Replayed). add (packedOf (x .answer) (x .place .0)) x) the-replay
         ∙ sym (ap shown (file-done true (not-false d h)))
 
-pub ruleset replaying = (replay-refused, replay-accepting, replay-other)
+pub ruleset replaying = (replay-refused, replay-too-long)
 
 -- ---- a step
 

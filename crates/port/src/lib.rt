@@ -6,12 +6,8 @@ ghost use lib.ListN.{length};
 ghost use Rattle.port.specs.Port.{packedOf, putNumber, putBuffer, mineNumber, mineBuffer, rewriteNumber, rewriteBuffer, replayNumber, listingNumber, stepOf, stepBytes};
 ghost use Rattle.report.specs.Listing.{bufferAfter};
 ghost use Rattle.sets.specs.Answers.{numberOf};
-ghost use Rattle.sets.specs.declared.answer.Answer.the-variants.{Done};
-ghost use Rattle.engine.specs.Judged.{judged};
-ghost use Rattle.engine.specs.Replay.{replayOf};
 use engine::Graph;
 use engine::Marking;
-use engine::Replayed;
 use engine::Stepped;
 use sets::Activity;
 use sets::Answer;
@@ -74,31 +70,8 @@ pub extern "C" fn skelfora_rewrite(file: &[u8], out: &mut [u8]) -> u64
     put(answer, g, out)
 }
 
-// A replay on a graph that was judged already, as one that was read was: what is left to judge is the length of the trace.
-fn replayed(g: Graph, trace: &[u8]) -> Replayed
-    requires { ⌜ judged g ≡ Done ⌝ }
-    ensures { λ r. ⌜ r ≡ replayOf g (now (trace .entry)) ⌝ }
-{
-    if Place::LIMIT < trace.len() {
-        return Replayed {
-            answer: Answer::AboveLimit,
-            place: Place::FIRST,
-            marking: Marking::EMPTY,
-            accepting: false,
-        };
-    }
-    engine::replay::run(
-        g.events,
-        &g.conditions,
-        &g.responses,
-        &g.includes,
-        &g.excludes,
-        g.opening,
-        trace,
-    )
-}
-
-// Replays a trace on the graph of a file: the number, the place, and 2^32 where it ends accepting.
+// Replays a trace on the graph of a file: the number, the place, and 2^32 where it ends accepting. Reading has judged the graph, so
+// only the trace's length is left to judge; and nothing copies the rows.
 #[no_mangle]
 pub extern "C" fn skelfora_replay(file: &[u8], trace: &[u8]) -> u64
     ensures { λ r. ⌜ r ≡ replayNumber (now (file .entry)) (now (trace .entry)) ⌝ }
@@ -108,8 +81,18 @@ pub extern "C" fn skelfora_replay(file: &[u8], trace: &[u8]) -> u64
     if !answer.is_done() {
         return packed(answer, 0);
     }
-    let g = r.graph;
-    let p = replayed(g, trace);
+    if Place::LIMIT < trace.len() {
+        return packed(Answer::AboveLimit, 0);
+    }
+    let p = engine::replay::run(
+        r.graph.events,
+        &r.graph.conditions,
+        &r.graph.responses,
+        &r.graph.includes,
+        &r.graph.excludes,
+        r.graph.opening,
+        trace,
+    );
     let a = p.answer;
     let place = p.place.0;
     let low = packed(a, place);

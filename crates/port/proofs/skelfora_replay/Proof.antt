@@ -1,5 +1,5 @@
+use Rattle.port.proofs.Packing.{replaying, replay-accepting, replay-other}
 use borrow.Author.Needs.{needs}
-use Rattle.port.proofs.Packing.{replaying, read-judged}
 use Rattle.port.proofs.skelfora_replay.Statement.{statement}
 use Rattle.port.proofs.skelfora_replay.Tie as tie
 
@@ -15,23 +15,38 @@ packed-requires c κs = search needs
 returns : tie.Need-returns
 returns c = search (replaying, needs)
 
-replayed-requires : tie.Need-replayed-requires
-replayed-requires c κs =
-    let left = c .before in
-    let r = left .before .before in
-    read-judged _ _ _ (λ k. r .before .before .shared-slice-known .given k .fits) (r .read .ensures) (left .before .is-done .ensures) (left .if1 .left)
-
 packed-requires-2 : tie.Need-packed-requires-2
 packed-requires-2 c κs = search needs
-
-add-result : tie.Need-add-result
-add-result c = search (replaying, needs)
 
 returns-2 : tie.Need-returns-2
 returns-2 c = search (replaying, needs)
 
+run-requires : tie.Need-run-requires
+run-requires c κs = search needs
+
+packed-requires-3 : tie.Need-packed-requires-3
+packed-requires-3 c κs = search needs
+
+add-result : tie.Need-add-result
+add-result c = search needs
+
 returns-3 : tie.Need-returns-3
-returns-3 c = search (replaying, needs)
+returns-3 c =
+    let run = c .before .before in
+    let short = run .before .before .before .before .before .before .before .before in
+    let left = short .before in
+    let read = left .before .before in
+    replay-accepting _ _ _ (read .read .ensures) _ (left .before .is-done .ensures) (left .if1 .left)
+    (λ k. read .before .before .shared-slice-known .given k .fits) (short .if2 .left) _ (run .run .ensures) _ (c .before .packed3 .ensures .0) (c .if3 .taken)
+
+returns-4 : tie.Need-returns-4
+returns-4 c =
+    let run = c .before .before in
+    let short = run .before .before .before .before .before .before .before .before in
+    let left = short .before in
+    let read = left .before .before in
+    replay-other _ _ _ (read .read .ensures) _ (left .before .is-done .ensures) (left .if1 .left)
+    (λ k. read .before .before .shared-slice-known .given k .fits) (short .if2 .left) _ (run .run .ensures) _ (c .before .packed3 .ensures .0) (c .if3 .left)
 
 pub skelfora-replay-spec : {M : Type 1} → statement M
 skelfora-replay-spec =
@@ -41,8 +56,10 @@ skelfora-replay-spec =
     is-done-requires
     packed-requires
     returns
-    replayed-requires
     packed-requires-2
-    add-result
     returns-2
-    returns-3)
+    run-requires
+    packed-requires-3
+    add-result
+    returns-3
+    returns-4)
