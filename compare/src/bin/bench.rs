@@ -2,7 +2,8 @@
 //! at growing sizes; the yardstick, and beside it the proved code where it is linked.
 //!
 //! All calls go through the five functions of `port`, so both do the same work from the
-//! same bytes. Lent buffers are not cleared between calls. The implementations take turns,
+//! same bytes. A log is judged by mining one whose last byte is bad; the proved `mine` hands
+//! back an empty graph then, so `net judge` leaves out what the refusal of no bytes costs. Lent buffers are not cleared between calls. The implementations take turns,
 //! a tenth of a millisecond each, and the best turn counts: other work on the machine then
 //! disturbs both alike, and the best turns hardly at all.
 use compare::door::{Door, GRAPH_ROOM};
@@ -70,15 +71,29 @@ fn best(doors: &[Door], mut call: impl FnMut(&Door)) -> Vec<f64> {
     least
 }
 
-const COLUMNS: [&str; 5] = ["judge", "mine", "replay", "net replay", "read file"];
+const COLUMNS: [&str; 6] = [
+    "judge",
+    "net judge",
+    "mine",
+    "replay",
+    "net replay",
+    "read file",
+];
 
-/// For each column the figures of the implementations: judging, mining (with judging and
-/// writing), replaying (with the file read for each trace), replaying less the reading, in
-/// ns an event; reading in ns a file.
-fn figures(doors: &[Door], sample: &Sample) -> [Vec<f64>; 5] {
+fn less(all: &[f64], part: &[f64]) -> Vec<f64> {
+    all.iter().zip(part).map(|(a, p)| a - p).collect()
+}
+
+/// For each column the figures of the implementations: judging, judging less the refusal of
+/// no bytes, mining (with judging and writing), replaying (with the file read for each
+/// trace), replaying less the reading, in ns an event; reading in ns a file.
+fn figures(doors: &[Door], sample: &Sample) -> [Vec<f64>; 6] {
     let mut room = vec![0; GRAPH_ROOM];
     let judging = best(doors, |door| {
         assert_eq!((door.mine)(black_box(&sample.bad), &mut room), 5);
+    });
+    let refusing = best(doors, |door| {
+        assert_eq!((door.mine)(black_box(&[]), &mut room), 1);
     });
     let mining = best(doors, |door| {
         black_box((door.mine)(black_box(&sample.log), &mut room));
@@ -94,19 +109,14 @@ fn figures(doors: &[Door], sample: &Sample) -> [Vec<f64>; 5] {
         }
     });
     let each = |all: &[f64], n: usize| all.iter().map(|ns| ns / n as f64).collect();
-    let net: Vec<f64> = replaying
-        .iter()
-        .zip(&reading)
-        .map(|(all, read)| all - read)
-        .collect();
     let n = sample.events;
-    let files = each(&reading, sample.traces.len());
     [
         each(&judging, n),
+        each(&less(&judging, &refusing), n),
         each(&mining, n),
         each(&replaying, n),
-        each(&net, n),
-        files,
+        each(&less(&replaying, &reading), n),
+        each(&reading, sample.traces.len()),
     ]
 }
 

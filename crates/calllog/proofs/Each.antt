@@ -1,9 +1,8 @@
 -- The limits of a log for a trace that is among its traces, and for an event that is in the trace. Assumes nothing.
-use mathlib.Core.Path.{_≡_, refl, sym, subst}
-use mathlib.Core.Bool.{true}
+use mathlib.Core.Path.{_≡_, sym, subst}
 use mathlib.Core.List.{List, [], _∷_, List·Memᴰ, List·Memᴰ·not-nil, List·Memᴰ·cases-cons}
 use mathlib.Core.Logic.{_⊎_, inl, inr}
-use Prim.Native.Nat.{ℕ, zero, suc, _≤_, _<_, suc-le-suc}
+use Prim.Native.Nat.{ℕ, suc, _≤_, _<_, suc-le-suc}
 use native.Mathlib.Nat.{zero-lt-suc}
 use lib.Dec.{T, ltb, ltb→lt}
 use lib.ListN.{length, getD}

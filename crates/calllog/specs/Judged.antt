@@ -1,7 +1,7 @@
 -- When a log is refused, and with which number (01, "Numbers given back": the order for logs).
 use mathlib.Core.Bool.{Bool, true}
 use mathlib.Core.List.{List, [], _∷_}
-use Prim.Native.Nat.{ℕ, zero, suc, _+_}
+use Prim.Native.Nat.{ℕ, _+_}
 use lib.Dec.{eqb, ltb}
 use lib.ListN.{length, drop}
 use Rattle.sets.specs.Tests.{_and_, non, when_then_else_}

@@ -11,6 +11,7 @@ pub struct LogReader<'a> {
     pub next: usize,
 }
 
+// A reader at the first trace. The bytes are judged when a trace is asked for.
 pub fn open<'a>(log: &'a [u8]) -> LogReader<'a>
     ensures { λ r. ⌜ r ≡ opened (log .entry) ⌝ }
 {

@@ -1,20 +1,19 @@
 -- What an acceptable graph gives the crates above: its parts are within the events, a step keeps a marking there, and what
 -- is judged once need not be judged again. Assumes nothing.
-use mathlib.Core.Path.{_≡_, refl, sym, ap, subst}
+use mathlib.Core.Path.{_≡_, refl, sym, subst}
 use mathlib.Core.Bool.{Bool, true, false}
 use mathlib.Core.List.{List}
 use Prim.Native.Nat.{ℕ, _≤_, _<_}
 use borrow.Author.Tests.{ltb-false, lt-ltb, le-ltb}
 use lib.Dec.{T, ltb, eqb→eq}
 use lib.ListN.{length}
-use Rattle.sets.specs.Tests.{_and_, _or_, non, when_then_else_}
+use Rattle.sets.specs.Tests.{non, when_then_else_}
 use Rattle.sets.specs.Members.{width, mem, those, within}
 use Rattle.sets.specs.Rows.{rowAt, inRow}
 use Rattle.sets.specs.Answers.{isDone}
 use Rattle.sets.specs.declared.set.Set.{Set}
-use Rattle.sets.specs.declared.answer.Answer.{Answer}
 use Rattle.sets.specs.declared.answer.Answer.the-variants.{Done, AboveLimit, Outside, NoEvent, NotIncluded, Waiting}
-use Rattle.sets.proofs.Tests.{and-l, and-r, and-i, or-e, T→true, F→false, non-false, true→T, false→F, either}
+use Rattle.sets.proofs.Tests.{and-l, and-r, and-i, or-e, T→true, F→false, non-false, false→F, either}
 use Rattle.sets.proofs.Asking.{went}
 use Rattle.sets.proofs.Members.{those-e, within-e, within-i}
 use Rattle.sets.proofs.Below.{every-e}

@@ -7,7 +7,7 @@ use Rattle.sets.specs.Sizes.{mostActivities, longestTrace}
 use Rattle.sets.specs.Tests.{_and_, _or_, non, when_then_else_}
 use Rattle.sets.specs.Members.{width, mem, those, everyBelow, isEmpty, within}
 use Rattle.sets.specs.Rows.{rowAt}
-use Rattle.sets.specs.Answers.{isDone, thenAsk}
+use Rattle.sets.specs.Answers.{thenAsk}
 use Rattle.sets.specs.declared.set.Set.{Set}
 use Rattle.sets.specs.declared.answer.Answer.{Answer}
 use Rattle.sets.specs.declared.answer.Answer.the-variants.{Done, AboveLimit, Outside}

@@ -57,6 +57,7 @@ pub fn run<'a>(
     }
 }
 
+// A whole trace on any graph, from its opening marking.
 pub fn replay(g: Graph, trace: &[u8]) -> Replayed
     ensures { λ r. ⌜ r ≡ replayOf g (now (trace .entry)) ⌝ }
 {

@@ -114,6 +114,7 @@ fn ask_judged<'a>(
     ask(events, conditions, m, a)
 }
 
+// Whether a step is enabled on any graph at any marking: the refusals of both, then rules 8, 9, 10.
 pub fn enabled(g: Graph, m: Marking, a: Activity) -> Answer
     ensures { λ r. ⌜ r ≡ enabledOf g m (a .0) ⌝ }
 {
@@ -130,7 +131,7 @@ pub fn enabled(g: Graph, m: Marking, a: Activity) -> Answer
     )
 }
 
-// `enabled(g, m, a)` would copy the rows, since they are used again after it.
+// The step on any graph at any marking. It asks by the graph's parts: `enabled(g, m, a)` would copy the rows, which are used again.
 pub fn step(g: Graph, m: Marking, a: Activity) -> Stepped
     ensures { λ r. ⌜ r ≡ steppedOf g m (a .0) ⌝ }
 {
@@ -152,6 +153,7 @@ pub fn step(g: Graph, m: Marking, a: Activity) -> Stepped
     Stepped { answer, marking }
 }
 
+// Whether a marking is accepting, on any graph.
 pub fn accepting(g: Graph, m: Marking) -> Verdict
     ensures { λ r. ⌜ r ≡ acceptingOf g m ⌝ }
 {

@@ -1,5 +1,5 @@
 -- What the answer `Done` says of a file, part by part, and back. Assumes nothing.
-use mathlib.Core.Path.{_≡_, refl, sym, ap, _∙_}
+use mathlib.Core.Path.{_≡_, refl, _∙_}
 use mathlib.Core.Bool.{Bool, false, not}
 use mathlib.Core.List.{List}
 use Prim.Native.Nat.{ℕ, _*_, _≤_, _<_}
@@ -7,7 +7,7 @@ use native.Mathlib.Omega.{arith}
 use borrow.Author.Tests.{le-ltb, eq-eqb, ltb-false, eqb-true}
 use lib.Dec.{T, eqb, ltb}
 use lib.ListN.{length, take}
-use Rattle.sets.specs.Tests.{_and_, _or_, non}
+use Rattle.sets.specs.Tests.{non}
 use Rattle.sets.specs.Members.{those, within}
 use Rattle.sets.specs.Answers.{isDone, thenAsk, firstRefusal}
 use Rattle.sets.specs.declared.answer.Answer.{Answer}

@@ -5,7 +5,6 @@ use mathlib.Core.List.{List, _++_}
 use Prim.Native.Nat.{ℕ, _+_, _≤_, _<_}
 use native.Mathlib.Omega.{arith}
 use borrow.Author.Tests.{lt-ltb, le-ltb}
-use lib.Dec.{ltb}
 use lib.ListN.{length, drop}
 use lib.Seq.{sets, sets-eq}
 use Rattle.sets.specs.Tests.{when_then_else_}
@@ -13,7 +12,7 @@ use Rattle.engine.specs.Markings.{emptyMarking}
 use Rattle.engine.specs.declared.marking.Marking.{Marking}
 use Rattle.graphfile.specs.Numbers.{littleEndian}
 use Rattle.graphfile.specs.Layout.{markingAt}
-use Rattle.graphfile.specs.Writing.{setBytes, markingBytes}
+use Rattle.graphfile.specs.Writing.{markingBytes}
 use Rattle.graphfile.specs.Markings.{markingFrom, markingInto}
 
 pub from-short : (bytes : List ℕ) → length bytes < 24 → emptyMarking ≡ markingFrom bytes

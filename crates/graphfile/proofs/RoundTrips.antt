@@ -6,7 +6,7 @@ use Prim.Native.Nat.{ℕ, _+_, _*_, _≤_}
 use borrow.Author.Tests.{le-ltb}
 use lib.ListN.{length, take, drop, replicate}
 use lib.Seq.{take-at}
-use Rattle.sets.specs.Tests.{_and_, _or_, non, when_then_else_}
+use Rattle.sets.specs.Tests.{_and_, non, when_then_else_}
 use Rattle.sets.specs.Members.{bit, everyBelow, isEmpty}
 use Rattle.sets.specs.Rows.{rowAt}
 use Rattle.sets.specs.Answers.{isDone}

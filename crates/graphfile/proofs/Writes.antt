@@ -65,16 +65,18 @@ module _ (g : Graph) (out : List ℕ) (a : Answer) (d : Bool) (e : a ≡ judged 
     pub small-keeps : length out < len → out ≡ bufferAfter g out
     small-keeps l = sym (buffer-is g out false (ap isDone (small l)))
 
-    pub write-done : len ≤ length out → _≡_ {A = Written} (record { answer = a; length = len }) (writtenOf g (length out))
+    write-done : len ≤ length out → _≡_ {A = Written} (record { answer = a; length = len }) (writtenOf g (length out))
     write-done l =
         (λ i. record { answer = (e ∙ gone-on a (judged g) d e t n ∙ sym (enough l)) i; length = file-len i })
         ∙ sym (written-is g out true (ap isDone (enough l)))
 
-    pub done-holds : (out′ : List ℕ) → len ≤ length out → out′ ≡ sets out 0 (bytesOf g) → out′ ≡ bufferAfter g out
+    done-holds : (out′ : List ℕ) → len ≤ length out → out′ ≡ sets out 0 (bytesOf g) → out′ ≡ bufferAfter g out
     done-holds out′ l f =
         f
         ∙ sets-eq (bytesOf g) out 0 (omega (arith, file-len))
         ∙ ap (λ (k : ℕ). bytesOf g ++ drop k out) (zero-add (length (bytesOf g)))
         ∙ sym (buffer-is g out true (ap isDone (enough l)))
 
-pub ruleset writes = (write-refused, refused-keeps, write-small, small-keeps, write-done, done-holds)
+    pub write-whole : (out′ : List ℕ) → len ≤ length out → out′ ≡ sets out 0 (bytesOf g)
+        → (_≡_ {A = Written} (record { answer = a; length = len }) (writtenOf g (length out))) × (out′ ≡ bufferAfter g out)
+    write-whole out′ l f = (write-done l, done-holds out′ l f)

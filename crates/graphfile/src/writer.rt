@@ -11,7 +11,7 @@ use crate::layout;
 use crate::number::put_number;
 use engine::Graph;
 use engine::Marking;
-use engine::judge::judge;
+use engine::judge::judge_for;
 use sets::Activity;
 use sets::Answer;
 use sets::Rows;
@@ -205,7 +205,16 @@ pub fn write(g: Graph, out: &mut [u8]) -> Written
     ensures { λ r. ⌜ r ≡ writtenOf g (length (now (out .entry))) ⌝ }
     ensures { λ _. ⌜ now (out .exit) ≡ bufferAfter g (now (out .entry)) ⌝ }
 {
-    let answer = judge(g);
+    let answer = judge_for(
+        g.activities,
+        g.events,
+        g.opening,
+        &g.conditions,
+        &g.responses,
+        &g.includes,
+        &g.excludes,
+        0,
+    );
     if !answer.is_done() {
         return Written { answer, length: 0 };
     }

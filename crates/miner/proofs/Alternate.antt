@@ -1,7 +1,7 @@
 -- One place of the pass for alternate precedence: at a repeat it looks back, at a first e of a trace it goes by what was seen. Assumes nothing.
 use mathlib.Core.Path.{_≡_, refl, sym, ap, _∙_}
 use mathlib.Core.Bool.{Bool, true, false}
-use mathlib.Core.List.{List, [], reverseAux}
+use mathlib.Core.List.{List, []}
 use Prim.Native.Nat.{ℕ, _≤_, _<_}
 use borrow.Author.Tests.{ltb-true, ltb-false}
 use lib.Dec.{ltb}
@@ -14,7 +14,7 @@ use Rattle.sets.proofs.Members.{those-ext, those-of, mem-those}
 use Rattle.sets.proofs.RowLaws.{put-out}
 use Rattle.rules.specs.Traces.{_has_}
 use Rattle.miner.specs.Passes.{gained, gains, notSince}
-use Rattle.miner.proofs.Turns.{seenIn, joined-by}
+use Rattle.miner.proofs.Turns.{seenIn}
 use Rattle.miner.proofs.Since.{since, since-all}
 
 -- what the row lacks and is not met, joined to the row, is what is not met joined to it

@@ -1,7 +1,8 @@
 -- What the calls of a stage of mining ensure, put together. Assumes nothing.
-use mathlib.Core.Path.{_≡_, refl, sym, ap, ap₂, _∙_}
+use mathlib.Core.Path.{_≡_, ap, ap₂, _∙_}
 use mathlib.Core.List.{List, []}
 use Prim.Native.Nat.{ℕ}
+use Rattle.sets.specs.Members.{those}
 use Rattle.sets.specs.Rows.{noRows, rowsOf}
 use Rattle.sets.specs.declared.set.Set.{Set}
 use Rattle.rules.specs.Traces.{Traces}
@@ -11,18 +12,13 @@ use Rattle.engine.specs.Relations.{graphOf}
 use Rattle.engine.specs.declared.marking.Marking.{Marking}
 use Rattle.miner.specs.declared.tally.Tally.{Tally}
 use Rattle.miner.specs.Tallies.{tallyOf}
-use Rattle.miner.specs.Reading.{turned, inEither, reducedOf, waited, conditionsOf, responsesOf, sevenOf, includesOf, waitedOf, graphRead}
+use Rattle.miner.specs.Reading.{excludesItself, turned, inEither, reducedOf, waited, fiveFrom, sevenFrom, includesFrom, waitedOf, conditionsOf, responsesOf, chainsOf, neverOf, sevenOf, includesOf, graphRead}
 
 -- steps 3 and 6, of the includes
-pub includes-by : (L : Traces) (chains′ never′ chains three never six r : List ℕ)
-    → chains ≡ chains′ → three ≡ rowsOf (turned chains) → never ≡ never′
-    → six ≡ through (λ r σ. forward (letIn never) r [] σ) noRows L → r ≡ rowsOf (inEither three six)
-    → r ≡ rowsOf (inEither (rowsOf (turned chains′)) (through (λ r σ. forward (letIn never′) r [] σ) noRows L))
-includes-by L chains′ never′ chains three never six r hc ht hn hs h =
-    h
-    ∙ ap₂ (λ (x y : List ℕ). rowsOf (inEither x y))
-    (ht ∙ ap (λ (x : List ℕ). rowsOf (turned x)) hc)
-    (hs ∙ ap (λ (x : List ℕ). through (λ r σ. forward (letIn x) r [] σ) noRows L) hn)
+pub includes-by : (L : Traces) (chains never three six r : List ℕ)
+    → three ≡ rowsOf (turned chains) → six ≡ through (λ r σ. forward (letIn never) r [] σ) noRows L → r ≡ rowsOf (inEither three six)
+    → r ≡ includesFrom chains never L
+includes-by L chains never three six r ht hs h = h ∙ ap₂ (λ (x y : List ℕ). rowsOf (inEither x y)) ht hs
 
 -- steps 9 and 10
 pub conditions-by : (L : Traces) (events : Set) (eight includes excludes first₀ unmet₀ first unmet nine r : List ℕ)
@@ -39,11 +35,31 @@ conditions-by L events eight includes excludes first₀ unmet₀ first unmet nin
     (hf ∙ ap (λ (x : List ℕ). through (λ r σ. forward beforeFirst r [] σ) x L) h₀)
     (hu ∙ ap (λ (x : List ℕ). through (λ r σ. forward (missed events includes excludes) r [] σ) x L) k₀))
 
--- the graph, from its tally
-pub read-by : (A : ℕ) (L : Traces) (t : Tally) (opening : Marking) (excludes includes eight conditions responses : List ℕ)
-    → t ≡ tallyOf L → excludes ≡ sevenOf t → includes ≡ includesOf t L → eight ≡ rowsOf (reducedOf (conditionsOf t))
-    → conditions ≡ waitedOf (t .events) eight includes excludes L → responses ≡ rowsOf (reducedOf (responsesOf t)) → opening ≡ openingOf (t .events)
-    → graphOf A (t .events) opening conditions responses includes excludes ≡ graphRead A L (tallyOf L)
-unfolding graphRead
-read-by A L t opening excludes includes eight conditions responses ht hx hi he hc hr ho =
-    (λ i. graphOf A (t .events) (ho i) ((hc ∙ (λ j. waitedOf (t .events) (he j) (hi j) (hx j) L)) i) (hr i) (hi i) (hx i)) ∙ ap (graphRead A L) ht
+-- the graph, from its tally, stage by stage
+module _ (A : ℕ) (L : Traces) (t : Tally) (selves : Set) (opening : Marking) (chains never five excludes includes two eight conditions answering responses : List ℕ)
+    (ht : t ≡ tallyOf L) (hc : chains ≡ chainsOf t) (hn : never ≡ neverOf t) (hs : selves ≡ those (excludesItself (t .events) (t .before) chains))
+    (hf : five ≡ fiveFrom (t .events) selves (t .before) (t .later)) (hx : excludes ≡ sevenFrom (t .events) five never (t .unalternated))
+    (hi : includes ≡ includesFrom chains never L) (hw : two ≡ conditionsOf t) (he : eight ≡ rowsOf (reducedOf two))
+    (hd : conditions ≡ waitedOf (t .events) eight includes excludes L) (ha : answering ≡ responsesOf t) (hr : responses ≡ rowsOf (reducedOf answering))
+    (ho : opening ≡ openingOf (t .events)) where
+  the-excludes : excludes ≡ sevenOf t
+  the-excludes =
+      hx
+      ∙ (λ i.
+      sevenFrom (t .events)
+      ((hf ∙ ap (λ (s : Set). fiveFrom (t .events) s (t .before) (t .later)) (hs ∙ ap (λ (c : List ℕ). those (excludesItself (t .events) (t .before) c)) hc)) i)
+      (hn i) (t .unalternated))
+
+  the-includes : includes ≡ includesOf t L
+  the-includes = hi ∙ (λ i. includesFrom (hc i) (hn i) L)
+
+  the-eight : eight ≡ rowsOf (reducedOf (conditionsOf t))
+  the-eight = he ∙ ap (λ (r : List ℕ). rowsOf (reducedOf r)) hw
+
+  pub read-by : graphOf A (t .events) opening conditions responses includes excludes ≡ graphRead A L (tallyOf L)
+  unfolding graphRead
+  read-by =
+      (λ i.
+      graphOf A (t .events) (ho i) ((hd ∙ (λ j. waitedOf (t .events) (the-eight j) (the-includes j) (the-excludes j) L)) i)
+      ((hr ∙ ap (λ (r : List ℕ). rowsOf (reducedOf r)) ha) i) (the-includes i) (the-excludes i))
+      ∙ ap (graphRead A L) ht

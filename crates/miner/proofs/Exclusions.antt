@@ -17,7 +17,8 @@ use Rattle.engine.specs.Relations.{Relations}
 use Rattle.rules.specs.Traces.{Traces}
 use Rattle.rules.specs.Mining.{noPair, noRelations, smallestSource, event, someEvent, _with_, _without_, before, followed, alternates, atMostOnce, together, directlyBefore, neverTogether, closes, step1, step2, step3, step4, step5, step6, step7, afterFive, afterSeven}
 use Rattle.miner.specs.Tallies.{tallyOf}
-use Rattle.miner.specs.Reading.{selvesOf, apartOf, closedOf, fiveOf, sixOf, sevenOf, absent, excludesItself, diagonal, apart, smallestOf, inEither, notRedundant, closing}
+use Rattle.miner.specs.declared.tally.Tally.{Tally}
+use Rattle.miner.specs.Reading.{selvesOf, fiveOf, neverOf, sevenOf, absent, excludesItself, diagonal, apart, smallestOf, inEither, notRedundant, closing}
 use Rattle.miner.proofs.Tautologies.{by2, by3, by4, by5}
 use Rattle.miner.proofs.LogLaws.{once, together-before}
 use Rattle.miner.proofs.RowReadings.{united-rows, diagonal-rows, smallest-rows}
@@ -82,6 +83,16 @@ afterThree L = step3 L (step2 L (step1 L noRelations))
 
 abbrev pub afterFour : Traces → Relations
 afterFour L = step4 L (afterThree L)
+
+-- what steps 4 and 5 give, and the excludes after step 6
+abbrev apartOf : Tally → List ℕ
+apartOf t = rowsOf (smallestOf (rowsOf (apart (t .events) (t .before) (t .later))))
+
+abbrev closedOf : Tally → List ℕ
+closedOf t = rowsOf (smallestOf (rowsOf (closing (t .events) (selvesOf t) (t .before) (t .later))))
+
+abbrev sixOf : Tally → List ℕ
+sixOf t = rowsOf (inEither (fiveOf t) (neverOf t))
 
 module _ (L : Traces) where
   -- ---- steps 1 and 3

@@ -2,11 +2,10 @@
 use mathlib.Core.Path.{_≡_, refl, sym, ap, _∙_}
 use mathlib.Core.Bool.{Bool, true, false}
 use mathlib.Core.List.{List, [], _∷_}
-use Prim.Native.Nat.{ℕ, _<_}
+use Prim.Native.Nat.{ℕ}
 use borrow.Author.Tests.{eqb-true}
 use lib.Dec.{eqb}
 use Rattle.sets.specs.Tests.{_and_, _or_}
-use Rattle.sets.specs.Members.{width}
 use Rattle.sets.specs.Rows.{Relation, noRows, rowsOf}
 use Rattle.sets.proofs.Tests.{or-false, false-or, false-and}
 use Rattle.sets.proofs.RowLaws.{rowsOf-ext, gain-rowsOf, empty-rowsOf}

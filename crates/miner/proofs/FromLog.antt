@@ -1,23 +1,21 @@
 -- The miner over the bytes of a log: its walk passes the log's traces, and what it gives is what the rules give. Assumes nothing.
-use mathlib.Core.Path.{_≡_, refl, sym, ap, ap₂, subst, _∙_}
+use mathlib.Core.Path.{_≡_, refl, sym, ap, ap₂, _∙_}
 use mathlib.Core.Bool.{Bool, true, false, not}
-use mathlib.Core.List.{List, [], _∷_, List·Memᴰ}
+use mathlib.Core.List.{List, [], _∷_}
 use Prim.Native.Nat.{ℕ, zero, suc, _+_, _≤_, _<_}
 use native.Mathlib.Omega.{arith}
-use native.Mathlib.Nat.{add-zero, add-suc, suc-add}
+use native.Mathlib.Nat.{add-suc, suc-add}
 use borrow.Author.Tests.{not-true, not-false}
-use lib.Dec.{T}
-use lib.ListN.{length, getD, take, drop, drop-of-length-le}
+use lib.ListN.{length, drop, drop-of-length-le}
 use lib.Seq.{drop-cons}
 use Rattle.sets.specs.Tests.{when_then_else_}
-use Rattle.sets.specs.Members.{width}
 use Rattle.sets.specs.Answers.{isDone}
 use Rattle.engine.specs.Relations.{emptyGraph}
 use Rattle.engine.specs.declared.graph.Graph.{Graph}
 use Rattle.calllog.specs.declared.judge.Judged.{Judged}
 use Rattle.calllog.specs.Logs.{logOf, judgedOf}
 use Rattle.calllog.proofs.Traces.{part-trace}
-use Rattle.rules.specs.Traces.{Traces, _has_}
+use Rattle.rules.specs.Traces.{Traces}
 use Rattle.rules.specs.Mined.{minedGraph}
 use Rattle.rules.proofs.FromFile.{file-accepted}
 use Rattle.rules.proofs.InTurn.{Small}

@@ -6,29 +6,21 @@ use mathlib.Core.List.{List, [], _∷_}
 use Prim.Native.Nat.{ℕ}
 use lib.Dec.{eqb}
 use Rattle.sets.specs.Tests.{_and_, _or_, non}
-use Rattle.sets.proofs.Tests.{non-or, non-and}
-use Rattle.rules.specs.Traces.{Traces, _has_, _beginsWith_, atEachFrom, atEach, atSomeFrom, atSome, everyTrace, someTrace}
+use Rattle.sets.proofs.Tests.{non-non}
+use Rattle.rules.specs.Traces.{Traces, _has_, _beginsWith_, atEach, atSomeFrom, atSome, everyTrace, someTrace}
 use Rattle.rules.specs.Mining.{precedes, answers, chained, before, followed, alternates}
-use Rattle.miner.specs.Passes.{Fact, isEarlier, notEarlier, notDirectly, notSince, isLater, notLater, isNext}
+use Rattle.miner.specs.Passes.{isEarlier, notEarlier, notDirectly, notSince, isLater, notLater, isNext}
+use Rattle.miner.proofs.LogLaws.{each-non, every-non, some-ext}
 use Rattle.miner.proofs.Folds.{heard}
 
 -- ---- not at each place is at some place not
 
-pub non-each : (t : ℕ) (p : List ℕ → List ℕ → Bool) (past rest : List ℕ) → non (atEachFrom t p past rest) ≡ atSomeFrom t (λ q s. non (p q s)) past rest
-unfolding atEachFrom atSomeFrom non
-non-each t p past [] = refl
-non-each t p past (x ∷ rest) =
-    non-and (non (eqb t x) or p past rest) (atEachFrom t p (x ∷ past) rest) ∙ ap₂ _or_ (non-or (eqb t x) (p past rest)) (non-each t p (x ∷ past) rest)
-
 pub non-every : (t : ℕ) (p : List ℕ → List ℕ → Bool) (L : Traces) → non (everyTrace L (atEach t p)) ≡ someTrace L (atSome t (λ q s. non (p q s)))
-unfolding everyTrace someTrace non
-non-every t p [] = refl
-non-every t p (σ ∷ L) = non-and (atEach t p σ) (everyTrace L (atEach t p)) ∙ ap₂ _or_ (non-each t p [] σ) (non-every t p L)
-
-some-ext : (L : Traces) (p q : List ℕ → Bool) → ((σ : List ℕ) → p σ ≡ q σ) → someTrace L p ≡ someTrace L q
-unfolding someTrace
-some-ext [] p q e = refl
-some-ext (σ ∷ L) p q e = ap₂ _or_ (e σ) (some-ext L p q e)
+non-every t p L =
+    (λ i. non (everyTrace L (atEach t (λ q s. sym (non-non (p q s)) i))))
+    ∙ ap non
+    (every-non L (atSome t (λ q s. non (p q s))) (atEach t (λ q s. non (non (p q s)))) (λ σ. each-non t (λ q s. non (p q s)) [] σ))
+    ∙ non-non (someTrace L (atSome t (λ q s. non (p q s))))
 
 -- ---- before and after
 

@@ -13,20 +13,20 @@ use Rattle.miner.proofs.Tautologies.{by2, by4, by5}
 
 -- ---- every and some, of places and of traces
 
-non-or : (a b : Bool) → non (a or b) ≡ (non a and non b)
+neither : (a b : Bool) → non (a or b) ≡ (non a and non b)
 unfolding _and_ _or_ non
-non-or = by2 (λ a b. non (a or b)) (λ a b. non a and non b) tt
+neither = by2 (λ a b. non (a or b)) (λ a b. non a and non b) tt
 
 pub each-non : (t : ℕ) (p : List ℕ → List ℕ → Bool) (past rest : List ℕ) → atEachFrom t (λ q r. non (p q r)) past rest ≡ non (atSomeFrom t p past rest)
 unfolding atEachFrom atSomeFrom non
 each-non t p past [] = refl
 each-non t p past (x ∷ rest) =
-    ap₂ _and_ (sym (non-and (eqb t x) (p past rest))) (each-non t p (x ∷ past) rest) ∙ sym (non-or (eqb t x and p past rest) (atSomeFrom t p (x ∷ past) rest))
+    ap₂ _and_ (sym (non-and (eqb t x) (p past rest))) (each-non t p (x ∷ past) rest) ∙ sym (neither (eqb t x and p past rest) (atSomeFrom t p (x ∷ past) rest))
 
 pub every-non : (L : Traces) (p q : List ℕ → Bool) → ((σ : List ℕ) → q σ ≡ non (p σ)) → everyTrace L q ≡ non (someTrace L p)
 unfolding everyTrace someTrace non
 every-non [] p q h = refl
-every-non (σ ∷ L) p q h = ap₂ _and_ (h σ) (every-non L p q h) ∙ sym (non-or (p σ) (someTrace L p))
+every-non (σ ∷ L) p q h = ap₂ _and_ (h σ) (every-non L p q h) ∙ sym (neither (p σ) (someTrace L p))
 
 pub some-ext : (L : Traces) (p q : List ℕ → Bool) → ((σ : List ℕ) → p σ ≡ q σ) → someTrace L p ≡ someTrace L q
 unfolding someTrace

@@ -1,6 +1,6 @@
 -- DEMAND 2, of the miner: the graph that is read from the tally and the traces of a log is, pair for pair, the one that the rules give.
 -- Assumes nothing of the log but that its activities are below the width, which acceptance gives.
-use mathlib.Core.Path.{_≡_, refl, sym, ap, ap₂, _∙_}
+use mathlib.Core.Path.{_≡_, refl, ap, ap₂, _∙_}
 use mathlib.Core.List.{List, []}
 use Prim.Native.Nat.{ℕ, _<_}
 use Rattle.sets.specs.Tests.{_and_, non}
@@ -8,14 +8,13 @@ use Rattle.sets.specs.Members.{width, those}
 use Rattle.sets.specs.Rows.{Relation, noRows, rowsOf}
 use Rattle.sets.proofs.RowLaws.{rowsOf-ext}
 use Rattle.engine.specs.Markings.{openingOf}
-use Rattle.engine.specs.declared.graph.Graph.{Graph}
 use Rattle.rules.specs.Traces.{Traces}
 use Rattle.rules.specs.Mining.{event, someEvent, followed, between, beforeFirst as ruleBeforeFirst, neverMissed, step9, step10, afterEight, mined}
 use Rattle.rules.specs.Mined.{graphFrom, minedGraph}
 use Rattle.rules.proofs.InTurn.{Small}
 use Rattle.miner.specs.Passes.{Fact, forward, through, letIn, beforeFirst, missed}
 use Rattle.miner.specs.Tallies.{tallyOf}
-use Rattle.miner.specs.Reading.{absent, turned, inEither, reducedOf, waited, conditionsOf, responsesOf, chainsOf, sevenOf, includesOf, waitedOf, graphRead}
+use Rattle.miner.specs.Reading.{absent, turned, inEither, reducedOf, waited, conditionsOf, chainsOf, sevenOf, includesOf, waitedOf, graphRead}
 use Rattle.miner.proofs.Folds.{heard, forward-rowsOf, through-all}
 use Rattle.miner.proofs.Exclusions.{absent-rows}
 use Rattle.miner.proofs.LaterSteps.{responses-mined, conditions-mined, includes-mined, excludes-mined}

@@ -7,15 +7,13 @@ use lib.Dec.{eqb, eqb→eq}
 use Rattle.sets.specs.Tests.{_and_, _or_, non}
 use Rattle.sets.specs.Members.{those}
 use Rattle.sets.specs.Rows.{Relation, inRow, rowsOf}
-use Rattle.sets.specs.declared.set.Set.{Set}
 use Rattle.sets.proofs.Tests.{T-ext, eqb-of, non-non}
 use Rattle.sets.proofs.Members.{mem-those}
 use Rattle.sets.proofs.RowLaws.{in-rowsOf, rowsOf-ext}
 use Rattle.rules.specs.Traces.{Traces}
 use Rattle.rules.specs.Mining.{noPair, noRelations, event, _with_, precedes, answers, chained, directlyBefore, step1, step2, step3, step4, step5, afterFive}
-use Rattle.miner.specs.declared.tally.Tally.{Tally}
 use Rattle.miner.specs.Tallies.{tallyOf}
-use Rattle.miner.specs.Reading.{conditionsOf, responsesOf, chainsOf, unbroken, absent, excludesItself, diagonal, apart, smallestOf, turned, inEither, notRedundant, closing}
+use Rattle.miner.specs.Reading.{conditionsOf, responsesOf, chainsOf, unbroken, turned}
 use Rattle.miner.proofs.Tautologies.{by4}
 use Rattle.miner.proofs.RowReadings.{turned-rows}
 

@@ -1,21 +1,20 @@
 -- The transitive reduction, by loops over the members of a row: what is known of a row while its targets are judged, and of a target while its
 -- middles are tried. Assumes nothing.
-use mathlib.Core.Path.{_≡_, refl, sym, ap, ap₂, _∙_, subst}
+use mathlib.Core.Path.{_≡_, refl, sym, ap, _∙_, subst}
 use mathlib.Core.Bool.{Bool, true, false, not}
 use mathlib.Core.List.{List}
-use Prim.Native.Nat.{ℕ, _+_, _≤_, _<_}
+use Prim.Native.Nat.{ℕ, _<_}
 use native.Mathlib.Omega.{arith}
-use borrow.Author.Tests.{lt-ltb, le-ltb, ltb-true, ltb-false, eqb-true, eqb-false, not-true, not-false}
-use lib.Dec.{T, eqb, ltb, eqb→eq}
-use Rattle.sets.specs.Tests.{_and_, _or_, non, when_then_else_}
+use borrow.Author.Tests.{not-true, not-false}
+use lib.Dec.{T, eqb, eqb→eq}
+use Rattle.sets.specs.Tests.{_and_, _or_, non}
 use Rattle.sets.specs.Members.{width, mem, those, isEmpty, someBelow, leastBelow}
-use Rattle.sets.specs.Rows.{Relation, noRows, rowAt, withRow, inRow, rowsOf}
+use Rattle.sets.specs.Rows.{rowAt, inRow}
 use Rattle.sets.specs.declared.set.Set.{Set}
 use Rattle.sets.proofs.Tests.{and-i, and-l, and-r, and-true, non-i, non-e, non-non, non-false, true→T, false→F, F→false}
 use Rattle.sets.proofs.Bits.{bit-zero}
 use Rattle.sets.proofs.Below.{some-i, some-e, least-is, least-lt}
 use Rattle.sets.proofs.Members.{is-those, those-ext, those-of, those-e, those-i, empty-e, empty-none}
-use Rattle.sets.proofs.RowLaws.{rowsOf-ext, empty-rowsOf, put-rowsOf}
 use Rattle.miner.specs.Reading.{reducedOf}
 
 -- ---- a turn of a loop over a set's members

@@ -6,16 +6,15 @@ use Prim.Native.Nat.{ℕ, _+_, _-_, _≤_, _<_}
 use native.Mathlib.Omega.{arith}
 use borrow.Author.Tests.{eq-eqb, ne-eqb}
 use lib.Dec.{T, eqb}
-use lib.ListN.{length, getD, take, drop}
+use lib.ListN.{length, getD, drop}
 use lib.Seq.{take-all}
-use Rattle.sets.specs.Tests.{_and_, _or_, non, when_then_else_}
-use Rattle.sets.specs.Members.{width, mem, those, isEmpty}
-use Rattle.sets.specs.Rows.{rowAt, withRow}
+use Rattle.sets.specs.Tests.{_and_, _or_, non}
+use Rattle.sets.specs.Members.{mem, those, isEmpty}
 use Rattle.sets.specs.declared.set.Set.{Set}
 use Rattle.sets.proofs.Tests.{or-true, or-false, and-true, F→false, true→T}
-use Rattle.sets.proofs.Members.{those-ext, those-of, mem-those, empty-e}
-use Rattle.rules.specs.Traces.{_has_, atSomeFrom, atSome}
-use Rattle.miner.specs.Passes.{gained, notSince}
+use Rattle.sets.proofs.Members.{those-ext, those-of, empty-e}
+use Rattle.rules.specs.Traces.{_has_, atSomeFrom}
+use Rattle.miner.specs.Passes.{notSince}
 use Rattle.miner.proofs.Turns.{pastAt, past-next, rest-next, rest-none}
 
 -- x stands in `far` with no e nearer, where `near` was passed already

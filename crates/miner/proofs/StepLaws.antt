@@ -10,12 +10,12 @@ use Rattle.sets.specs.Tests.{_and_, _or_, when_then_else_}
 use Rattle.sets.specs.Members.{width, mem, those, leastBelow}
 use Rattle.sets.specs.Rows.{Relation, noRows, rowAt, withRow, inRow, rowsOf}
 use Rattle.sets.specs.declared.set.Set.{Set}
-use Rattle.sets.proofs.Tests.{T-ext, and-r, and-i, eqb-of, true-and, false-and, and-true, or-false}
+use Rattle.sets.proofs.Tests.{T-ext, and-r, and-i, eqb-of, true-and, false-and, and-true, or-false, false-or}
 use Rattle.sets.proofs.Below.{least-is}
 use Rattle.sets.proofs.Members.{those-ext}
 use Rattle.sets.proofs.RowLaws.{put-rowsOf, gain-rowsOf, rowsOf-ext, empty-rowsOf}
 use Rattle.miner.specs.Reading.{smallestOf, turned}
-use Rattle.miner.proofs.Tautologies.{and-false, false-or}
+use Rattle.miner.proofs.Tautologies.{and-false}
 use Rattle.miner.proofs.MadeSets.{Is, is-those, is-row, joined, none}
 
 -- ---- one number further

@@ -1,8 +1,8 @@
 -- The rows that the walks leave are the tally of the log. Assumes nothing.
-use mathlib.Core.Path.{_≡_, refl, sym, ap, _∙_}
+use mathlib.Core.Path.{_≡_, ap, _∙_}
 use mathlib.Core.List.{List, []}
 use Prim.Native.Nat.{ℕ}
-use Rattle.sets.specs.Tests.{_or_, non}
+use Rattle.sets.specs.Tests.{non}
 use Rattle.sets.specs.Members.{those}
 use Rattle.sets.specs.Rows.{Relation, noRows, rowsOf}
 use Rattle.sets.specs.declared.set.Set.{Set}

@@ -37,7 +37,3 @@ pub and-false : (a : Bool) → (a and false) ≡ false
 unfolding _and_
 and-false true = refl
 and-false false = refl
-
-pub false-or : (a : Bool) → (false or a) ≡ a
-unfolding _or_
-false-or a = refl

@@ -2,18 +2,18 @@
 use mathlib.Core.Path.{_≡_, refl, sym, ap, _∙_}
 use mathlib.Core.Bool.{Bool, true, false}
 use mathlib.Core.List.{List, [], _∷_, _++_, reverseAux}
-use Prim.Native.Nat.{ℕ, suc, _+_, _≤_, _<_}
+use Prim.Native.Nat.{ℕ, _+_, _≤_, _<_}
 use native.Mathlib.Omega.{arith}
 use native.Mathlib.Numerals.{add-one}
 use lib.Dec.{eqb}
 use lib.ListN.{length, getD, take, drop, drop-of-length-le}
 use lib.Seq.{take-suc, take-all, drop-cons}
-use Rattle.sets.specs.Tests.{_and_, _or_}
-use Rattle.sets.specs.Members.{width, bitsOf, mem, those}
+use Rattle.sets.specs.Tests.{_or_}
+use Rattle.sets.specs.Members.{bitsOf, mem, those}
 use Rattle.sets.specs.Rows.{rowAt, withRow}
 use Rattle.sets.specs.declared.set.Set.{Set}
 use Rattle.sets.proofs.Tests.{or-false}
-use Rattle.sets.proofs.Members.{those-ext, those-of, mem-those}
+use Rattle.sets.proofs.Members.{those-ext, those-of}
 use Rattle.rules.specs.Traces.{_has_, _beginsWith_}
 use Rattle.miner.specs.Passes.{Fact, gained, gains, forward, backward}
 

@@ -4,7 +4,6 @@ use Prim.Native.Nat.{ℕ}
 use Rattle.sets.specs.Tests.{when_then_else_}
 use Rattle.sets.specs.Answers.{isDone}
 use Rattle.engine.specs.Relations.{emptyGraph}
-use Rattle.engine.specs.declared.graph.Graph.{Graph}
 use Rattle.calllog.specs.Logs.{logOf}
 use Rattle.rules.specs.Mined.{minedGraph}
 use Rattle.miner.specs.declared.mining.Mined.{Mined}

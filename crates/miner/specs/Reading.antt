@@ -66,7 +66,33 @@ unfoldable pub waited : Set → List ℕ → List ℕ → List ℕ → Relation
 waited events conditions beforeFirst missed a x =
     mem events a and mem events x and (inRow conditions a x or non (eqb x a) and inRow beforeFirst a x and non (inRow missed a x))
 
--- ---- what is put together from a tally
+-- ---- what is put together, stage by stage
+
+-- the excludes after steps 1 to 5, where `selves` are those that exclude themselves
+abbrev pub fiveFrom : Set → Set → List ℕ → List ℕ → List ℕ
+fiveFrom events selves before later =
+    rowsOf
+    (inEither (rowsOf (inEither (rowsOf (diagonal selves)) (rowsOf (smallestOf (rowsOf (apart events before later))))))
+    (rowsOf (smallestOf (rowsOf (closing events selves before later)))))
+
+-- the excludes after steps 6 and 7, from those after step 5 and what never directly follows
+abbrev pub sevenFrom : Set → List ℕ → List ℕ → List ℕ → List ℕ
+sevenFrom events five never unalternated = rowsOf (notRedundant events (rowsOf (inEither five never)) unalternated)
+
+-- the includes of steps 3 and 6, from the chains by target and what never directly follows
+abbrev pub includesFrom : List ℕ → List ℕ → Traces → List ℕ
+includesFrom chains never L = rowsOf (inEither (rowsOf (turned chains)) (through (λ r σ. forward (letIn never) r [] σ) noRows L))
+
+-- the conditions of steps 9 and 10, from those after step 8
+abbrev pub waitedOf : Set → List ℕ → List ℕ → List ℕ → Traces → List ℕ
+waitedOf events eight includes excludes L =
+    rowsOf
+    (reducedOf
+    (rowsOf
+    (waited events eight (through (λ r σ. forward beforeFirst r [] σ) noRows L)
+    (through (λ r σ. forward (missed events includes excludes) r [] σ) noRows L))))
+
+-- ---- the same, from a tally
 
 -- conditions and chains by target, responses by source
 abbrev pub conditionsOf : Tally → List ℕ
@@ -78,41 +104,20 @@ responsesOf t = rowsOf (unbroken (t .events) (t .unanswered))
 abbrev pub chainsOf : Tally → List ℕ
 chainsOf t = rowsOf (unbroken (t .events) (t .unchained))
 
--- the excludes after five steps, after six, after seven
+abbrev pub neverOf : Tally → List ℕ
+neverOf t = rowsOf (absent (t .events) (t .followed))
+
 abbrev pub selvesOf : Tally → Set
 selvesOf t = those (excludesItself (t .events) (t .before) (chainsOf t))
 
-abbrev pub apartOf : Tally → List ℕ
-apartOf t = rowsOf (smallestOf (rowsOf (apart (t .events) (t .before) (t .later))))
-
-abbrev pub closedOf : Tally → List ℕ
-closedOf t = rowsOf (smallestOf (rowsOf (closing (t .events) (selvesOf t) (t .before) (t .later))))
-
 abbrev pub fiveOf : Tally → List ℕ
-fiveOf t = rowsOf (inEither (rowsOf (inEither (rowsOf (diagonal (selvesOf t))) (apartOf t))) (closedOf t))
-
-abbrev pub sixOf : Tally → List ℕ
-sixOf t = rowsOf (inEither (fiveOf t) (rowsOf (absent (t .events) (t .followed))))
+fiveOf t = fiveFrom (t .events) (selvesOf t) (t .before) (t .later)
 
 abbrev pub sevenOf : Tally → List ℕ
-sevenOf t = rowsOf (notRedundant (t .events) (sixOf t) (t .unalternated))
+sevenOf t = sevenFrom (t .events) (fiveOf t) (neverOf t) (t .unalternated)
 
--- ---- what is put together from a tally and the traces
-
--- the includes, of steps 3 and 6
 abbrev pub includesOf : Tally → Traces → List ℕ
-includesOf t L =
-    rowsOf
-    (inEither (rowsOf (turned (chainsOf t))) (through (λ r σ. forward (letIn (rowsOf (absent (t .events) (t .followed)))) r [] σ) noRows L))
-
--- the conditions, of steps 9 and 10, from those after step 8
-abbrev pub waitedOf : Set → List ℕ → List ℕ → List ℕ → Traces → List ℕ
-waitedOf events eight includes excludes L =
-    rowsOf
-    (reducedOf
-    (rowsOf
-    (waited events eight (through (λ r σ. forward beforeFirst r [] σ) noRows L)
-    (through (λ r σ. forward (missed events includes excludes) r [] σ) noRows L))))
+includesOf t L = includesFrom (chainsOf t) (neverOf t) L
 
 -- the graph
 unfoldable pub graphRead : ℕ → Traces → Tally → Graph

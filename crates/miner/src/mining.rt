@@ -1,16 +1,15 @@
 // The miner: from the bytes of a log to its graph.
 ghost use mathlib.Core.Path.{_≡_};
 ghost use mathlib.Core.List.{[]};
-ghost use Rattle.sets.specs.Rows.{noRows, rowsOf};
+ghost use Rattle.sets.specs.Rows.{noRows};
 ghost use Rattle.miner.specs.Passes.{forward, through, walked, letIn, beforeFirst, missed};
-ghost use Rattle.miner.specs.Reading.{reducedOf, conditionsOf, responsesOf, fiveOf, sevenOf, includesOf, waitedOf, graphRead};
+ghost use Rattle.miner.specs.Reading.{fiveFrom, sevenFrom, includesFrom, waitedOf, graphRead};
 ghost use Rattle.miner.specs.Mine.{minedOf};
 ghost use Rattle.miner.specs.Tallies.{tallyOf};
 use crate::reduce;
 use crate::second;
 use crate::steps;
 use crate::tally;
-use crate::tally::Tally;
 use engine::Graph;
 use engine::Marking;
 use sets::Answer;
@@ -24,47 +23,23 @@ pub struct Mined {
     pub graph: Graph,
 }
 
-// The excludes after steps 1 to 5.
-fn excludes_five(t: Tally) -> Rows
-    ensures { λ r. ⌜ r ≡ fiveOf t ⌝ }
+// The excludes after steps 1 to 5, where `selves` exclude themselves.
+fn excludes_five<'a>(events: Set, selves: Set, before: &'a Rows, later: &'a Rows) -> Rows
+    ensures { λ r. ⌜ r ≡ fiveFrom events selves (now (before .entry)) (now (later .entry)) ⌝ }
 {
-    let events = t.events;
-    let chains = steps::unbroken(events, &t.unchained);
-    let selves = steps::selves(events, &t.before, &chains);
-    let apart = steps::apart(events, &t.before, &t.later);
-    let closing = steps::closing(events, selves, &t.before, &t.later);
+    let apart = steps::apart(events, before, later);
+    let closing = steps::closing(events, selves, before, later);
     let itself = steps::diagonal(selves);
     let four = steps::united(&itself, &steps::smallest(&apart));
     steps::united(&four, &steps::smallest(&closing))
 }
 
-// The excludes after steps 6 and 7.
-fn excludes_seven(t: Tally) -> Rows
-    ensures { λ r. ⌜ r ≡ sevenOf t ⌝ }
+// The excludes after steps 6 and 7, from those after step 5 and what never directly follows.
+fn excludes_seven<'a>(events: Set, five: &'a Rows, never: &'a Rows, unalternated: &'a Rows) -> Rows
+    ensures { λ r. ⌜ r ≡ sevenFrom events (now (five .entry)) (now (never .entry)) (now (unalternated .entry)) ⌝ }
 {
-    let events = t.events;
-    let five = excludes_five(t);
-    let never = steps::absent(events, &t.followed);
-    let six = steps::united(&five, &never);
-    steps::not_redundant(events, &six, &t.unalternated)
-}
-
-// The conditions after step 8, by target.
-fn conditions_eight(t: Tally) -> Rows
-    ensures { λ r. ⌜ r ≡ rowsOf (reducedOf (conditionsOf t)) ⌝ }
-{
-    let events = t.events;
-    let two = steps::unbroken(events, &t.unpreceded);
-    reduce::reduced(&two)
-}
-
-// The responses after step 8.
-fn responses_eight(t: Tally) -> Rows
-    ensures { λ r. ⌜ r ≡ rowsOf (reducedOf (responsesOf t)) ⌝ }
-{
-    let events = t.events;
-    let two = steps::unbroken(events, &t.unanswered);
-    reduce::reduced(&two)
+    let six = steps::united(five, never);
+    steps::not_redundant(events, &six, unalternated)
 }
 
 // What step 6 includes, over all traces.
@@ -84,14 +59,11 @@ fn let_in<'a>(log: &'a [u8], traces: usize, unfollowed: &'a Rows) -> Rows
 }
 
 // The includes, of steps 3 and 6.
-fn includes_six(log: &[u8], traces: usize, t: Tally) -> Rows
-    ensures { λ r. ⌜ r ≡ includesOf t (walked (now (log .entry)) traces 0) ⌝ }
+fn includes_six<'a>(log: &'a [u8], traces: usize, chains: &'a Rows, never: &'a Rows) -> Rows
+    ensures { λ r. ⌜ r ≡ includesFrom (now (chains .entry)) (now (never .entry)) (walked (now (log .entry)) traces 0) ⌝ }
 {
-    let events = t.events;
-    let chains = steps::unbroken(events, &t.unchained);
-    let three = steps::turned(&chains);
-    let never = steps::absent(events, &t.followed);
-    let six = let_in(log, traces, &never);
+    let three = steps::turned(chains);
+    let six = let_in(log, traces, never);
     steps::united(&three, &six)
 }
 
@@ -150,11 +122,15 @@ fn graph_read(log: &[u8], activities: u8, traces: usize) -> Graph
 {
     let t = tally::counted(log, traces);
     let events = t.events;
-    let excludes = excludes_seven(t);
-    let includes = includes_six(log, traces, t);
-    let eight = conditions_eight(t);
+    let chains = steps::unbroken(events, &t.unchained);
+    let never = steps::absent(events, &t.followed);
+    let selves = steps::selves(events, &t.before, &chains);
+    let five = excludes_five(events, selves, &t.before, &t.later);
+    let excludes = excludes_seven(events, &five, &never, &t.unalternated);
+    let includes = includes_six(log, traces, &chains, &never);
+    let eight = reduce::reduced(&steps::unbroken(events, &t.unpreceded));
     let conditions = conditions_ten(log, traces, events, &eight, &includes, &excludes);
-    let responses = responses_eight(t);
+    let responses = reduce::reduced(&steps::unbroken(events, &t.unanswered));
     Graph {
         activities,
         events,

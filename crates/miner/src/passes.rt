@@ -4,7 +4,6 @@ ghost use mathlib.Core.Path.{_≡_};
 ghost use mathlib.Core.List.{[], reverseAux};
 ghost use Rattle.sets.specs.Members.{mem, those};
 ghost use Rattle.sets.specs.Tests.{_and_, non, when_then_else_};
-ghost use Rattle.sets.specs.Rows.{rowAt, withRow};
 ghost use Rattle.rules.specs.Traces.{_has_};
 ghost use Rattle.miner.specs.Passes.{gained, forward, backward, isEarlier, notEarlier, notDirectly, notSince, isLater, notLater, isNext};
 use sets::Activity;

@@ -1,8 +1,6 @@
 // The steps of mining that work on rows of sets: a few words a row, and no look at the log. A relation's rows are made row by row, each by
 // a function of its own.
 ghost use mathlib.Core.Path.{_≡_};
-ghost use mathlib.Core.Bool.{Bool};
-ghost use Prim.Native.Nat.{ℕ};
 ghost use lib.Dec.{eqb};
 ghost use Rattle.sets.specs.Tests.{_and_, _or_, non};
 ghost use Rattle.sets.specs.Members.{width, mem, those, someBelow, leastBelow};

@@ -1,5 +1,5 @@
 -- What the port's calls ensure, put together. Assumes nothing.
-use mathlib.Core.Path.{_≡_, refl, sym, ap, ap₂, _∙_}
+use mathlib.Core.Path.{_≡_, sym, ap, ap₂, _∙_}
 use mathlib.Core.Bool.{Bool, true, false, not}
 use mathlib.Core.List.{List}
 use Prim.Native.Nat.{ℕ, _+_, _*_, _%_, _^_, _≤_, _<_}
@@ -12,10 +12,9 @@ use Rattle.sets.specs.declared.answer.Answer.{Answer}
 use Rattle.sets.specs.declared.answer.Answer.the-variants.{Done, AboveLimit, BufferTooSmall}
 use Rattle.sets.specs.Sizes.{longestTrace}
 use Rattle.sets.proofs.Asking.{gone-on}
-use Rattle.engine.specs.Markings.{emptyMarking}
 use Rattle.engine.specs.Relations.{relationsOf, emptyGraph}
 use Rattle.engine.specs.Judged.{judged}
-use Rattle.engine.specs.Replay.{ending, replayFrom, replayOf, steppedOf}
+use Rattle.engine.specs.Replay.{replayFrom, replayOf, steppedOf}
 use Rattle.engine.proofs.Acceptable.{replay-judged, replay-long}
 use Rattle.engine.specs.declared.marking.Marking.{Marking}
 use Rattle.engine.specs.declared.step.Stepped.{Stepped}
@@ -29,7 +28,6 @@ use Rattle.graphfile.specs.Writing.{writtenOf, bufferAfter}
 use Rattle.graphfile.specs.declared.reader.Reading.{Reading}
 use Rattle.graphfile.specs.declared.writer.Written.{Written}
 use Rattle.graphfile.specs.Markings.{markingFrom, markingInto}
-use Rattle.miner.specs.Mine.{minedOf}
 use Rattle.miner.specs.declared.mining.Mined.{Mined}
 use Rattle.report.specs.declared.writer.Listed.{Listed}
 use Rattle.port.specs.Port.{packedOf, putNumber, putBuffer, replayNumber, refusedStep, stepOf, stepBytes}

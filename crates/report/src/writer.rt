@@ -49,28 +49,22 @@ fn put_lines<'a>(
     requires { ⌜ 0 + length (linesText events opening (now conditions) (now responses) (now includes) (now excludes) (now log) traces) ≤ length (now out) ⌝ }
     ensures { λ r. ⌜ Put (now (out .entry)) 0 (linesText events opening (now (conditions .entry)) (now (responses .entry)) (now (includes .entry)) (now (excludes .entry)) (now (log .entry)) traces) (now (out .exit)) r ⌝ }
 {
-    let by_source = miner::turned(conditions);
-    let after_heading = heading::put_heading(
+    // from here on the conditions by source, as they are listed
+    let listed = miner::turned(conditions);
+    let at = heading::put_heading(
         out,
         0,
         events,
         traces,
-        &by_source,
+        &listed,
         responses,
         includes,
         excludes,
     );
-    let after_pairs = relations::put_relations(
-        out,
-        after_heading,
-        &by_source,
-        responses,
-        includes,
-        excludes,
-    );
+    let end = relations::put_relations(out, at, &listed, responses, includes, excludes);
     replays::put_traces(
         out,
-        after_pairs,
+        end,
         log,
         traces,
         events,

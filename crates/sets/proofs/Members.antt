@@ -1,7 +1,7 @@
 -- Laws of sets by their members, and the machine's operations as comprehensions. Assumes nothing.
-use mathlib.Core.Path.{_≡_, refl, sym, ap, _∙_, subst}
+use mathlib.Core.Path.{_≡_, sym, ap, _∙_, subst}
 use mathlib.Core.Bool.{Bool, true, false, not}
-use Prim.Native.Nat.{ℕ, suc, _+_, _^_, _-_, _*_, _/_, _%_, _≤_, _<_}
+use Prim.Native.Nat.{ℕ, _^_, _-_, _*_, _/_, _%_, _≤_, _<_}
 use native.Mathlib.Omega.{arith}
 use native.Mathlib.Nat.{lt-of-le-of-lt}
 use borrow.Author.Tests.{ne-eqb, lt-ltb, ltb-true, ltb-false, not-true}
@@ -12,8 +12,8 @@ use Rattle.sets.specs.Tests.{_and_, _or_, non}
 use Rattle.sets.specs.Members.{width, bit, bitsOf, mem, those, someBelow, everyBelow, countBelow, leastBelow, isEmpty, within}
 use Rattle.sets.specs.declared.set.Set.{Set}
 use Rattle.sets.proofs.Tests.{non-or, non-non, T→true, F→false, false→F, non-false, non-e, imp-i, imp-e, split, either}
-use Rattle.sets.proofs.Bits.{is-bitsOf, bitsOf-ext, bitsOf-bit, bitsOf-lt, bit-bitsOf, bit-bitsOf-above, bit-and, bit-or, bit-non, bit-above, bit-zero, bit-pow, bit-ones, one-shl}
-use Rattle.sets.proofs.Below.{some-i, some-e, some-ext, every-i, every-e, every-ext, non-some, none-zero, count-ext, count-less, least-ext, least-is, least-lt, ones-count, trailing-least}
+use Rattle.sets.proofs.Bits.{is-bitsOf, bitsOf-ext, bitsOf-bit, bit-bitsOf, bit-bitsOf-above, bit-and, bit-or, bit-non, bit-above, bit-zero, bit-pow, bit-ones, one-shl}
+use Rattle.sets.proofs.Below.{some-ext, every-i, every-e, every-ext, non-some, none-zero, count-ext, count-less, least-is, least-lt, ones-count, trailing-least}
 
 -- ---- a set and its members
 

@@ -2,7 +2,7 @@
 ghost use mathlib.Core.Path.{_≡_};
 ghost use lib.Dec.{eqb, ltb};
 ghost use Rattle.sets.specs.Tests.{_and_, _or_, non};
-ghost use Rattle.sets.specs.Members.{width, mem, those, within, isEmpty, someBelow, leastBelow, countBelow};
+ghost use Rattle.sets.specs.Members.{width, mem, those, within, isEmpty, leastBelow, countBelow};
 use crate::activity::Activity;
 
 pub struct Set {

@@ -2,12 +2,6 @@ use borrow.Author.Needs.{needs}
 use Rattle.miner.proofs.mining.excludes_five.Statement.{statement}
 use Rattle.miner.proofs.mining.excludes_five.Tie as tie
 
-unbroken-requires : tie.Need-unbroken-requires
-unbroken-requires c κs = search needs
-
-selves-requires : tie.Need-selves-requires
-selves-requires c κs = search needs
-
 apart-requires : tie.Need-apart-requires
 apart-requires c κs = search needs
 
@@ -36,8 +30,6 @@ pub excludes-five-spec : {M : Type 1} → statement M
 excludes-five-spec =
     tie.close
     (tie.spec
-    unbroken-requires
-    selves-requires
     apart-requires
     closing-requires
     diagonal-requires

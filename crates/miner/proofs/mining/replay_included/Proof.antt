@@ -1,11 +1,11 @@
-use mathlib.Core.Path.{_≡_, refl, sym, ap, _∙_}
+use mathlib.Core.Path.{refl}
 use mathlib.Core.List.{List, []}
 use Prim.Native.Nat.{ℕ, _-_, _≤_}
 use native.Mathlib.Omega.{arith}
 use borrow.Author.Needs.{needs}
 use Rattle.sets.specs.declared.set.Set.{Set}
 use Rattle.calllog.proofs.Traces.{part-within}
-use Rattle.miner.specs.Passes.{forward, through, walked, beforeFirst, missed}
+use Rattle.miner.specs.Passes.{forward, beforeFirst, missed}
 use Rattle.miner.proofs.Walks.{Left, through-start, through-next, through-end}
 use Rattle.miner.proofs.mining.replay_included.Statement.{statement}
 use Rattle.miner.proofs.mining.replay_included.Tie as tie

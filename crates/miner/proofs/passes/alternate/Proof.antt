@@ -8,7 +8,7 @@ use lib.ListN.{length, getD, take, drop}
 use Rattle.sets.specs.Tests.{_or_, non, when_then_else_}
 use Rattle.sets.specs.Members.{mem, those}
 use Rattle.sets.specs.declared.set.Set.{Set}
-use Rattle.miner.specs.Passes.{gained, gains, forward, notSince}
+use Rattle.miner.specs.Passes.{gained, forward, notSince}
 use Rattle.miner.proofs.Turns.{pastAt, past-next, seenIn, seen-more, seen-none, forward-next, forward-end}
 use Rattle.miner.proofs.Alternate.{since-gains}
 use Rattle.miner.proofs.passes.alternate.Statement.{statement}

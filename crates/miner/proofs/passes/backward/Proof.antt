@@ -1,7 +1,7 @@
 -- The invariant: the rows are those of the pass over what was passed of the trace; `after` and `next` are the sets of what stands
 -- after the place and directly after it.
 use mathlib.Core.Path.{_≡_, refl, sym, ap, subst, _∙_}
-use mathlib.Core.List.{List, [], _∷_}
+use mathlib.Core.List.{List}
 use Prim.Native.Nat.{ℕ, _+_, _-_, _≤_, _<_}
 use native.Mathlib.Omega.{arith}
 use borrow.Author.Needs.{needs}

@@ -1,18 +1,17 @@
 -- The invariant: what is left of the pass, from the rows as they are, gives the whole pass; `seen` and `last` are the sets of what
 -- stands before the place and directly before it.
 use mathlib.Core.Path.{_≡_, refl, sym, ap, _∙_}
-use mathlib.Core.Bool.{Bool, false}
-use mathlib.Core.List.{List, [], _∷_}
+use mathlib.Core.List.{List, []}
 use Prim.Native.Nat.{ℕ, _+_, _-_, _≤_, _<_}
 use native.Mathlib.Omega.{arith}
 use borrow.Author.Needs.{needs}
 use lib.Dec.{eqb}
 use lib.ListN.{length, getD, drop}
 use Rattle.sets.specs.Tests.{_or_, non}
-use Rattle.sets.specs.Members.{mem, those, bitsOf}
+use Rattle.sets.specs.Members.{mem, those}
 use Rattle.sets.specs.declared.set.Set.{Set}
-use Rattle.rules.specs.Traces.{_has_, _beginsWith_}
-use Rattle.miner.specs.Passes.{Fact, gained, forward, isEarlier, notEarlier, notDirectly}
+use Rattle.rules.specs.Traces.{_beginsWith_}
+use Rattle.miner.specs.Passes.{gained, forward, isEarlier, notEarlier, notDirectly}
 use Rattle.miner.proofs.Turns.{pastAt, past-next, seenIn, lastIn, seen-more, seen-all, seen-none, last-none, gained-by, forward-next, forward-end}
 use Rattle.miner.proofs.passes.forward.Statement.{statement}
 use Rattle.miner.proofs.passes.forward.Tie as tie

@@ -1,7 +1,5 @@
-use mathlib.Core.Path.{_≡_, refl, sym, ap, _∙_}
-use Prim.Native.Nat.{ℕ, _+_, _-_, _≤_, _<_}
+use Prim.Native.Nat.{_-_}
 use borrow.Author.Needs.{needs}
-use lib.ListN.{length}
 use Rattle.sets.proofs.Members.{those-mem}
 use Rattle.miner.proofs.Since.{Looked, look-start, look-next, look-stop, look-empty, look-end, look-down}
 use Rattle.miner.proofs.passes.unmet.Statement.{statement}

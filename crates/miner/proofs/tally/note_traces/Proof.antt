@@ -1,5 +1,5 @@
 -- The invariant: what is left of the walk, from the rows as they are, gives the whole walk.
-use mathlib.Core.Path.{_≡_, refl, sym, ap, _∙_}
+use mathlib.Core.Path.{_≡_, refl}
 use mathlib.Core.List.{List, []}
 use Prim.Native.Nat.{ℕ, _+_, _-_, _≤_, _<_}
 use native.Mathlib.Omega.{arith}
@@ -13,7 +13,7 @@ use Rattle.calllog.specs.declared.trace.Part.{Part}
 use Rattle.calllog.specs.Logs.{partOf}
 use Rattle.rules.specs.Traces.{_has_, someTrace}
 use Rattle.calllog.proofs.Traces.{part-within}
-use Rattle.miner.specs.Passes.{Fact, forward, backward, through, walked, isEarlier, notEarlier, notDirectly, notSince, isLater, notLater, isNext}
+use Rattle.miner.specs.Passes.{Fact, forward, backward, walked, isEarlier, notEarlier, notDirectly, notSince, isLater, notLater, isNext}
 use Rattle.miner.proofs.Walks.{Left, eventsFrom, events-start, events-next, events-end, events-set, through-start, through-next, through-end}
 use Rattle.miner.proofs.tally.note_traces.Statement.{statement}
 use Rattle.miner.proofs.tally.note_traces.Tie as tie
