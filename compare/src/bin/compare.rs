@@ -1,6 +1,8 @@
-//! The comparison: `compare [ROUNDS] [--need-port]`.
+//! The comparison: `compare [ROUNDS] [--need-port] [--record=FILE]`.
 //! Fails on a difference, on a number that was never seen, and, with `--need-port`, where
-//! the proved code is not linked.
+//! the proved code is not linked. FILE gets every call of the five functions, with the
+//! judge's result.
+use compare::comparison::record::Record;
 use compare::comparison::{rounds, Comparison};
 use compare::{port, yardstick};
 use std::process::ExitCode;
@@ -12,14 +14,22 @@ const ROUNDS: u64 = 600;
 fn main() -> ExitCode {
     let mut count = ROUNDS;
     let mut need_port = false;
+    let mut record = Record::default();
     for argument in std::env::args().skip(1) {
         match argument.parse() {
             Ok(number) => count = number,
             Err(_) if argument == "--need-port" => need_port = true,
-            Err(_) => {
-                eprintln!("compare [ROUNDS] [--need-port]");
-                return ExitCode::from(2);
-            }
+            Err(_) => match argument.strip_prefix("--record=").map(Record::to) {
+                Some(Ok(opened)) => record = opened,
+                Some(Err(error)) => {
+                    eprintln!("{argument}: {error}");
+                    return ExitCode::from(2);
+                }
+                None => {
+                    eprintln!("compare [ROUNDS] [--need-port] [--record=FILE]");
+                    return ExitCode::from(2);
+                }
+            },
         }
     }
     let mut others = vec![yardstick::door::DOOR];
@@ -34,16 +44,17 @@ fn main() -> ExitCode {
         println!("the port is needed and ../target/staticlib/libport.a was not there at build");
         return ExitCode::FAILURE;
     }
-    if run(others, count) {
+    if run(others, count, record) {
         ExitCode::SUCCESS
     } else {
         ExitCode::FAILURE
     }
 }
 
-fn run(others: Vec<compare::door::Door>, count: u64) -> bool {
+fn run(others: Vec<compare::door::Door>, count: u64, record: Record) -> bool {
     let start = Instant::now();
     let mut comparison = Comparison::with(others);
+    comparison.record = record;
     rounds::once(&mut comparison);
     println!(
         "fixed inputs done after {:.1} s",

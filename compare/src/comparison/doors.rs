@@ -1,5 +1,6 @@
 //! The five functions of `port`, called on each implementation with the same bytes. Lent
 //! buffers start with a pattern, so that a byte written where none should be shows.
+use super::record::{Call, Function};
 use super::{decimal, Comparison};
 use crate::door::{Fill, LISTING_ROOM};
 use crate::judge::door::DOOR as JUDGE;
@@ -30,12 +31,22 @@ impl Comparison {
     fn filled(
         &mut self,
         function: &'static str,
+        kept_as: Function,
         pick: fn(&crate::door::Door) -> Fill,
         input: &[u8],
         room: usize,
     ) -> (u64, Vec<u8>) {
         let (wanted, lent) = call(pick(&JUDGE), input, room);
         self.saw(function, wanted as u8);
+        self.record.keep(&Call {
+            function: kept_as,
+            input,
+            beside: &[],
+            room,
+            activity: 0,
+            result: wanted,
+            after: &lent,
+        });
         for other in self.others.clone() {
             let (result, bytes) = call(pick(&other), input, room);
             if result != wanted || bytes != lent {
@@ -52,22 +63,43 @@ impl Comparison {
 
     /// Gives the graph file where the log is accepted.
     pub fn mine(&mut self, log: &[u8], room: usize) -> Option<Vec<u8>> {
-        let (result, mut file) = self.filled("mine", |door| door.mine, log, room);
+        let (result, mut file) = self.filled("mine", Function::Mine, |door| door.mine, log, room);
         file.truncate((result / 256) as usize);
         (result % 256 == 0).then_some(file)
     }
 
     pub fn listing(&mut self, log: &[u8]) {
-        self.filled("listing", |door| door.listing, log, LISTING_ROOM);
+        self.filled(
+            "listing",
+            Function::Listing,
+            |door| door.listing,
+            log,
+            LISTING_ROOM,
+        );
     }
 
     pub fn rewrite(&mut self, file: &[u8], room: usize) {
-        self.filled("rewrite", |door| door.rewrite, file, room);
+        self.filled(
+            "rewrite",
+            Function::Rewrite,
+            |door| door.rewrite,
+            file,
+            room,
+        );
     }
 
     pub fn replay(&mut self, file: &[u8], trace: &[u8]) {
         let wanted = (JUDGE.replay)(file, trace);
         self.saw("replay", wanted as u8);
+        self.record.keep(&Call {
+            function: Function::Replay,
+            input: file,
+            beside: trace,
+            room: 0,
+            activity: 0,
+            result: wanted,
+            after: &[],
+        });
         for other in self.others.clone() {
             let result = (other.replay)(file, trace);
             if result != wanted {
@@ -83,6 +115,15 @@ impl Comparison {
         let mut after = marking;
         let wanted = (JUDGE.step)(file, &mut after, activity);
         self.saw("step", wanted as u8);
+        self.record.keep(&Call {
+            function: Function::Step,
+            input: file,
+            beside: &marking,
+            room: marking.len(),
+            activity,
+            result: wanted,
+            after: &after,
+        });
         for other in self.others.clone() {
             let mut lent = marking;
             let result = (other.step)(file, &mut lent, activity);

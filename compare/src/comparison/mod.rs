@@ -1,8 +1,10 @@
 //! The judge set against every other implementation, to the byte and to the number.
 use crate::door::Door;
+use record::Record;
 use std::collections::BTreeMap;
 
 pub mod doors;
+pub mod record;
 pub mod rounds;
 pub mod values;
 
@@ -27,6 +29,7 @@ const EXPECTED: [(&str, &[u8]); 13] = [
 pub struct Comparison {
     /// everything but the judge
     pub others: Vec<Door>,
+    pub record: Record,
     inputs: BTreeMap<&'static str, u64>,
     numbers: BTreeMap<&'static str, [u64; 12]>,
     differences: u64,
@@ -39,6 +42,7 @@ impl Comparison {
     pub fn with(others: Vec<Door>) -> Comparison {
         Comparison {
             others,
+            record: Record::default(),
             inputs: BTreeMap::new(),
             numbers: BTreeMap::new(),
             differences: 0,

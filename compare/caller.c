@@ -1,0 +1,85 @@
+/* A caller in C: it makes the calls of a record again (compare --record=FILE) and holds what
+   comes back to the judge's results. It includes the header that users include, so that is
+   tried too. compare/x86 runs it on the archive for x86-64. Reads the record from standard
+   input; libc's three functions are declared here, so that no system header is needed. */
+#include "../docs/skelfora.h"
+
+int printf(const char *format, ...);
+long read(int file, void *bytes, size_t count);
+void *memset(void *bytes, int value, size_t count);
+
+enum { MINE, LISTING, REWRITE, REPLAY, STEP, FUNCTIONS };
+enum { ROOM = 1 << 18, UNTOUCHED = 165 };
+
+static uint8_t input[ROOM], beside[ROOM], lent[ROOM];
+
+/* Whole parts only: 0 at the end of the record, and -1 where it ends within a part. */
+static int take(void *to, size_t count) {
+    static uint8_t kept[1 << 16];
+    static size_t at, end;
+    uint8_t *bytes = to;
+    for (size_t i = 0; i < count; i++) {
+        if (at == end) {
+            long more = read(0, kept, sizeof kept);
+            if (more <= 0) return i == 0 ? 0 : -1;
+            at = 0;
+            end = (size_t)more;
+        }
+        bytes[i] = kept[at++];
+    }
+    return 1;
+}
+
+static uint64_t number(size_t bytes) {
+    uint64_t value = 0;
+    uint8_t one;
+    for (size_t i = 0; i < bytes; i++) {
+        if (take(&one, 1) != 1) return ~(uint64_t)0;
+        value |= (uint64_t)one << (8 * i);
+    }
+    return value;
+}
+
+static size_t part(uint8_t *to) {
+    size_t length = number(4);
+    if (length > ROOM || (length > 0 && take(to, length) != 1)) return ROOM + 1;
+    return length;
+}
+
+static uint64_t hash(const uint8_t *bytes, size_t count) {
+    uint64_t value = 0xCBF29CE484222325u;
+    for (size_t i = 0; i < count; i++) value = (value ^ bytes[i]) * 0x100000001B3u;
+    return value;
+}
+
+static uint64_t call(int function, size_t n, size_t m, size_t room, uint8_t activity) {
+    switch (function) {
+    case MINE: return skelfora_mine(input, n, lent, room);
+    case LISTING: return skelfora_listing(input, n, lent, room);
+    case REWRITE: return skelfora_rewrite(input, n, lent, room);
+    case REPLAY: return skelfora_replay(input, n, beside, m);
+    default: return skelfora_step(input, n, lent, room, activity);
+    }
+}
+
+int main(void) {
+    unsigned long calls[FUNCTIONS] = {0}, different = 0;
+    uint8_t function;
+    while (take(&function, 1) == 1) {
+        uint8_t activity = (uint8_t)number(1);
+        size_t room = number(4), n = part(input), m = part(beside);
+        uint64_t wanted = number(8), after = number(8);
+        if (function >= FUNCTIONS || room > ROOM || n > ROOM || m > ROOM) {
+            printf("not a record\n");
+            return 2;
+        }
+        memset(lent, UNTOUCHED, room);
+        for (size_t i = 0; function == STEP && i < m; i++) lent[i] = beside[i];
+        uint64_t given = call(function, n, m, room, activity);
+        calls[function]++;
+        if (given != wanted || hash(lent, room) != after) different++;
+    }
+    printf("mine %lu, listing %lu, rewrite %lu, replay %lu, step %lu calls; %lu different\n", calls[MINE], calls[LISTING],
+           calls[REWRITE], calls[REPLAY], calls[STEP], different);
+    return different != 0 || calls[MINE] == 0;
+}

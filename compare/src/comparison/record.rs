@@ -1,0 +1,58 @@
+//! Calls of the five functions with the judge's results, in a file, for a caller that is
+//! not linked here: `caller.c` makes them again.
+use std::fs::File;
+use std::io::{BufWriter, Write};
+
+#[derive(Clone, Copy)]
+pub enum Function {
+    Mine,
+    Listing,
+    Rewrite,
+    Replay,
+    Step,
+}
+
+pub struct Call<'a> {
+    pub function: Function,
+    /// the log or the graph file
+    pub input: &'a [u8],
+    /// the trace, or the marking before the step
+    pub beside: &'a [u8],
+    pub room: usize,
+    pub activity: u8,
+    pub result: u64,
+    /// what was lent, after the call
+    pub after: &'a [u8],
+}
+
+#[derive(Default)]
+pub struct Record(Option<BufWriter<File>>);
+
+impl Record {
+    pub fn to(path: &str) -> std::io::Result<Record> {
+        Ok(Record(Some(BufWriter::new(File::create(path)?))))
+    }
+
+    /// All numbers little-endian; of what was lent only the hash is kept.
+    pub fn keep(&mut self, call: &Call) {
+        let Some(file) = &mut self.0 else {
+            return;
+        };
+        let mut bytes = vec![call.function as u8, call.activity];
+        bytes.extend((call.room as u32).to_le_bytes());
+        for part in [call.input, call.beside] {
+            bytes.extend((part.len() as u32).to_le_bytes());
+            bytes.extend(part);
+        }
+        bytes.extend(call.result.to_le_bytes());
+        bytes.extend(hash(call.after).to_le_bytes());
+        file.write_all(&bytes).expect("the record can be written");
+    }
+}
+
+/// FNV-1a, 64 bits.
+fn hash(bytes: &[u8]) -> u64 {
+    bytes.iter().fold(0xCBF2_9CE4_8422_2325, |hash, &byte| {
+        (hash ^ u64::from(byte)).wrapping_mul(0x0100_0000_01B3)
+    })
+}
