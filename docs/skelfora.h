@@ -1,5 +1,5 @@
 /* The functions of the library port (crates/port/src/lib.rt), for C and C++. docs/PORT.md explains them.
- * Nothing checks these declarations against the source: keep them in step by hand. */
+ * No tool checks these declarations against the source: keep them in step by hand. compare/caller.c uses them in the gate. */
 #ifndef SKELFORA_H
 #define SKELFORA_H
 
