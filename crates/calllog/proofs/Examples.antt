@@ -5,7 +5,8 @@ use Prim.Native.Nat.{ℕ}
 use Rattle.sets.specs.Tests.{_and_, non}
 use Rattle.sets.specs.Answers.{numberOf, firstRefusal}
 use Rattle.sets.specs.declared.answer.Answer.the-variants.{Done}
-use Rattle.calllog.specs.Layout.{opensWith, numberAt, activitiesIn, tracesIn, offsetAt, lengthAt, bodiesStart, eventsBefore}
+use Rattle.sets.specs.Numbers.{valueOf, numberAt}
+use Rattle.calllog.specs.Layout.{opensWith, activitiesIn, tracesIn, offsetAt, lengthAt, bodiesStart, eventsBefore}
 use Rattle.calllog.specs.Judged.{allBelow, judgedHead, judgedEntry, judgedBodies, judgedContents, judgedLog}
 use Rattle.calllog.specs.Logs.{tracesFrom, logOf}
 use Rattle.calllog.specs.Written.{entriesOf, endToEnd, logBytes}
@@ -18,7 +19,7 @@ unfoldable pub tracesL : List (List ℕ)
 tracesL = (0 ∷ 1 ∷ 2 ∷ []) ∷ (0 ∷ 2 ∷ []) ∷ []
 
 pub reads-L : logOf logL ≡ record { answer = Done; activities = 3; traces = tracesL }
-unfolding logL tracesL logOf judgedLog judgedHead judgedContents judgedEntry judgedBodies firstRefusal allBelow opensWith numberAt activitiesIn tracesIn offsetAt lengthAt bodiesStart eventsBefore tracesFrom _and_ non
+unfolding logL tracesL logOf judgedLog judgedHead judgedContents judgedEntry judgedBodies firstRefusal allBelow opensWith valueOf numberAt activitiesIn tracesIn offsetAt lengthAt bodiesStart eventsBefore tracesFrom _and_ non
 reads-L = refl
 
 pub writes-L : logBytes 3 tracesL ≡ logL
@@ -66,7 +67,7 @@ cases =
     ∷ []
 
 pub refusals : map (λ (c : Case). numberOf (judgedLog (c .bytes))) cases ≡ map (λ (c : Case). c .number) cases
-unfolding cases judgedLog judgedHead judgedContents judgedEntry judgedBodies firstRefusal allBelow opensWith numberAt activitiesIn tracesIn offsetAt lengthAt bodiesStart eventsBefore _and_ non
+unfolding cases judgedLog judgedHead judgedContents judgedEntry judgedBodies firstRefusal allBelow opensWith valueOf numberAt activitiesIn tracesIn offsetAt lengthAt bodiesStart eventsBefore _and_ non
 refusals = refl
 
 -- running totals of 32,768 and 32,769, each with its right offset; and with a wrong one, which is judged after it

@@ -13,7 +13,9 @@ use Rattle.sets.specs.Tests.{_and_, non, when_then_else_}
 use Rattle.sets.specs.Answers.{isDone, thenAsk, firstRefusal}
 use Rattle.sets.specs.declared.answer.Answer.{Answer}
 use Rattle.sets.specs.declared.answer.Answer.the-variants.{Done, TooShort, WrongLetters, AboveLimit}
-use Rattle.calllog.specs.Layout.{letters, headSize, longestLog, opensWith, numberAt, activitiesIn, tracesIn, offsetAt, lengthAt, bodiesStart, eventsBefore}
+use Rattle.sets.specs.Numbers.{numberAt}
+use Rattle.sets.proofs.Numbers.{two-bytes}
+use Rattle.calllog.specs.Layout.{letters, headSize, longestLog, opensWith, activitiesIn, tracesIn, offsetAt, lengthAt, bodiesStart, eventsBefore}
 use Rattle.sets.specs.Sizes.{mostActivities, mostTraces}
 use Rattle.calllog.specs.Judged.{judgedHead, judgedEntry, entryOf, judgedBodies, judgedContents, judgedLog}
 use Rattle.sets.proofs.Order.{none-refuses, refusals-same}
@@ -51,10 +53,11 @@ module _ (bytes : List ℕ) (long : longestLog < length bytes) where
   first-length : length first ≡ longestLog + 1
   first-length = length-take-le (longestLog + 1) bytes (omega arith)
 
-  number-same : (i : ℕ) → i < longestLog → numberAt first i ≡ numberAt bytes i
-  unfolding numberAt
+  number-same : (i : ℕ) → i < longestLog → numberAt 2 first i ≡ numberAt 2 bytes i
   number-same i l =
-      ap₂ (λ (x y : ℕ). x + 256 * y) (getD-take (longestLog + 1) bytes i 0 (omega arith)) (getD-take (longestLog + 1) bytes (i + 1) 0 (omega arith))
+      two-bytes first i
+      ∙ ap₂ (λ (x y : ℕ). x + 256 * y) (getD-take (longestLog + 1) bytes i 0 (omega arith)) (getD-take (longestLog + 1) bytes (i + 1) 0 (omega arith))
+      ∙ sym (two-bytes bytes i)
 
   activities-same : activitiesIn first ≡ activitiesIn bytes
   unfolding activitiesIn

@@ -11,7 +11,9 @@ use lib.ListN.{length, getD, drop, List·getD-eq-default, drop-of-length-le}
 use lib.Seq.{drop-cons}
 use Rattle.sets.specs.Tests.{_and_}
 use Rattle.sets.proofs.Tests.{true-and, and-true}
-use Rattle.calllog.specs.Layout.{opensWith, numberAt}
+use Rattle.sets.specs.Numbers.{numberAt}
+use Rattle.sets.proofs.Numbers.{two-bytes}
+use Rattle.calllog.specs.Layout.{opensWith}
 use Rattle.calllog.specs.Judged.{allBelow}
 
 -- ---- past the end, and two bytes
@@ -19,11 +21,10 @@ use Rattle.calllog.specs.Judged.{allBelow}
 pub past : (bytes : List ℕ) (i : ℕ) → length bytes ≤ i → 0 ≡ getD bytes i 0
 past bytes i h = sym (List·getD-eq-default bytes 0 h)
 
-pub number-is : (bytes : List ℕ) (i low high : ℕ) → low ≡ getD bytes i 0 → high ≡ getD bytes (i + 1) 0 → low + 256 * high ≡ numberAt bytes i
-unfolding numberAt
-number-is bytes i low high l h = ap₂ (λ (x y : ℕ). x + 256 * y) l h
+pub number-is : (bytes : List ℕ) (i low high : ℕ) → low ≡ getD bytes i 0 → high ≡ getD bytes (i + 1) 0 → low + 256 * high ≡ numberAt 2 bytes i
+number-is bytes i low high l h = ap₂ (λ (x y : ℕ). x + 256 * y) l h ∙ sym (two-bytes bytes i)
 
-pub number-past : (bytes : List ℕ) (i : ℕ) → length bytes ≤ i → 0 ≡ numberAt bytes i
+pub number-past : (bytes : List ℕ) (i : ℕ) → length bytes ≤ i → 0 ≡ numberAt 2 bytes i
 number-past bytes i h = number-is bytes i 0 0 (past bytes i h) (past bytes (i + 1) (omega arith))
 
 -- ---- what bytes open with, place by place

@@ -9,7 +9,9 @@ use lib.ListN.{length, getD, take, drop, length-append, take-append-drop}
 use lib.Seq.{take-suc, take-length, drop-drop, drop-at, getD-append-add, ext-getD}
 use Rattle.sets.specs.Tests.{_and_}
 use Rattle.sets.specs.declared.answer.Answer.the-variants.{Done}
-use Rattle.calllog.specs.Layout.{letters, headSize, entrySize, opensWith, numberAt, activitiesIn, tracesIn, offsetAt, lengthAt, bodiesStart, eventsBefore}
+use Rattle.sets.specs.Numbers.{numberAt}
+use Rattle.sets.proofs.Numbers.{two-bytes}
+use Rattle.calllog.specs.Layout.{letters, headSize, entrySize, opensWith, activitiesIn, tracesIn, offsetAt, lengthAt, bodiesStart, eventsBefore}
 use Rattle.calllog.specs.Judged.{judgedLog, allBelow}
 use Rattle.calllog.specs.Logs.{Log, traceAt, tracesFrom, logOf}
 use Rattle.calllog.specs.Written.{twoBytes, entriesOf, endToEnd, logBytes, WithinLimits}
@@ -20,11 +22,12 @@ use Rattle.calllog.proofs.Traces.{at-tracesFrom}
 
 -- ---- numbers of two bytes, and entries
 
-pub number-behind : (xs ys : List ℕ) (i : ℕ) → numberAt (xs ++ ys) (length xs + i) ≡ numberAt ys i
-unfolding numberAt
+pub number-behind : (xs ys : List ℕ) (i : ℕ) → numberAt 2 (xs ++ ys) (length xs + i) ≡ numberAt 2 ys i
 number-behind xs ys i =
-    ap₂ (λ (x y : ℕ). x + 256 * y) (getD-append-add xs ys i 0)
+    two-bytes (xs ++ ys) (length xs + i)
+    ∙ ap₂ (λ (x y : ℕ). x + 256 * y) (getD-append-add xs ys i 0)
     (ap (λ (n : ℕ). getD (xs ++ ys) n 0) (add-assoc (length xs) i 1) ∙ getD-append-add xs ys (i + 1) 0)
+    ∙ sym (two-bytes ys i)
 
 two-back : (n : ℕ) → n % 256 + 256 * (n / 256) ≡ n
 two-back n = omega arith
@@ -39,23 +42,26 @@ abbrev before : List (List ℕ) → ℕ → ℕ
 before ts k = length (endToEnd (take k ts))
 
 entry-at : (earlier : ℕ) (ts : List (List ℕ)) (rest : List ℕ) (k : ℕ) → k < length ts
-    → (numberAt (entriesOf earlier ts ++ rest) (entrySize * k) ≡ earlier + before ts k)
-    × (numberAt (entriesOf earlier ts ++ rest) (entrySize * k + 2) ≡ length (getD ts k []))
-unfolding entriesOf numberAt endToEnd
+    → (numberAt 2 (entriesOf earlier ts ++ rest) (entrySize * k) ≡ earlier + before ts k)
+    × (numberAt 2 (entriesOf earlier ts ++ rest) (entrySize * k + 2) ≡ length (getD ts k []))
+unfolding entriesOf endToEnd
 entry-at earlier [] rest k l = absurd (not-suc-le-zero l)
-entry-at earlier (t ∷ ts) rest zero l = (two-back earlier ∙ sym (add-zero earlier), two-back (length t))
+entry-at earlier (t ∷ ts) rest zero l = (
+  two-bytes (entriesOf earlier (t ∷ ts) ++ rest) 0 ∙ two-back earlier ∙ sym (add-zero earlier),
+  two-bytes (entriesOf earlier (t ∷ ts) ++ rest) 2 ∙ two-back (length t),
+)
 entry-at earlier (t ∷ ts) rest (suc k) l =
     let ih = entry-at (earlier + length t) ts rest k (le-of-suc-le-suc l) in
     let four = twoBytes earlier ++ twoBytes (length t) in
     let tail = entriesOf (earlier + length t) ts ++ rest in
     let i : entrySize * suc k ≡ 4 + entrySize * k = omega arith in
     let j : entrySize * suc k + 2 ≡ 4 + (entrySize * k + 2) = omega arith in (
-      ap (numberAt (four ++ tail)) i
+      ap (numberAt 2 (four ++ tail)) i
           ∙ number-behind four tail (entrySize * k)
           ∙ ih .0
           ∙ add-assoc earlier (length t) (before ts k)
           ∙ ap (λ (n : ℕ). earlier + n) (sym (length-append t (endToEnd (take k ts)))),
-      ap (numberAt (four ++ tail)) j ∙ number-behind four tail (entrySize * k + 2) ∙ ih .1,
+      ap (numberAt 2 (four ++ tail)) j ∙ number-behind four tail (entrySize * k + 2) ∙ ih .1,
     )
 
 before-next : (ts : List (List ℕ)) (k : ℕ) → k < length ts → before ts (suc k) ≡ before ts k + length (getD ts k [])
@@ -76,14 +82,14 @@ module _ (a : ℕ) (ts : List (List ℕ)) where
   says-activities = refl
 
   says-traces : tracesIn (logBytes a ts) ≡ length ts
-  unfolding tracesIn numberAt logBytes
-  says-traces = two-back (length ts)
+  unfolding tracesIn logBytes
+  says-traces = two-bytes (logBytes a ts) 4 ∙ two-back (length ts)
 
   says-named : opensWith letters (logBytes a ts) ≡ true
   unfolding opensWith _and_ logBytes
   says-named = refl
 
-  number-in : (i : ℕ) → numberAt (logBytes a ts) (headSize + i) ≡ numberAt behind i
+  number-in : (i : ℕ) → numberAt 2 (logBytes a ts) (headSize + i) ≡ numberAt 2 behind i
   unfolding logBytes
   number-in i = number-behind (letters ++ (a ∷ []) ++ twoBytes (length ts)) behind i
 
@@ -94,7 +100,7 @@ module _ (a : ℕ) (ts : List (List ℕ)) where
   says-length : (k : ℕ) → k < length ts → lengthAt (logBytes a ts) k ≡ length (getD ts k [])
   unfolding lengthAt
   says-length k l =
-      ap (numberAt (logBytes a ts)) (add-assoc headSize (entrySize * k) 2)
+      ap (numberAt 2 (logBytes a ts)) (add-assoc headSize (entrySize * k) 2)
       ∙ number-in (entrySize * k + 2)
       ∙ entry-at 0 ts (endToEnd ts) k l .1
 

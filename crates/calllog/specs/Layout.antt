@@ -6,6 +6,7 @@ use lib.Dec.{eqb}
 use Rattle.sets.specs.Sizes.{mostTraces, mostEvents}
 use lib.ListN.{getD}
 use Rattle.sets.specs.Tests.{_and_}
+use Rattle.sets.specs.Numbers.{numberAt}
 
 -- the two letters, B and L, and the edition
 abbrev pub letters : List ℕ
@@ -28,24 +29,20 @@ opensWith [] bytes = true
 opensWith (x ∷ xs) [] = false
 opensWith (x ∷ xs) (b ∷ bytes) = eqb b x and opensWith xs bytes
 
--- a number of two bytes, little-endian
-unfoldable pub numberAt : List ℕ → ℕ → ℕ
-numberAt bytes i = getD bytes i 0 + 256 * getD bytes (i + 1) 0
-
 -- A
 unfoldable pub activitiesIn : List ℕ → ℕ
 activitiesIn bytes = getD bytes 3 0
 
 -- T
 unfoldable pub tracesIn : List ℕ → ℕ
-tracesIn bytes = numberAt bytes 4
+tracesIn bytes = numberAt 2 bytes 4
 
 -- entry k: an offset, then a length
 unfoldable pub offsetAt : List ℕ → ℕ → ℕ
-offsetAt bytes k = numberAt bytes (headSize + entrySize * k)
+offsetAt bytes k = numberAt 2 bytes (headSize + entrySize * k)
 
 unfoldable pub lengthAt : List ℕ → ℕ → ℕ
-lengthAt bytes k = numberAt bytes (headSize + entrySize * k + 2)
+lengthAt bytes k = numberAt 2 bytes (headSize + entrySize * k + 2)
 
 -- where the first body byte stands
 unfoldable pub bodiesStart : List ℕ → ℕ

@@ -2,7 +2,8 @@
 ghost use mathlib.Core.Path.{_≡_};
 ghost use Prim.Native.Nat.{_+_, _≤_, _<_};
 ghost use lib.ListN.{length, getD};
-ghost use Rattle.calllog.specs.Layout.{opensWith, numberAt, activitiesIn, tracesIn, offsetAt, lengthAt, bodiesStart};
+ghost use Rattle.sets.specs.Numbers.{numberAt};
+ghost use Rattle.calllog.specs.Layout.{opensWith, activitiesIn, tracesIn, offsetAt, lengthAt, bodiesStart};
 use sets::Activity;
 use sets::Place;
 
@@ -58,7 +59,7 @@ fn byte_at(bytes: &[u8], i: usize) -> u8
 
 // A number of two bytes.
 fn number_at(bytes: &[u8], i: usize) -> u16
-    ensures { λ r. ⌜ r ≡ numberAt (now (bytes .entry)) i ⌝ }
+    ensures { λ r. ⌜ r ≡ numberAt 2 (now (bytes .entry)) i ⌝ }
 {
     if bytes.len() <= i {
         return 0;
@@ -78,7 +79,7 @@ fn present_byte(bytes: &[u8], i: usize) -> u8
 // A number of two bytes that are there.
 fn present_number(bytes: &[u8], i: usize) -> u16
     requires { ⌜ i + 1 < length (now bytes) ⌝ }
-    ensures { λ r. ⌜ r ≡ numberAt (now (bytes .entry)) i ⌝ }
+    ensures { λ r. ⌜ r ≡ numberAt 2 (now (bytes .entry)) i ⌝ }
 {
     let low = present_byte(bytes, i);
     let high = present_byte(bytes, i + 1);

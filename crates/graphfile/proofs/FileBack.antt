@@ -21,7 +21,7 @@ use Rattle.sets.proofs.RowLaws.{row-in, row-out}
 use Rattle.sets.specs.declared.answer.Answer.the-variants.{Done}
 use Rattle.engine.specs.Judged.{rowWithin, rowsWithin, relationsWithin, graphWithin, judgedFor, judged}
 use Rattle.sets.specs.Sizes.{mostActivities}
-use Rattle.graphfile.specs.Numbers.{littleEndian}
+use Rattle.sets.specs.Numbers.{littleEndian}
 use Rattle.graphfile.specs.Layout.{letters, headLength, rowLength, relationCount, activitiesIn, eventsIn, markingIn, offsetIn, countIn, earlierRows, keyIn, rowIn}
 use Rattle.graphfile.specs.Refusals.{same, judgedRow}
 use Rattle.graphfile.specs.Held.{filled, relationIn, graphIn}

@@ -20,7 +20,7 @@ use Rattle.engine.specs.declared.marking.Marking.{Marking}
 use Rattle.engine.specs.declared.graph.Graph.{Graph}
 use Rattle.engine.specs.Judged.{markingWithin, rowWithin, rowsWithin, judged}
 use Rattle.engine.proofs.Acceptable.{judged-activities, judged-within, events-inside, opening-inside, rows-inside}
-use Rattle.graphfile.specs.Numbers.{littleEndian, valueOf, numberAt}
+use Rattle.sets.specs.Numbers.{littleEndian, valueOf, numberAt}
 use Rattle.graphfile.specs.Layout.{headLength, rowLength, relationCount, activitiesIn, setAt, eventsIn, markingIn, offsetIn, countIn, earlierRows}
 use Rattle.graphfile.specs.Refusals.{same, judgedEntry, judgedRow, judgedFile}
 use Rattle.graphfile.specs.Held.{filled, relationIn, graphIn}

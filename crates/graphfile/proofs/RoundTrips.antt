@@ -18,7 +18,7 @@ use Rattle.engine.specs.declared.graph.Graph.{Graph}
 use Rattle.engine.specs.Judged.{judged}
 use Rattle.graphfile.specs.declared.reader.Reading.{Reading}
 use Rattle.graphfile.specs.declared.writer.Written.{Written}
-use Rattle.graphfile.specs.Numbers.{littleEndian}
+use Rattle.sets.specs.Numbers.{littleEndian}
 use Rattle.graphfile.specs.Layout.{headLength, rowLength}
 use Rattle.graphfile.specs.Refusals.{judgedFile}
 use Rattle.graphfile.specs.Held.{graphIn, readOf}

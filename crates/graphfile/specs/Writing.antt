@@ -14,7 +14,7 @@ use Rattle.engine.specs.declared.marking.Marking.{Marking}
 use Rattle.engine.specs.declared.graph.Graph.{Graph}
 use Rattle.engine.specs.Judged.{judged}
 use Rattle.graphfile.specs.declared.writer.Written.{Written}
-use Rattle.graphfile.specs.Numbers.{littleEndian}
+use Rattle.sets.specs.Numbers.{littleEndian}
 use Rattle.graphfile.specs.Layout.{letters, rowLength}
 
 abbrev pub setBytes : Set → List ℕ

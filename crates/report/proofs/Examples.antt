@@ -10,7 +10,8 @@ use Rattle.engine.specs.declared.graph.Graph.{Graph}
 use Rattle.engine.specs.Steps.{waits, enabled, after, accepting}
 use Rattle.engine.specs.Judged.{markingWithin, rowWithin, rowsWithin, relationsWithin, graphWithin, judgedFor}
 use Rattle.engine.specs.Replay.{replayFrom, replayOf}
-use Rattle.calllog.specs.Layout.{opensWith, numberAt, activitiesIn, tracesIn, offsetAt, lengthAt, bodiesStart, eventsBefore}
+use Rattle.sets.specs.Numbers.{valueOf, numberAt}
+use Rattle.calllog.specs.Layout.{opensWith, activitiesIn, tracesIn, offsetAt, lengthAt, bodiesStart, eventsBefore}
 use Rattle.sets.specs.Answers.{firstRefusal}
 use Rattle.calllog.specs.Judged.{allBelow, judgedHead, judgedEntry, judgedBodies, judgedContents, judgedLog}
 use Rattle.calllog.specs.Logs.{tracesFrom, logOf}
@@ -85,7 +86,7 @@ lines = refl
 
 read : listingOf file ≡ linesOf (minedGraph 3 L) L
 unfolding file L
-    _and_ _or_ non opensWith numberAt activitiesIn tracesIn offsetAt lengthAt bodiesStart eventsBefore
+    _and_ _or_ non opensWith valueOf numberAt activitiesIn tracesIn offsetAt lengthAt bodiesStart eventsBefore
     firstRefusal allBelow judgedHead judgedEntry judgedBodies judgedContents judgedLog tracesFrom logOf listingOf
 read = refl
 

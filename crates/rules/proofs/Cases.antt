@@ -12,7 +12,8 @@ use Rattle.engine.specs.Steps.{waits, enabled, after, accepting}
 use Rattle.engine.specs.Judged.{markingWithin, rowWithin, rowsWithin, relationsWithin, graphWithin, judgedFor, judgedWith}
 use Rattle.engine.specs.Replay.{enabledOf, steppedOf, replayFrom, replayOf}
 use Rattle.engine.proofs.Examples.{table3, table3-before, table3-after}
-use Rattle.calllog.specs.Layout.{opensWith, numberAt, activitiesIn, tracesIn, offsetAt, lengthAt, bodiesStart, eventsBefore}
+use Rattle.sets.specs.Numbers.{valueOf, numberAt}
+use Rattle.calllog.specs.Layout.{opensWith, activitiesIn, tracesIn, offsetAt, lengthAt, bodiesStart, eventsBefore}
 use Rattle.sets.specs.Answers.{firstRefusal}
 use Rattle.calllog.specs.Judged.{allBelow, judgedHead, judgedEntry, judgedBodies, judgedContents, judgedLog}
 use Rattle.calllog.specs.Logs.{tracesFrom, logOf}
@@ -74,7 +75,7 @@ pub cases : map asked table ≡ map wanted table
 unfolding table file L listing G
     _and_ _or_ non bit bitsOf someBelow everyBelow isEmpty within rowAt withRow inRow listFrom rowsOf
     waits enabled after accepting markingWithin rowWithin rowsWithin relationsWithin graphWithin judgedFor judgedWith enabledOf steppedOf replayFrom replayOf
-    opensWith numberAt activitiesIn tracesIn offsetAt lengthAt bodiesStart eventsBefore
+    opensWith valueOf numberAt activitiesIn tracesIn offsetAt lengthAt bodiesStart eventsBefore
     firstRefusal allBelow judgedHead judgedEntry judgedBodies judgedContents judgedLog tracesFrom logOf
     _has_ _beginsWith_ atEachFrom atSomeFrom everyTrace someTrace
     noPair noRelations smallestSource _without_ event someEvent _with_ atMostOnce precedes answers chained together before followed between alternates beforeFirst

@@ -3,3 +3,4 @@ pub mod Members
 pub mod Rows
 pub mod Answers
 pub mod Sizes
+pub mod Numbers
