@@ -1,5 +1,6 @@
 #!/usr/bin/env python3
-"""docs/STATEMENTS.md has a row for each public function of each library, and no row for a function that is not there."""
+"""Each public function of each library has a row in docs/STATEMENTS.md and a theorem in promises/proofs/Outcomes.antt, and neither has
+one for a function that is not there."""
 import os
 import re
 import sys
@@ -49,7 +50,25 @@ def stated():
     return rows
 
 
-rows = stated()
+def proved():
+    """By crate, the functions that the theorems of one outcome are called after."""
+    crate, names = None, {}
+    for line in read("crates", "promises", "proofs", "Outcomes.antt").splitlines():
+        if line.startswith("-- ---- "):
+            crate = re.match(r"\w+", line[8:]).group()
+        found = re.match(r"pub ([\w-]+)-once :", line)
+        if found:
+            names.setdefault(crate, set()).add(found.group(1))
+    return names
+
+
+def theorem(crate, name):
+    """What the theorem of a function is called: calllog's `ask` is not the engine's."""
+    called = name.replace("::", "-").replace("_", "-")
+    return "log-ask" if (crate, name) == ("calllog", "ask") else called
+
+
+rows, theorems = stated(), proved()
 bad = 0
 for crate in (line.split(":")[0] for line in read("crates.txt").splitlines() if ":" in line and not line.startswith("#")):
     if crate in PROGRAMS or not os.path.exists(os.path.join(ROOT, "crates", crate, "src", "lib.rt")):
@@ -58,6 +77,10 @@ for crate in (line.split(":")[0] for line in read("crates.txt").splitlines() if 
     last = {name.split("::")[-1] if name[0].islower() else name for name in said}
     for name in sorted(names - last):
         print(f"docs/STATEMENTS.md: {crate} has no row for {name}")
+        bad += 1
+    wanted = {theorem(crate, name) for name in names}
+    for name in sorted(wanted ^ theorems.get(crate, set())):
+        print(f"crates/promises/proofs/Outcomes.antt: {name}-once of {crate} is missing, or is of no public function")
         bad += 1
     for name in sorted(last - names):
         print(f"docs/STATEMENTS.md: {crate} has a row for {name}, which is no public function")

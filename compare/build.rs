@@ -1,4 +1,4 @@
-//! Links the proved code when `rt staticlib port` has made it, and says so by the cfg `port`.
+//! Links the proved code when `compare/staticlib` has made it, and says so by the cfg `port`.
 //! Without the library everything still builds; then only judge and yardstick are compared.
 use std::path::Path;
 

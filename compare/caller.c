@@ -8,10 +8,10 @@ int printf(const char *format, ...);
 long read(int file, void *bytes, size_t count);
 void *memset(void *bytes, int value, size_t count);
 
-enum { MINE, LISTING, REWRITE, REPLAY, STEP, FUNCTIONS };
-enum { ROOM = 1 << 18, UNTOUCHED = 165 };
+enum { MINE, LISTING, REWRITE, REPLAY, STEP, FUNCTIONS, END = 255 };
+enum { ROOM = 1 << 18, PAST = 64, UNTOUCHED = 165 };
 
-static uint8_t input[ROOM], beside[ROOM], lent[ROOM];
+static uint8_t input[ROOM], beside[ROOM], lent[ROOM + PAST];
 
 /* Whole parts only: 0 at the end of the record, and -1 where it ends within a part. */
 static int take(void *to, size_t count) {
@@ -52,6 +52,13 @@ static uint64_t hash(const uint8_t *bytes, size_t count) {
     return value;
 }
 
+/* Whether a byte past the room was written. */
+static int touched(const uint8_t *past) {
+    for (size_t i = 0; i < PAST; i++)
+        if (past[i] != UNTOUCHED) return 1;
+    return 0;
+}
+
 static uint64_t call(int function, size_t n, size_t m, size_t room, uint8_t activity) {
     switch (function) {
     case MINE: return skelfora_mine(input, n, lent, room);
@@ -62,10 +69,19 @@ static uint64_t call(int function, size_t n, size_t m, size_t room, uint8_t acti
     }
 }
 
+/* What the comparison with the judge does not try: a buffer that is too short gets 7 and stays as it was. */
+static int short_buffers(void) {
+    memset(lent, UNTOUCHED, ROOM);
+    uint64_t before = hash(lent, ROOM);
+    int wrong = skelfora_listing(input, 0, lent, SKELFORA_LISTING_ROOM - 1) != 7;
+    wrong += skelfora_step(input, 0, lent, SKELFORA_MARKING_SIZE - 1, 0) != 7;
+    return wrong + (hash(lent, ROOM) != before);
+}
+
 int main(void) {
-    unsigned long calls[FUNCTIONS] = {0}, different = 0;
-    uint8_t function;
-    while (take(&function, 1) == 1) {
+    unsigned long calls[FUNCTIONS] = {0}, different = 0, all = 0;
+    uint8_t function = 0;
+    while (take(&function, 1) == 1 && function != END) {
         uint8_t activity = (uint8_t)number(1);
         size_t room = number(4), n = part(input), m = part(beside);
         uint64_t wanted = number(8), after = number(8);
@@ -73,13 +89,20 @@ int main(void) {
             printf("not a record\n");
             return 2;
         }
-        memset(lent, UNTOUCHED, room);
+        memset(lent, UNTOUCHED, room + PAST);
         for (size_t i = 0; function == STEP && i < m; i++) lent[i] = beside[i];
         uint64_t given = call(function, n, m, room, activity);
         calls[function]++;
-        if (given != wanted || hash(lent, room) != after) different++;
+        all++;
+        if (given != wanted || hash(lent, room) != after || touched(lent + room)) different++;
     }
+    if (function != END || number(8) != all) {
+        printf("the record is not whole\n");
+        return 2;
+    }
+    for (int i = 0; i < FUNCTIONS; i++) different += calls[i] == 0;
+    different += short_buffers();
     printf("mine %lu, listing %lu, rewrite %lu, replay %lu, step %lu calls; %lu different\n", calls[MINE], calls[LISTING],
            calls[REWRITE], calls[REPLAY], calls[STEP], different);
-    return different != 0 || calls[MINE] == 0;
+    return different != 0;
 }

@@ -65,11 +65,11 @@ fn run(others: Vec<compare::door::Door>, count: u64, record: Record) -> bool {
     );
     for seed in 0..count {
         if seed == RECORDED {
-            comparison.record = Record::default();
+            comparison.record.finish();
         }
         rounds::round(&mut comparison, seed);
     }
-    comparison.record = Record::default();
+    comparison.record.finish();
     let well = comparison.report();
     println!("took {:.1} s", start.elapsed().as_secs_f64());
     well

@@ -26,18 +26,36 @@ pub struct Call<'a> {
 }
 
 #[derive(Default)]
-pub struct Record(Option<BufWriter<File>>);
+pub struct Record {
+    file: Option<BufWriter<File>>,
+    calls: u64,
+}
+
+/// Stands where a function would: the record is whole.
+const END: u8 = 255;
 
 impl Record {
     pub fn to(path: &str) -> std::io::Result<Record> {
-        Ok(Record(Some(BufWriter::new(File::create(path)?))))
+        let file = Some(BufWriter::new(File::create(path)?));
+        Ok(Record { file, calls: 0 })
+    }
+
+    /// Ends the record with the number of its calls; what comes after is not kept.
+    pub fn finish(&mut self) {
+        if let Some(mut file) = self.file.take() {
+            let mut bytes = vec![END];
+            bytes.extend(self.calls.to_le_bytes());
+            file.write_all(&bytes).expect("the record can be written");
+            file.flush().expect("the record can be written");
+        }
     }
 
     /// All numbers little-endian; of what was lent only the hash is kept.
     pub fn keep(&mut self, call: &Call) {
-        let Some(file) = &mut self.0 else {
+        let Some(file) = &mut self.file else {
             return;
         };
+        self.calls += 1;
         let mut bytes = vec![call.function as u8, call.activity];
         bytes.extend((call.room as u32).to_le_bytes());
         for part in [call.input, call.beside] {

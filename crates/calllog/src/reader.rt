@@ -35,7 +35,7 @@ pub fn next_trace<'s, 'a>(r: &'s mut LogReader<'a>) -> Found
     trace(r, k)
 }
 
-// Trace k by a reader that is opened for this one question, for whoever keeps no reader: its parameters are plain, so no caller owes a walk.
+// Trace k by a reader that is opened for this one question, for whoever keeps no reader: its parameters are plain, so that a caller's proof is like any other.
 pub fn read_trace(log: &[u8], k: usize) -> Found
     ensures { λ f. ⌜ f ≡ foundOf (now (log .entry)) k ⌝ }
 {

@@ -1,9 +1,9 @@
 // Cases of logs: what the judge says of the bytes, and what is found of their traces.
 use crate::text;
 
-// Trace k, as any caller may ask for it.
+// Trace k, asked of a reader.
 fn find(bytes: &[u8], k: usize) {
-    let found = calllog::trace::find_trace(bytes, k);
+    let found = calllog::reader::read_trace(bytes, k);
     let answer = found.answer;
     text::number(b"; trace ", k as u64);
     text::answer(b": ", answer);

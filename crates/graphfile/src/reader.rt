@@ -1,4 +1,4 @@
-// The reader: what a file holds. Each row is judged and put into its relation in one pass, so that its bytes are looked at once.
+// The reader: what a file holds. A row is judged and put into its relation in one step, so that the rows are walked once.
 ghost use mathlib.Core.Path.{_≡_};
 ghost use Prim.Native.Nat.{_+_, _*_, _≤_, _<_};
 ghost use lib.ListN.{length};

@@ -14,7 +14,7 @@ fn main() {
     // One byte more than the longest log has: what is longer gets the number of these bytes (crates/calllog/proofs/Long.antt).
     let mut log = [0u8; 36871];
     let n = io::read_full(STDIN_FILENO, &mut log);
-    // The greatest listing.
+    // No listing is longer.
     let mut out = [0u8; 147506];
     let listed = report::write_listing(&log[..n], &mut out);
     write_first(&out, listed.length);

@@ -1,4 +1,4 @@
--- The steps as they are read from sets and rows: each definition is what one function of src/steps.rt, src/reduce.rt or src/mining.rt gives.
+-- The steps as they are read from sets and rows: what the functions of src/steps.rt, src/reduce.rt and src/mining.rt give.
 -- `inRow rows a x` says that x stands in row a. That the relations so read are those of the rules is a theorem, so a reader of `mine` need
 -- not believe this file.
 use mathlib.Core.Bool.{Bool}
@@ -16,11 +16,11 @@ use Rattle.rules.specs.Traces.{Traces}
 use Rattle.miner.specs.declared.tally.Tally.{Tally}
 use Rattle.miner.specs.Passes.{forward, through, letIn, beforeFirst, missed}
 
--- a and x are two events, and x stands not in row a (steps 2 and 3, of rows that hold what breaks the rule)
+-- a and x are two events, and x does not stand in row a (steps 2 and 3, of rows that hold what breaks the rule)
 unfoldable pub unbroken : Set → List ℕ → Relation
 unbroken events rows a x = mem events a and mem events x and non (eqb x a) and non (inRow rows a x)
 
--- a and x are events, and x stands not in row a (step 6: s excludes what never directly follows it)
+-- a and x are events, and x does not stand in row a (step 6: s excludes what never directly follows it)
 unfoldable pub absent : Set → List ℕ → Relation
 absent events rows a x = mem events a and mem events x and non (inRow rows a x)
 
@@ -52,7 +52,7 @@ turned rows a x = inRow rows x a
 unfoldable pub inEither : List ℕ → List ℕ → Relation
 inEither rows others a x = inRow rows a x or inRow others a x
 
--- step 7: a pair of a goes where some event u has the same target and stands not in a's row of what does not alternate with it
+-- step 7: a pair of a goes where some event u has the same target and does not stand in a's row of what does not alternate with it
 unfoldable pub notRedundant : Set → List ℕ → List ℕ → Relation
 notRedundant events excludes unalternated a x =
     inRow excludes a x and non (someBelow width (λ u. mem events u and inRow excludes u x and non (inRow unalternated a u)))

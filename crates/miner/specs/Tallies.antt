@@ -1,5 +1,5 @@
 -- The tally of a log, in the words of the rules: for each question that steps 1 to 7 ask, the pairs that
--- were seen, or those that break the rule.
+-- were seen, or those that break the rule. A reader of `mine` need not believe this file: no public statement cites it.
 use Rattle.sets.specs.Tests.{non}
 use Rattle.sets.specs.Members.{those}
 use Rattle.sets.specs.Rows.{rowsOf}

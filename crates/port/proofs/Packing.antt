@@ -36,6 +36,11 @@ pub packed-is : (a : Answer) (n low : ℕ) → low ≡ numberOf a → low + 256 
 unfolding packedOf
 packed-is a n low e = ap (λ (x : ℕ). x + 256 * (n % 16777216)) e
 
+-- the remainder takes nothing away from what has its 24 bits, as every length and place here has
+pub packed-plain : (a : Answer) (n : ℕ) → n < 2 ^ 24 → packedOf a n ≡ numberOf a + 256 * n
+unfolding packedOf
+packed-plain a n l = let small : n < 16777216 = l in let same : n % 16777216 ≡ n = omega arith in ap (λ (x : ℕ). numberOf a + 256 * x) same
+
 -- ---- a graph written
 
 module _ (a : Answer) (g : Graph) (out : List ℕ) (r : Bool) (hr : r ≡ isDone a) where

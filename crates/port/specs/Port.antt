@@ -21,7 +21,7 @@ use Rattle.report.specs.Listing.{listedOf}
 unfoldable pub packedOf : Answer → ℕ → ℕ
 packedOf a n = numberOf a + 256 * (n % 2 ^ 24)
 
--- a graph written as a file, where it was answered
+-- what mining or reading gave, written as a file where it was done
 unfoldable pub putNumber : Answer → Graph → ℕ → ℕ
 putNumber a g space = when isDone a then packedOf (writtenOf g space .answer) (writtenOf g space .length) else packedOf a 0
 

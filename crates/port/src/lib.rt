@@ -22,7 +22,7 @@ fn packed(answer: Answer, n: usize) -> u64
     low + 256 * (n % 16777216) as u64
 }
 
-// A graph that something answered, written as a file.
+// What mining or reading gave, written as a file where it was done.
 fn put(answer: Answer, g: Graph, out: &mut [u8]) -> u64
     ensures { λ r. ⌜ r ≡ putNumber answer g (length (now (out .entry))) ⌝ }
     ensures { λ _. ⌜ now (out .exit) ≡ putBuffer answer g (now (out .entry)) ⌝ }
@@ -47,7 +47,7 @@ pub extern "C" fn skelfora_mine(log: &[u8], file: &mut [u8]) -> u64
     put(answer, g, file)
 }
 
-// The listing of a log; the number is the log's own.
+// The listing of a log; the number is the log's own, or 7.
 #[no_mangle]
 pub extern "C" fn skelfora_listing(log: &[u8], out: &mut [u8]) -> u64
     ensures { λ r. ⌜ r ≡ listingNumber (now (log .entry)) (length (now (out .entry))) ⌝ }

@@ -1,29 +1,256 @@
--- One outcome: every statement leaves one for each input. Assumes nothing.
+-- One outcome: for every public function the theorem that two outcomes which its statement allows are equal. Assumes nothing.
 --
--- The public functions, with what each gives. None has a `requires`. Each statement is the equation `r ≡ definition of what was passed`, and where
--- something is lent by `&mut` another, `what is left ≡ definition of what was passed and what was there`.
---   sets        Set::one, below, has, union, intersection, difference, complement, is_empty, is_within, count, least: by members;
---               Answer::number numberOf, is_done isDone; rows::empty noRows, row rowAt; put, join, keep: the lent rows are withRow ..
---   engine      Graph::empty emptyGraph; Marking::of markingOf, opening openingOf;
---               marking_within markingWithin, rows_within rowsWithin, judge_for judgedFor, judge judged, judge_beside and judge_with judgedWith;
---               ask enabled, next after, is_accepting accepting; enabled enabledOf, step steppedOf, accepting acceptingOf;
---               run replayFrom, replay replayOf; execute: steppedOf's answer, and the lent marking is steppedOf's
---   calllog     judge_log judgedOf, trace_part partOf, find_trace foundOf, ask askedOf;
---               LogReader: open opened; trace and next_trace foundOf, and the lent reader is after; read_trace foundOf
---   graphfile   read readOf; write writtenOf, and the lent buffer is bufferAfter;
---               read_marking markingFrom; write_marking: the lent bytes are markingInto
---   miner       mine minedOf; turned rowsOf of turned; without_least: by members
---   report      write_listing listedOf, and the lent buffer is bufferAfter
---   port        skelfora_mine mineNumber, rewrite rewriteNumber, listing listingNumber, replay replayNumber, step numberOf of stepOf's answer; the
---               lent bytes are mineBuffer, rewriteBuffer, report's bufferAfter, stepBytes
---   promises    replay_own ownReplay, replay_none ending Done 0 ..; graph_back graphBack, and the lent buffer is bufferAfter;
---               file_back fileBack, and the lent buffer is fileCopied
-use mathlib.Core.Path.{_≡_, sym, _∙_}
+-- No public function has a `requires`. A statement is the equation `r ≡ definition of what was passed`: `Once`. Where something is lent by
+-- `&mut` there is another, `what is left ≡ definition of what was passed and what was there`: `OnceLent`; where nothing else is given, `Once`
+-- speaks of what is left. Each theorem is called after its function.
+use mathlib.Core.Path.{_≡_, sym, ap, _∙_}
+use mathlib.Core.Bool.{true}
+use mathlib.Core.List.{List}
+use Prim.Native.Nat.{ℕ}
+use denote.Ref.{RefT, now}
+use lib.Dec.{eqb, ltb}
+use lib.ListN.{length}
+use Rattle.sets.specs.Tests.{_and_, _or_, non}
+use Rattle.sets.specs.Members.{width, mem, those, within, isEmpty, leastBelow, countBelow}
+use Rattle.sets.specs.Rows.{noRows, rowAt, withRow, rowsOf}
+use Rattle.sets.specs.Answers.{numberOf, isDone}
+use Rattle.sets.specs.declared.set.Set.{Set}
+use Rattle.sets.specs.declared.activity.Activity.{Activity}
+use Rattle.sets.specs.declared.answer.Answer.{Answer}
+use Rattle.sets.specs.declared.answer.Answer.the-variants.{Done}
+use Rattle.engine.specs.Markings.{markingOf, openingOf}
+use Rattle.engine.specs.Relations.{graphOf, emptyGraph, inRows}
+use Rattle.engine.specs.Judged.{markingWithin, rowsWithin, judgedFor, judged, judgedWith}
+use Rattle.engine.specs.Steps as rules
+use Rattle.engine.specs.Replay.{enabledOf, steppedOf, acceptingOf, ending, replayFrom, replayOf}
+use Rattle.engine.specs.declared.marking.Marking.{Marking}
+use Rattle.engine.specs.declared.graph.Graph.{Graph}
+use Rattle.calllog.specs.Logs.{judgedOf, partOf, foundOf, askedOf}
+use Rattle.calllog.specs.Reader.{opened, after as moved}
+use Rattle.calllog.specs.declared.reader.LogReader.{LogReader}
+use Rattle.graphfile.specs.Held.{readOf}
+use Rattle.graphfile.specs.Writing.{writtenOf, bufferAfter as fileAfter}
+use Rattle.graphfile.specs.Markings.{markingFrom, markingInto}
+use Rattle.miner.specs.Mine.{minedOf}
+use Rattle.miner.specs.Reading.{turned as turnedRows}
+use Rattle.report.specs.Listing.{listedOf, bufferAfter as listingAfter}
+use Rattle.port.specs.Port.{mineNumber, mineBuffer, rewriteNumber, rewriteBuffer, replayNumber, listingNumber, stepOf, stepBytes}
+use Rattle.promises.specs.Promised.{ownReplay, graphBack, fileBack, fileCopied}
 
 -- two results that a statement allows are equal
-pub one-outcome : {A : Type 0} {given r r′ : A} → r ≡ given → r′ ≡ given → r ≡ r′
-one-outcome h h′ = h ∙ sym h′
+abbrev Once : {A : Type 0} → A → Type 0
+Once {A} given = (r r′ : A) → r ≡ given → r′ ≡ given → r ≡ r′
+
+pub one-outcome : {A : Type 0} (given : A) → Once given
+one-outcome given r r′ h h′ = h ∙ sym h′
 
 -- where something is lent: two results, and what they leave
-pub one-outcome-lent : {A B : Type 0} {given r r′ : A} {left b b′ : B} → (r ≡ given) × (b ≡ left) → (r′ ≡ given) × (b′ ≡ left) → (r ≡ r′) × (b ≡ b′)
-one-outcome-lent h h′ = (one-outcome (h .0) (h′ .0), one-outcome (h .1) (h′ .1))
+abbrev OnceLent : {A B : Type 0} → A → B → Type 0
+OnceLent {A} {B} given left = (r r′ : A) (b b′ : B) → (r ≡ given) × (b ≡ left) → (r′ ≡ given) × (b′ ≡ left) → (r ≡ r′) × (b ≡ b′)
+
+pub one-outcome-lent : {A B : Type 0} (given : A) (left : B) → OnceLent given left
+one-outcome-lent given left r r′ b b′ h h′ = (one-outcome given r r′ (h .0) (h′ .0), one-outcome left b b′ (h .1) (h′ .1))
+
+-- ---- sets: answers
+
+pub Answer-number-once : (a : Answer) → Once (numberOf a)
+Answer-number-once a = one-outcome (numberOf a)
+
+pub Answer-is-done-once : (a : Answer) → Once (isDone a)
+Answer-is-done-once a = one-outcome (isDone a)
+
+-- ---- sets: sets, by their members
+
+pub Set-one-once : (n : ℕ) → Once (those (λ b. eqb b n))
+Set-one-once n = one-outcome (those (λ b. eqb b n))
+
+pub Set-below-once : (n : ℕ) → Once (those (λ a. ltb a n))
+Set-below-once n = one-outcome (those (λ a. ltb a n))
+
+pub Set-has-once : (s : Set) (n : ℕ) → Once (mem s n)
+Set-has-once s n = one-outcome (mem s n)
+
+pub Set-union-once : (s t : Set) → Once (those (λ a. mem s a or mem t a))
+Set-union-once s t = one-outcome (those (λ a. mem s a or mem t a))
+
+pub Set-intersection-once : (s t : Set) → Once (those (λ a. mem s a and mem t a))
+Set-intersection-once s t = one-outcome (those (λ a. mem s a and mem t a))
+
+pub Set-difference-once : (s t : Set) → Once (those (λ a. mem s a and non (mem t a)))
+Set-difference-once s t = one-outcome (those (λ a. mem s a and non (mem t a)))
+
+pub Set-complement-once : (s : Set) → Once (those (λ a. non (mem s a)))
+Set-complement-once s = one-outcome (those (λ a. non (mem s a)))
+
+pub Set-is-empty-once : (s : Set) → Once (isEmpty s)
+Set-is-empty-once s = one-outcome (isEmpty s)
+
+pub Set-is-within-once : (s t : Set) → Once (within s t)
+Set-is-within-once s t = one-outcome (within s t)
+
+pub Set-count-once : (s : Set) → Once (countBelow width (mem s))
+Set-count-once s = one-outcome (countBelow width (mem s))
+
+-- an activity is its number
+pub Set-least-once : (s : Set) (r r′ : Activity) → r .0 ≡ leastBelow width (mem s) → r′ .0 ≡ leastBelow width (mem s) → r ≡ r′
+Set-least-once s r r′ h h′ = ap {B = Activity} (λ n. record { 0 = n }) (h ∙ sym h′)
+
+-- ---- sets: rows; put, join and keep leave the lent rows
+
+pub empty-once : Once noRows
+empty-once = one-outcome noRows
+
+pub row-once : (rows : List ℕ) (n : ℕ) → Once (rowAt rows n)
+row-once rows n = one-outcome (rowAt rows n)
+
+pub put-once : (rows : List ℕ) (n : ℕ) (s : Set) → Once (withRow rows n s)
+put-once rows n s = one-outcome (withRow rows n s)
+
+pub join-once : (rows : List ℕ) (n : ℕ) (s : Set) → Once (withRow rows n (those (λ b. mem (rowAt rows n) b or mem s b)))
+join-once rows n s = one-outcome (withRow rows n (those (λ b. mem (rowAt rows n) b or mem s b)))
+
+pub keep-once : (rows : List ℕ) (n : ℕ) (s : Set) → Once (withRow rows n (those (λ b. mem (rowAt rows n) b and mem s b)))
+keep-once rows n s = one-outcome (withRow rows n (those (λ b. mem (rowAt rows n) b and mem s b)))
+
+-- ---- engine
+
+pub Marking-of-once : (e p i : Set) → Once (markingOf e p i)
+Marking-of-once e p i = one-outcome (markingOf e p i)
+
+pub Marking-opening-once : (events : Set) → Once (openingOf events)
+Marking-opening-once events = one-outcome (openingOf events)
+
+pub Graph-empty-once : Once emptyGraph
+Graph-empty-once = one-outcome emptyGraph
+
+pub marking-within-once : (events : Set) (m : Marking) → Once (markingWithin events m)
+marking-within-once events m = one-outcome (markingWithin events m)
+
+pub rows-within-once : (events : Set) (rows : List ℕ) → Once (rowsWithin events rows)
+rows-within-once events rows = one-outcome (rowsWithin events rows)
+
+pub judge-for-once : (a : ℕ) (events : Set) (m : Marking) (c r i x : List ℕ) (n : ℕ) → Once (judgedFor (graphOf a events m c r i x) n)
+judge-for-once a events m c r i x n = one-outcome (judgedFor (graphOf a events m c r i x) n)
+
+pub judge-beside-once : (a : ℕ) (events : Set) (m : Marking) (c r i x : List ℕ) (n : Marking) → Once (judgedWith (graphOf a events m c r i x) n)
+judge-beside-once a events m c r i x n = one-outcome (judgedWith (graphOf a events m c r i x) n)
+
+pub judge-once : (g : Graph) → Once (judged g)
+judge-once g = one-outcome (judged g)
+
+pub judge-with-once : (g : Graph) (m : Marking) → Once (judgedWith g m)
+judge-with-once g m = one-outcome (judgedWith g m)
+
+pub ask-once : (events : Set) (c : List ℕ) (m : Marking) (n : ℕ) → Once (rules.enabled events (inRows c noRows noRows noRows) m n)
+ask-once events c m n = one-outcome (rules.enabled events (inRows c noRows noRows noRows) m n)
+
+pub next-once : (r i x : List ℕ) (m : Marking) (n : ℕ) → Once (rules.after (inRows noRows r i x) m n)
+next-once r i x m n = one-outcome (rules.after (inRows noRows r i x) m n)
+
+pub is-accepting-once : (m : Marking) → Once (rules.accepting m)
+is-accepting-once m = one-outcome (rules.accepting m)
+
+pub enabled-once : (g : Graph) (m : Marking) (n : ℕ) → Once (enabledOf g m n)
+enabled-once g m n = one-outcome (enabledOf g m n)
+
+pub step-once : (g : Graph) (m : Marking) (n : ℕ) → Once (steppedOf g m n)
+step-once g m n = one-outcome (steppedOf g m n)
+
+pub accepting-once : (g : Graph) (m : Marking) → Once (acceptingOf g m)
+accepting-once g m = one-outcome (acceptingOf g m)
+
+pub execute-once : (g : Graph) (m : Marking) (n : ℕ) → OnceLent (steppedOf g m n .answer) (steppedOf g m n .marking)
+execute-once g m n = one-outcome-lent (steppedOf g m n .answer) (steppedOf g m n .marking)
+
+pub run-once : (events : Set) (c r i x : List ℕ) (m : Marking) (trace : List ℕ) → Once (replayFrom events (inRows c r i x) m 0 trace)
+run-once events c r i x m trace = one-outcome (replayFrom events (inRows c r i x) m 0 trace)
+
+pub replay-once : (g : Graph) (trace : List ℕ) → Once (replayOf g trace)
+replay-once g trace = one-outcome (replayOf g trace)
+
+-- ---- calllog
+
+pub judge-log-once : (bytes : List ℕ) → Once (judgedOf bytes)
+judge-log-once bytes = one-outcome (judgedOf bytes)
+
+pub trace-part-once : (bytes : List ℕ) (k : ℕ) → Once (partOf bytes k)
+trace-part-once bytes k = one-outcome (partOf bytes k)
+
+pub find-trace-once : (bytes : List ℕ) (k : ℕ) → Once (foundOf bytes k)
+find-trace-once bytes k = one-outcome (foundOf bytes k)
+
+pub log-ask-once : (bytes : List ℕ) (next k : ℕ) → Once (askedOf bytes next k)
+log-ask-once bytes next k = one-outcome (askedOf bytes next k)
+
+pub open-once : (log : RefT (List ℕ)) → Once (opened log)
+open-once log = one-outcome (opened log)
+
+pub trace-once : (r : LogReader) (k : ℕ) → OnceLent (foundOf (now (r .log)) k) (moved r k)
+trace-once r k = one-outcome-lent (foundOf (now (r .log)) k) (moved r k)
+
+pub next-trace-once : (r : LogReader) → OnceLent (foundOf (now (r .log)) (r .next)) (moved r (r .next))
+next-trace-once r = one-outcome-lent (foundOf (now (r .log)) (r .next)) (moved r (r .next))
+
+pub read-trace-once : (log : List ℕ) (k : ℕ) → Once (foundOf log k)
+read-trace-once log k = one-outcome (foundOf log k)
+
+-- ---- graphfile
+
+pub read-once : (bytes : List ℕ) → Once (readOf bytes)
+read-once bytes = one-outcome (readOf bytes)
+
+pub write-once : (g : Graph) (out : List ℕ) → OnceLent (writtenOf g (length out)) (fileAfter g out)
+write-once g out = one-outcome-lent (writtenOf g (length out)) (fileAfter g out)
+
+pub read-marking-once : (bytes : List ℕ) → Once (markingFrom bytes)
+read-marking-once bytes = one-outcome (markingFrom bytes)
+
+pub write-marking-once : (m : Marking) (out : List ℕ) → Once (markingInto m out)
+write-marking-once m out = one-outcome (markingInto m out)
+
+-- ---- miner
+
+pub mine-once : (log : List ℕ) → Once (minedOf log)
+mine-once log = one-outcome (minedOf log)
+
+pub turned-once : (rows : List ℕ) → Once (rowsOf (turnedRows rows))
+turned-once rows = one-outcome (rowsOf (turnedRows rows))
+
+pub without-least-once : (s : Set) → Once (those (λ x. mem s x and non (eqb x (leastBelow width (mem s)))))
+without-least-once s = one-outcome (those (λ x. mem s x and non (eqb x (leastBelow width (mem s)))))
+
+-- ---- report
+
+pub write-listing-once : (log out : List ℕ) → OnceLent (listedOf log (length out)) (listingAfter log out)
+write-listing-once log out = one-outcome-lent (listedOf log (length out)) (listingAfter log out)
+
+-- ---- port
+
+pub skelfora-mine-once : (log file : List ℕ) → OnceLent (mineNumber log (length file)) (mineBuffer log file)
+skelfora-mine-once log file = one-outcome-lent (mineNumber log (length file)) (mineBuffer log file)
+
+pub skelfora-listing-once : (log out : List ℕ) → OnceLent (listingNumber log (length out)) (listingAfter log out)
+skelfora-listing-once log out = one-outcome-lent (listingNumber log (length out)) (listingAfter log out)
+
+pub skelfora-rewrite-once : (file out : List ℕ) → OnceLent (rewriteNumber file (length out)) (rewriteBuffer file out)
+skelfora-rewrite-once file out = one-outcome-lent (rewriteNumber file (length out)) (rewriteBuffer file out)
+
+pub skelfora-replay-once : (file trace : List ℕ) → Once (replayNumber file trace)
+skelfora-replay-once file trace = one-outcome (replayNumber file trace)
+
+pub skelfora-step-once : (file marking : List ℕ) (activity : ℕ) → OnceLent (numberOf (stepOf file marking activity .answer)) (stepBytes file marking activity)
+skelfora-step-once file marking activity = one-outcome-lent (numberOf (stepOf file marking activity .answer)) (stepBytes file marking activity)
+
+-- ---- promises; of replay_own's five equations the first fixes the result
+
+pub replay-own-once : (log : List ℕ) (k : ℕ) → Once (ownReplay log k)
+replay-own-once log k = one-outcome (ownReplay log k)
+
+pub replay-none-once : (log : List ℕ) → Once (ending Done 0 (openingOf (minedOf log .graph .events)) true)
+replay-none-once log = one-outcome (ending Done 0 (openingOf (minedOf log .graph .events)) true)
+
+pub graph-back-once : (g : Graph) (out : List ℕ) → OnceLent (graphBack g (length out)) (fileAfter g out)
+graph-back-once g out = one-outcome-lent (graphBack g (length out)) (fileAfter g out)
+
+pub file-back-once : (file out : List ℕ) → OnceLent (fileBack file (length out)) (fileCopied file out)
+file-back-once file out = one-outcome-lent (fileBack file (length out)) (fileCopied file out)

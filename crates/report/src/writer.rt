@@ -14,12 +14,12 @@ use sets::Answer;
 use sets::Rows;
 use sets::Set;
 
-// The bytes of the longest listing: a buffer of this size is always enough.
+// No listing has more bytes: a buffer of this size is always enough.
 pub const LONGEST: usize = 147506;
 
 const REFUSED: [u8; 7] = *b"refused";
 
-// The log's answer, and the length of its listing; 7 and 0 where the buffer is smaller than the longest listing.
+// The log's answer, and the length of its listing; 7 and 0 where the buffer is smaller than `LONGEST`.
 pub struct Listed {
     pub answer: Answer,
     pub length: usize,
