@@ -13,9 +13,9 @@ use Rattle.sets.specs.Tests.{_and_, non, when_then_else_}
 use Rattle.sets.specs.Answers.{isDone, thenAsk, firstRefusal}
 use Rattle.sets.specs.declared.answer.Answer.{Answer}
 use Rattle.sets.specs.declared.answer.Answer.the-variants.{Done, TooShort, WrongLetters, AboveLimit}
-use Rattle.sets.specs.Numbers.{numberAt}
-use Rattle.sets.proofs.Numbers.{two-bytes}
-use Rattle.calllog.specs.Layout.{letters, headSize, longestLog, opensWith, activitiesIn, tracesIn, offsetAt, lengthAt, bodiesStart, eventsBefore}
+use Rattle.sets.specs.Files.{numberAt, opensWith}
+use Rattle.sets.proofs.Files.{two-bytes}
+use Rattle.calllog.specs.Layout.{letters, headSize, longestLog, activitiesIn, tracesIn, offsetAt, lengthAt, bodiesStart, eventsBefore}
 use Rattle.sets.specs.Sizes.{mostActivities, mostTraces}
 use Rattle.calllog.specs.Judged.{judgedHead, judgedEntry, entryOf, judgedBodies, judgedContents, judgedLog}
 use Rattle.sets.proofs.Order.{none-refuses, refusals-same}

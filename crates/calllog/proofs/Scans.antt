@@ -5,15 +5,13 @@ use mathlib.Core.List.{List}
 use Prim.Native.Nat.{ℕ, suc, _+_, _*_, _≤_, _<_}
 use native.Mathlib.Numerals.{add-one}
 use native.Mathlib.Omega.{arith}
-use borrow.Author.Tests.{eq-eqb, ne-eqb}
-use lib.Dec.{eqb, ltb}
+use lib.Dec.{ltb}
 use lib.ListN.{length, getD, drop, List·getD-eq-default, drop-of-length-le}
 use lib.Seq.{drop-cons}
 use Rattle.sets.specs.Tests.{_and_}
 use Rattle.sets.proofs.Tests.{true-and, and-true}
-use Rattle.sets.specs.Numbers.{numberAt}
-use Rattle.sets.proofs.Numbers.{two-bytes}
-use Rattle.calllog.specs.Layout.{opensWith}
+use Rattle.sets.specs.Files.{numberAt}
+use Rattle.sets.proofs.Files.{two-bytes}
 use Rattle.calllog.specs.Judged.{allBelow}
 
 -- ---- past the end, and two bytes
@@ -26,34 +24,6 @@ number-is bytes i low high l h = ap₂ (λ (x y : ℕ). x + 256 * y) l h ∙ sym
 
 pub number-past : (bytes : List ℕ) (i : ℕ) → length bytes ≤ i → 0 ≡ numberAt 2 bytes i
 number-past bytes i h = number-is bytes i 0 0 (past bytes i h) (past bytes (i + 1) (omega arith))
-
--- ---- what bytes open with, place by place
-
-module _ (mark bytes : List ℕ) (i : ℕ) (R : Bool) (held : opensWith (drop i mark) (drop i bytes) ≡ R) where
-  opened : i < length mark → i < length bytes
-      → (eqb (getD bytes i 0) (getD mark i 0) and opensWith (drop (suc i) mark) (drop (suc i) bytes)) ≡ R
-  unfolding opensWith
-  opened m b = ap₂ opensWith (sym (drop-cons mark i 0 m)) (sym (drop-cons bytes i 0 b)) ∙ held
-
-  pub open-next : i < length mark → i < length bytes → getD bytes i 0 ≡ getD mark i 0 → opensWith (drop (i + 1) mark) (drop (i + 1) bytes) ≡ R
-  unfolding _and_
-  open-next m b e =
-      let o = opened m b in
-      ap (λ (n : ℕ). opensWith (drop n mark) (drop n bytes)) (add-one i) ∙ (rw (eq-eqb (getD bytes i 0) (getD mark i 0) e) at o)
-
-  pub open-differs : i < length mark → i < length bytes → (getD bytes i 0 ≡ getD mark i 0 → ⊥) → false ≡ R
-  unfolding _and_
-  open-differs m b d = let o = opened m b in rw (ne-eqb (getD bytes i 0) (getD mark i 0) d) at o
-
-  pub open-short : i < length mark → length bytes ≤ i → false ≡ R
-  unfolding opensWith
-  open-short m b = ap₂ opensWith (sym (drop-cons mark i 0 m)) (sym (drop-of-length-le bytes b)) ∙ held
-
-  pub open-end : length mark ≤ i → true ≡ R
-  unfolding opensWith
-  open-end m = ap (λ (l : List ℕ). opensWith l (drop i bytes)) (sym (drop-of-length-le mark m)) ∙ held
-
-pub ruleset opening = (open-next, open-differs, open-short, open-end)
 
 -- ---- bytes that are all below a, byte by byte
 

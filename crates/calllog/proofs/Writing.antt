@@ -9,9 +9,9 @@ use lib.ListN.{length, getD, take, drop, length-append, take-append-drop}
 use lib.Seq.{take-suc, take-length, drop-drop, drop-at, getD-append-add, ext-getD}
 use Rattle.sets.specs.Tests.{_and_}
 use Rattle.sets.specs.declared.answer.Answer.the-variants.{Done}
-use Rattle.sets.specs.Numbers.{numberAt}
-use Rattle.sets.proofs.Numbers.{two-bytes}
-use Rattle.calllog.specs.Layout.{letters, headSize, entrySize, opensWith, activitiesIn, tracesIn, offsetAt, lengthAt, bodiesStart, eventsBefore}
+use Rattle.sets.specs.Files.{numberAt, opensWith}
+use Rattle.sets.proofs.Files.{two-bytes}
+use Rattle.calllog.specs.Layout.{letters, headSize, entrySize, activitiesIn, tracesIn, offsetAt, lengthAt, bodiesStart, eventsBefore}
 use Rattle.calllog.specs.Judged.{judgedLog, allBelow}
 use Rattle.calllog.specs.Logs.{Log, traceAt, tracesFrom, logOf}
 use Rattle.calllog.specs.Written.{twoBytes, entriesOf, endToEnd, logBytes, WithinLimits}

@@ -1,12 +1,9 @@
 -- Where a log file keeps what (01, "Sizes" and "Log"). Of bytes that end too soon, what is missing reads as 0.
-use mathlib.Core.Bool.{Bool, true, false}
 use mathlib.Core.List.{List, [], _∷_}
 use Prim.Native.Nat.{ℕ, zero, suc, _+_, _*_}
-use lib.Dec.{eqb}
 use Rattle.sets.specs.Sizes.{mostTraces, mostEvents}
 use lib.ListN.{getD}
-use Rattle.sets.specs.Tests.{_and_}
-use Rattle.sets.specs.Numbers.{numberAt}
+use Rattle.sets.specs.Files.{numberAt}
 
 -- the two letters, B and L, and the edition
 abbrev pub letters : List ℕ
@@ -22,12 +19,6 @@ entrySize = 4
 -- a log has at most this many bytes: 36,870
 abbrev pub longestLog : ℕ
 longestLog = headSize + entrySize * mostTraces + mostEvents
-
--- the bytes open with these
-unfoldable pub opensWith : List ℕ → List ℕ → Bool
-opensWith [] bytes = true
-opensWith (x ∷ xs) [] = false
-opensWith (x ∷ xs) (b ∷ bytes) = eqb b x and opensWith xs bytes
 
 -- A
 unfoldable pub activitiesIn : List ℕ → ℕ

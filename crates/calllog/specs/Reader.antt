@@ -10,5 +10,5 @@ abbrev pub opened : RefT (List ℕ) → LogReader
 opened log = record { log = log; next = 0 }
 
 -- the reader after it was asked for trace k: over the same bytes
-abbrev pub after : LogReader → ℕ → LogReader
-after r k = record { log = r .log; next = askedOf (now (r .log)) (r .next) k .next }
+abbrev pub readerAfter : LogReader → ℕ → LogReader
+readerAfter r k = record { log = r .log; next = askedOf (now (r .log)) (r .next) k .next }

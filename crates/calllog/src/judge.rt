@@ -7,6 +7,7 @@ ghost use Rattle.calllog.specs.Judged.{allBelow, judgedHead, judgedEntry
 ghost use Rattle.calllog.specs.Logs.{judgedOf};
 use crate::layout;
 use sets::Answer;
+use sets::opening;
 
 // The answer, A and T; 0 and 0 where the log is refused.
 pub struct Judged {
@@ -53,7 +54,7 @@ fn judge_head(bytes: &[u8]) -> Answer
     if bytes.len() < layout::HEAD_SIZE {
         return Answer::TooShort;
     }
-    if !layout::opens_with(&layout::LETTERS, bytes) {
+    if !opening::opens_with(&layout::LETTERS, bytes) {
         return Answer::WrongLetters;
     }
     if layout::MOST_ACTIVITIES < layout::activities(bytes) {

@@ -2,8 +2,8 @@
 ghost use mathlib.Core.Path.{_≡_};
 ghost use Prim.Native.Nat.{_+_, _≤_, _<_};
 ghost use lib.ListN.{length, getD};
-ghost use Rattle.sets.specs.Numbers.{numberAt};
-ghost use Rattle.calllog.specs.Layout.{opensWith, activitiesIn, tracesIn, offsetAt, lengthAt, bodiesStart};
+ghost use Rattle.sets.specs.Files.{numberAt};
+ghost use Rattle.calllog.specs.Layout.{activitiesIn, tracesIn, offsetAt, lengthAt, bodiesStart};
 use sets::Activity;
 use sets::Place;
 
@@ -30,23 +30,6 @@ const ACTIVITIES_AT: usize = 3;
 const TRACES_AT: usize = 4;
 
 const LENGTH_AT: usize = 2;
-
-// Whether the bytes open with the given ones.
-pub fn opens_with<'a>(mark: &'a [u8], bytes: &'a [u8]) -> bool
-    ensures { λ r. ⌜ r ≡ opensWith (now (mark .entry)) (now (bytes .entry)) ⌝ }
-{
-    let mut i: usize = 0;
-    while i < mark.len() {
-        if bytes.len() <= i {
-            return false;
-        }
-        if bytes[i] != mark[i] {
-            return false;
-        }
-        i += 1;
-    }
-    true
-}
 
 fn byte_at(bytes: &[u8], i: usize) -> u8
     ensures { λ r. ⌜ r ≡ getD (now (bytes .entry)) i 0 ⌝ }

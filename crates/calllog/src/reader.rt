@@ -2,7 +2,7 @@
 // the work to `trace::ask`, which whoever has the bytes and the number may call as well.
 ghost use mathlib.Core.Path.{_≡_};
 ghost use Rattle.calllog.specs.Logs.{foundOf};
-ghost use Rattle.calllog.specs.Reader.{opened, after};
+ghost use Rattle.calllog.specs.Reader.{opened, readerAfter};
 use crate::trace;
 use crate::trace::Found;
 
@@ -20,7 +20,7 @@ pub fn open<'a>(log: &'a [u8]) -> LogReader<'a>
 
 // Trace k. The reader moves on to k + 1, or stays as it was where it refuses.
 pub fn trace<'s, 'a>(r: &'s mut LogReader<'a>, k: usize) -> Found
-    ensures { λ f. ⌜ (f ≡ foundOf (now (now (r .entry) .log)) k) × (now (r .exit) ≡ after (now (r .entry)) k) ⌝ }
+    ensures { λ f. ⌜ (f ≡ foundOf (now (now (r .entry) .log)) k) × (now (r .exit) ≡ readerAfter (now (r .entry)) k) ⌝ }
 {
     let asked = trace::ask(r.log, r.next, k);
     r.next = asked.next;
@@ -29,7 +29,7 @@ pub fn trace<'s, 'a>(r: &'s mut LogReader<'a>, k: usize) -> Found
 
 // The trace that the reader remembers.
 pub fn next_trace<'s, 'a>(r: &'s mut LogReader<'a>) -> Found
-    ensures { λ f. ⌜ (f ≡ foundOf (now (now (r .entry) .log)) (now (r .entry) .next)) × (now (r .exit) ≡ after (now (r .entry)) (now (r .entry) .next)) ⌝ }
+    ensures { λ f. ⌜ (f ≡ foundOf (now (now (r .entry) .log)) (now (r .entry) .next)) × (now (r .exit) ≡ readerAfter (now (r .entry)) (now (r .entry) .next)) ⌝ }
 {
     let k = r.next;
     trace(r, k)

@@ -6,7 +6,7 @@ use Prim.Native.Nat.{ℕ, _*_, _≤_, _<_}
 use native.Mathlib.Omega.{arith}
 use borrow.Author.Tests.{le-ltb, eq-eqb, ltb-false, eqb-true}
 use lib.Dec.{T, eqb, ltb}
-use lib.ListN.{length, take}
+use lib.ListN.{length}
 use Rattle.sets.specs.Tests.{non}
 use Rattle.sets.specs.Members.{those, within}
 use Rattle.sets.specs.Answers.{isDone, thenAsk, firstRefusal}
@@ -17,8 +17,9 @@ use Rattle.sets.proofs.Order.{none-refuses, no-refusal}
 use Rattle.sets.proofs.Tests.{T→true, non-false}
 use Rattle.engine.specs.Judged.{markingWithin}
 use Rattle.sets.specs.Sizes.{mostActivities}
+use Rattle.sets.specs.Files.{opensWith}
 use Rattle.graphfile.specs.Layout.{letters, headLength, rowLength, relationCount, activitiesIn, eventsIn, markingIn, offsetIn, countIn, earlierRows, endOf}
-use Rattle.graphfile.specs.Refusals.{mostRows, same, judgedHead, judgedEntry, judgedEnd, judgedBeforeRows, judgedRow, judgedRelation, judgedFile}
+use Rattle.graphfile.specs.Refusals.{mostRows, judgedHead, judgedEntry, judgedEnd, judgedBeforeRows, judgedRow, judgedRelation, judgedFile}
 
 pub done-then : {a b : Answer} → a ≡ Done → b ≡ Done → thenAsk a b ≡ Done
 done-then {a} {b} e f = ask-on a b e ∙ f
@@ -78,7 +79,7 @@ acceptable bytes a =
 -- ---- the head and an entry
 
 pub record Head (bytes : List ℕ) : Type 0 where
-  pub opens : T (same (take 3 bytes) letters)
+  pub opens : T (opensWith letters bytes)
   pub few : activitiesIn bytes ≤ mostActivities
   pub events : T (within (eventsIn bytes) (those (λ a. ltb a (activitiesIn bytes))))
   pub marking : T (markingWithin (eventsIn bytes) (markingIn bytes))
@@ -86,7 +87,7 @@ pub record Head (bytes : List ℕ) : Type 0 where
 pub head-done : (bytes : List ℕ) → judgedHead bytes ≡ Done → Head bytes
 unfolding judgedHead
 head-done bytes h =
-    let two = went (non (same (take 3 bytes) letters)) WrongLetters _ refl h in
+    let two = went (non (opensWith letters bytes)) WrongLetters _ refl h in
     let three = went (ltb mostActivities (activitiesIn bytes)) AboveLimit _ refl (two .1) in
     let low = went (non (within (eventsIn bytes) (those (λ a. ltb a (activitiesIn bytes))))) Outside _ refl (three .1) in
     let five = went (non (markingWithin (eventsIn bytes) (markingIn bytes))) Outside Done refl (low .1) in
@@ -101,7 +102,7 @@ pub done-head : (bytes : List ℕ) → Head bytes → judgedHead bytes ≡ Done
 unfolding judgedHead non
 done-head bytes h =
     rw (
-      T→true (same (take 3 bytes) letters) (h .opens),
+      T→true (opensWith letters bytes) (h .opens),
       le-ltb mostActivities (activitiesIn bytes) (h .few),
       T→true (within (eventsIn bytes) (those (λ a. ltb a (activitiesIn bytes)))) (h .events),
       T→true (markingWithin (eventsIn bytes) (markingIn bytes)) (h .marking),

@@ -1,5 +1,5 @@
 -- From a file to its graph and back: every accepted file, read and written again, is that file, and its graph is acceptable. Assumes nothing.
-use mathlib.Core.Path.{_≡_, refl, sym, ap, ap₂, _∙_, subst}
+use mathlib.Core.Path.{_≡_, refl, sym, ap, _∙_, subst}
 use mathlib.Core.Bool.{Bool, true, false}
 use mathlib.Core.Logic.{_⊎_, inl, inr}
 use mathlib.Core.List.{List, [], _∷_, _++_}
@@ -9,21 +9,22 @@ use native.Mathlib.Omega.{arith}
 use borrow.Author.Tests.{ltb-true, ltb-false, le-ltb}
 use lib.Dec.{T, eqb, ltb, eqb→eq, lit<}
 use lib.Arith.{lt-of-le-ne}
-use lib.ListN.{length, take, getD-replicate}
+use lib.ListN.{length, getD-replicate}
 use Rattle.sets.specs.Tests.{_and_, _or_, non, when_then_else_}
 use Rattle.sets.specs.Members.{width, bit, mem, everyBelow, isEmpty, within}
 use Rattle.sets.specs.Rows.{noRows, rowAt, withRow}
 use Rattle.sets.specs.declared.set.Set.{Set}
-use Rattle.sets.proofs.Tests.{split, either, T→true, F→false, false→F, and-l, and-r, and-i, or-r, eqb-of}
+use Rattle.sets.proofs.Tests.{split, either, T→true, F→false, false→F, and-i, or-r, eqb-of}
 use Rattle.sets.proofs.Below.{every-i}
 use Rattle.sets.proofs.Bits.{bit-above}
 use Rattle.sets.proofs.RowLaws.{row-in, row-out}
 use Rattle.sets.specs.declared.answer.Answer.the-variants.{Done}
 use Rattle.engine.specs.Judged.{rowWithin, rowsWithin, relationsWithin, graphWithin, judgedFor, judged}
 use Rattle.sets.specs.Sizes.{mostActivities}
-use Rattle.sets.specs.Numbers.{littleEndian}
+use Rattle.sets.specs.Files.{littleEndian}
 use Rattle.graphfile.specs.Layout.{letters, headLength, rowLength, relationCount, activitiesIn, eventsIn, markingIn, offsetIn, countIn, earlierRows, keyIn, rowIn}
-use Rattle.graphfile.specs.Refusals.{same, judgedRow}
+use Rattle.sets.proofs.Files.{opens-is}
+use Rattle.graphfile.specs.Refusals.{judgedRow}
 use Rattle.graphfile.specs.Held.{filled, relationIn, graphIn}
 use Rattle.graphfile.specs.Writing.{setBytes, rowOf, rowsFrom, rowCount, entryBytes, entriesBytes, markingBytes, openingBytes, relationBytes, relationsBytes, bytesOf}
 use Rattle.graphfile.proofs.Codec.{Bytes}
@@ -114,13 +115,6 @@ no-inside events b = subst (λ (s : Set). T (rowWithin events b s)) (sym (no-row
 
 -- ---- the parts of the file
 
-same-is : (xs ys : List ℕ) → T (same xs ys) → xs ≡ ys
-unfolding same
-same-is [] [] t = refl
-same-is [] (y ∷ ys) t = absurd t
-same-is (x ∷ xs) [] t = absurd t
-same-is (x ∷ xs) (y ∷ ys) t = ap₂ _∷_ (eqb→eq x y (and-l _ _ t)) (same-is xs ys (and-r _ _ t))
-
 -- the bytes of all rows
 abbrev rowsLength : List ℕ → ℕ
 rowsLength bytes = rowLength * countIn bytes 0 + rowLength * countIn bytes 1 + rowLength * countIn bytes 2 + rowLength * countIn bytes 3
@@ -163,7 +157,7 @@ module _ (bytes : List ℕ) (small : Bytes bytes) (ok : Accepted bytes) where
   opening-back : openingBytes (activitiesIn bytes) (eventsIn bytes) (markingIn bytes) ≡ part bytes 0 36
   unfolding openingBytes markingBytes
   opening-back =
-      let start = meet bytes letters (activitiesIn bytes ∷ []) 0 3 3 1 refl (sym (same-is (take 3 bytes) letters (head-done bytes (ok .head) .opens))) (part-one bytes 3 (omega (arith, ok .long))) in
+      let start = meet bytes letters (activitiesIn bytes ∷ []) 0 3 3 1 refl (sym (opens-is letters bytes (head-done bytes (ok .head) .opens))) (part-one bytes 3 (omega (arith, ok .long))) in
       let events = meet bytes _ _ 0 4 4 8 refl start (part-number bytes small 8 4 (omega (arith, ok .long))) in
       let marking =
       meet bytes _ _ 12 16 28 8 refl

@@ -18,7 +18,7 @@ use Rattle.sets.proofs.Tests.{and-l, and-r, or-e, either, false→F}
 use Rattle.sets.proofs.Members.{empty-bits}
 use Rattle.sets.proofs.RowLaws.{row-in, put-in}
 use Rattle.engine.specs.Judged.{rowWithin}
-use Rattle.sets.specs.Numbers.{valueOf, numberAt}
+use Rattle.sets.specs.Files.{valueOf, numberAt}
 use Rattle.graphfile.specs.Layout.{headLength, rowLength, keyIn, rowIn}
 use Rattle.graphfile.specs.Held.{filled}
 use Rattle.graphfile.specs.Writing.{setBytes, rowOf, rowsFor, rowsFrom, countFrom}

@@ -20,9 +20,9 @@ use Rattle.engine.specs.declared.marking.Marking.{Marking}
 use Rattle.engine.specs.declared.graph.Graph.{Graph}
 use Rattle.engine.specs.Judged.{markingWithin, rowWithin, rowsWithin, judged}
 use Rattle.engine.proofs.Acceptable.{judged-activities, judged-within, events-inside, opening-inside, rows-inside}
-use Rattle.sets.specs.Numbers.{littleEndian, valueOf, numberAt}
+use Rattle.sets.specs.Files.{littleEndian, valueOf, numberAt, opensWith}
 use Rattle.graphfile.specs.Layout.{headLength, rowLength, relationCount, activitiesIn, setAt, eventsIn, markingIn, offsetIn, countIn, earlierRows}
-use Rattle.graphfile.specs.Refusals.{same, judgedEntry, judgedRow, judgedFile}
+use Rattle.graphfile.specs.Refusals.{judgedEntry, judgedRow, judgedFile}
 use Rattle.graphfile.specs.Held.{filled, relationIn, graphIn}
 use Rattle.graphfile.specs.Writing.{setBytes, rowsFor, countFrom, rowCount, entriesBytes, markingBytes, openingBytes, relationBytes, relationsBytes, bytesOf}
 use Rattle.graphfile.proofs.Codec.{value-number}
@@ -104,7 +104,7 @@ module _ (g : Graph) (machine : Machine g) (ok : judged g ≡ Done) where
       (set-read file 28 (g .opening .included) refl (machine .included) i))
 
   head-read : Head file
-  unfolding bytesOf openingBytes same _and_
+  unfolding bytesOf openingBytes opensWith _and_
   head-read =
       record {
         opens = tt;

@@ -6,7 +6,7 @@ use Prim.Native.Nat.{ℕ, zero, suc, _+_, _-_, _*_, _≤_, _<_}
 use native.Mathlib.Omega.{arith}
 use borrow.Author.Tests.{lt-ltb, le-ltb, eq-eqb, ne-eqb, not-true, not-false}
 use lib.Dec.{ltb}
-use lib.ListN.{length, take}
+use lib.ListN.{length}
 use Rattle.sets.specs.Tests.{_or_, non, when_then_else_}
 use Rattle.sets.specs.Members.{mem, those, isEmpty, within}
 use Rattle.sets.specs.Answers.{firstRefusal}
@@ -15,9 +15,10 @@ use Rattle.sets.specs.declared.answer.Answer.{Answer}
 use Rattle.sets.specs.declared.answer.Answer.the-variants.{Done, TooShort, WrongLetters, AboveLimit, WrongOffset, Outside, BadRow}
 use Rattle.engine.specs.Judged.{markingWithin}
 use Rattle.sets.specs.Sizes.{mostActivities}
+use Rattle.sets.specs.Files.{opensWith}
 use Rattle.engine.specs.declared.marking.Marking.{Marking}
 use Rattle.graphfile.specs.Layout.{letters, headLength, rowLength, relationCount, activitiesIn, eventsIn, markingIn, offsetIn, countIn, earlierRows, keyIn, rowIn, endOf}
-use Rattle.graphfile.specs.Refusals.{mostRows, same, judgedHead, judgedEntry, judgedEnd, rises, rowAnswer, judgedRow, judgedRelation}
+use Rattle.graphfile.specs.Refusals.{mostRows, judgedHead, judgedEntry, judgedEnd, rises, rowAnswer, judgedRow, judgedRelation}
 
 -- ---- the end
 
@@ -111,7 +112,7 @@ row-judged bytes first j key events row above a he hk hr ha h = h ∙ (λ i. row
 abbrev headAnswer : Bool → Bool → Bool → Bool → Answer
 headAnswer right above low within = when non right then WrongLetters else when above then AboveLimit else when non low then Outside else when non within then Outside else Done
 
-module _ (bytes : List ℕ) (l : Bool) (hl : l ≡ same (take 3 bytes) letters) where
+module _ (bytes : List ℕ) (l : Bool) (hl : l ≡ opensWith letters bytes) where
   head-is : (r a e m : Bool) → l ≡ r → ltb mostActivities (activitiesIn bytes) ≡ a → within (eventsIn bytes) (those (λ x. ltb x (activitiesIn bytes))) ≡ e
       → markingWithin (eventsIn bytes) (markingIn bytes) ≡ m → headAnswer r a e m ≡ judgedHead bytes
   unfolding judgedHead

@@ -10,7 +10,7 @@ use lib.Seq.{sets, sets-eq}
 use Rattle.sets.specs.Tests.{when_then_else_}
 use Rattle.engine.specs.Markings.{emptyMarking}
 use Rattle.engine.specs.declared.marking.Marking.{Marking}
-use Rattle.sets.specs.Numbers.{littleEndian}
+use Rattle.sets.specs.Files.{littleEndian}
 use Rattle.graphfile.specs.Layout.{markingAt}
 use Rattle.graphfile.specs.Writing.{markingBytes}
 use Rattle.graphfile.specs.Markings.{markingFrom, markingInto}

@@ -6,7 +6,7 @@ use Prim.Native.Nat.{ℕ, _+_, _*_, _^_, _≤_, _<_}
 use native.Mathlib.Omega.{arith}
 use lib.ListN.{length, getD, take, drop, length-drop}
 use lib.Seq.{drop-cons, take-add, drop-drop, take-all, length-take-le}
-use Rattle.sets.specs.Numbers.{littleEndian, valueOf, numberAt}
+use Rattle.sets.specs.Files.{littleEndian, valueOf, numberAt}
 use Rattle.graphfile.specs.Layout.{headLength, rowLength, keyIn, rowIn}
 use Rattle.graphfile.specs.Writing.{setBytes}
 use Rattle.graphfile.proofs.Codec.{Bytes, bytes-drop, bytes-take, number-value, value-below}

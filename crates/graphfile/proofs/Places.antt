@@ -1,46 +1,15 @@
 -- What the reads at fixed places find. Assumes nothing.
 use mathlib.Core.Path.{_≡_, refl, sym, ap, ap₂, _∙_, subst}
-use mathlib.Core.Bool.{Bool, false}
-use mathlib.Core.List.{List, [], _∷_}
+use mathlib.Core.List.{List}
 use Prim.Native.Nat.{ℕ, zero, suc, _+_, _-_, _*_, _≤_, _<_}
-use native.Mathlib.Nat.{not-suc-le-zero, le-of-suc-le-suc, zero-add, suc-add, le-refl, le-trans}
+use native.Mathlib.Nat.{zero-add, suc-add, le-refl, le-trans}
 use native.Mathlib.Numerals.{add-one}
 use native.Mathlib.Omega.{arith}
-use borrow.Author.Tests.{eq-eqb, ne-eqb}
-use lib.Dec.{eqb}
-use lib.ListN.{length, getD, take}
-use Rattle.sets.specs.Tests.{_and_}
+use lib.ListN.{length}
 use Rattle.sets.specs.declared.set.Set.{Set}
-use Rattle.sets.proofs.Tests.{and-true}
 use Rattle.engine.specs.declared.marking.Marking.{Marking}
 use Rattle.engine.specs.Markings.{markingOf}
-use Rattle.graphfile.specs.Layout.{letters, headLength, rowLength, relationCount, setAt, countIn, earlierRows, markingAt, endOf}
-use Rattle.graphfile.specs.Refusals.{same}
-
--- ---- the letters
-
-same-letters : (bytes : List ℕ) → 3 ≤ length bytes
-    → same (take 3 bytes) letters ≡ (eqb (getD bytes 0 0) 66 and (eqb (getD bytes 1 0) 71 and eqb (getD bytes 2 0) 1))
-unfolding same
-same-letters [] h = absurd (not-suc-le-zero h)
-same-letters (x ∷ []) h = absurd (not-suc-le-zero (le-of-suc-le-suc h))
-same-letters (x ∷ y ∷ []) h = absurd (not-suc-le-zero (le-of-suc-le-suc (le-of-suc-le-suc h)))
-same-letters (x ∷ y ∷ z ∷ l) h = ap (λ (t : Bool). eqb x 66 and (eqb y 71 and t)) (and-true (eqb z 1))
-
-module _ (bytes : List ℕ) (long : 3 ≤ length bytes) where
-  pub letter-0 : (getD bytes 0 0 ≡ 66 → ⊥) → false ≡ same (take 3 bytes) letters
-  unfolding _and_
-  letter-0 n = sym (same-letters bytes long ∙ rw (ne-eqb (getD bytes 0 0) 66 n))
-
-  pub letter-1 : getD bytes 0 0 ≡ 66 → (getD bytes 1 0 ≡ 71 → ⊥) → false ≡ same (take 3 bytes) letters
-  unfolding _and_
-  letter-1 e n = sym (same-letters bytes long ∙ rw (eq-eqb (getD bytes 0 0) 66 e, ne-eqb (getD bytes 1 0) 71 n))
-
-  pub letter-2 : getD bytes 0 0 ≡ 66 → getD bytes 1 0 ≡ 71 → eqb (getD bytes 2 0) 1 ≡ same (take 3 bytes) letters
-  unfolding _and_
-  letter-2 e f = sym (same-letters bytes long ∙ rw (eq-eqb (getD bytes 0 0) 66 e, eq-eqb (getD bytes 1 0) 71 f))
-
-pub ruleset opening = (letter-0, letter-1, letter-2)
+use Rattle.graphfile.specs.Layout.{headLength, rowLength, relationCount, setAt, countIn, earlierRows, markingAt, endOf}
 
 -- ---- sets and rows
 

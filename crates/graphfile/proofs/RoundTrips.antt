@@ -18,11 +18,11 @@ use Rattle.engine.specs.declared.graph.Graph.{Graph}
 use Rattle.engine.specs.Judged.{judged}
 use Rattle.graphfile.specs.declared.reader.Reading.{Reading}
 use Rattle.graphfile.specs.declared.writer.Written.{Written}
-use Rattle.sets.specs.Numbers.{littleEndian}
+use Rattle.sets.specs.Files.{littleEndian}
 use Rattle.graphfile.specs.Layout.{headLength, rowLength}
 use Rattle.graphfile.specs.Refusals.{judgedFile}
 use Rattle.graphfile.specs.Held.{graphIn, readOf}
-use Rattle.graphfile.specs.Writing.{rowTotal, rowOf, rowsFor, rowsFrom, countFrom, entriesBytes, markingBytes, openingBytes, relationsBytes, bytesOf, judgedWrite, writtenOf, bufferAfter}
+use Rattle.graphfile.specs.Writing.{rowTotal, rowOf, rowsFor, rowsFrom, countFrom, entriesBytes, markingBytes, openingBytes, relationsBytes, bytesOf, judgedWrite, writtenOf, fileAfter}
 use Rattle.graphfile.proofs.Codec.{Bytes}
 use Rattle.graphfile.proofs.Accepted.{accepted, done-then}
 use Rattle.graphfile.proofs.Stores.{length-file}
@@ -58,8 +58,8 @@ module _ (g : Graph) (before : List ℕ) (ok : judged g ≡ Done) (room : length
   unfolding writtenOf
   written = ap (λ (a : Answer). record { answer = a; length = when isDone a then length (bytesOf g) else 0 }) done
 
-  buffer : bufferAfter g before ≡ bytesOf g ++ drop (length (bytesOf g)) before
-  unfolding bufferAfter
+  buffer : fileAfter g before ≡ bytesOf g ++ drop (length (bytesOf g)) before
+  unfolding fileAfter
   buffer = ap (λ (a : Answer). when isDone a then bytesOf g ++ drop (length (bytesOf g)) before else before) done
 
 read-done : (bytes : List ℕ) → judgedFile bytes ≡ Done → readOf bytes ≡ record { answer = Done; graph = graphIn bytes }
@@ -71,7 +71,7 @@ read-done bytes ok = ap (λ (a : Answer). record { answer = a; graph = when isDo
 -- every acceptable graph, written into a buffer that is large enough and read again, is that graph
 pub written-then-read : (g : Graph) (before after : List ℕ) (w : Written) (r : Reading)
     → Machine g → judged g ≡ Done → length (bytesOf g) ≤ length before
-    → w ≡ writtenOf g (length before) → after ≡ bufferAfter g before → r ≡ readOf (take (w .length) after)
+    → w ≡ writtenOf g (length before) → after ≡ fileAfter g before → r ≡ readOf (take (w .length) after)
     → r ≡ record { answer = Done; graph = g }
 written-then-read g before after w r machine ok room hw ha hr =
     let long : w .length ≡ length (bytesOf g) = ap (λ (x : Written). x .length) (hw ∙ written g before ok room) in
@@ -85,7 +85,7 @@ written-then-read g before after w r machine ok room hw ha hr =
 -- every accepted file, read and written again, is that file byte for byte
 pub read-then-written : (bytes before after : List ℕ) (r : Reading) (w : Written)
     → Bytes bytes → r ≡ readOf bytes → r .answer ≡ Done → length bytes ≤ length before
-    → w ≡ writtenOf (r .graph) (length before) → after ≡ bufferAfter (r .graph) before
+    → w ≡ writtenOf (r .graph) (length before) → after ≡ fileAfter (r .graph) before
     → (w ≡ record { answer = Done; length = length bytes }) × (after ≡ bytes ++ drop (length bytes) before)
 unfolding readOf
 read-then-written bytes before after r w small hr ok room hw ha =
@@ -95,7 +95,7 @@ read-then-written bytes before after r w small hr ok room hw ha =
     let room′ = subst (λ (l : List ℕ). length l ≤ length before) (sym same) room in
     let legal = file-graph bytes small accept in (
       hw ∙ ap (λ (g : Graph). writtenOf g (length before)) graph ∙ written (graphIn bytes) before legal room′ ∙ ap (λ (l : List ℕ). record { answer = Done; length = length l }) same,
-      ha ∙ ap (λ (g : Graph). bufferAfter g before) graph ∙ buffer (graphIn bytes) before legal room′ ∙ ap (λ (l : List ℕ). l ++ drop (length l) before) same,
+      ha ∙ ap (λ (g : Graph). fileAfter g before) graph ∙ buffer (graphIn bytes) before legal room′ ∙ ap (λ (l : List ℕ). l ++ drop (length l) before) same,
     )
 
 -- ---- 01's graph G: C 0 1, 0 2; R 0 2, 1 2; I 0 1; E 0 0, 1 1, 2 1, 2 2

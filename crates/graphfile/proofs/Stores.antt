@@ -13,7 +13,7 @@ use Rattle.sets.specs.Rows.{rowAt}
 use Rattle.sets.specs.declared.set.Set.{Set}
 use Rattle.engine.specs.declared.marking.Marking.{Marking}
 use Rattle.engine.specs.declared.graph.Graph.{Graph}
-use Rattle.sets.specs.Numbers.{littleEndian}
+use Rattle.sets.specs.Files.{littleEndian}
 use Rattle.graphfile.specs.Layout.{letters, headLength, rowLength}
 use Rattle.graphfile.specs.Writing.{setBytes, rowOf, rowsFor, rowsFrom, countFrom, rowCount, rowTotal, entryBytes, entriesBytes, markingBytes, openingBytes, relationBytes, relationsBytes, bytesOf}
 

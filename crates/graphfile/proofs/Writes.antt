@@ -17,7 +17,7 @@ use Rattle.engine.specs.Judged.{judged}
 use Rattle.engine.specs.declared.graph.Graph.{Graph}
 use Rattle.graphfile.specs.declared.writer.Written.{Written}
 use Rattle.graphfile.specs.Layout.{headLength, rowLength}
-use Rattle.graphfile.specs.Writing.{rowTotal, bytesOf, judgedWrite, writtenOf, bufferAfter}
+use Rattle.graphfile.specs.Writing.{rowTotal, bytesOf, judgedWrite, writtenOf, fileAfter}
 use Rattle.sets.proofs.Asking.{refused, passed, gone-on}
 use Rattle.graphfile.proofs.Stores.{length-file}
 
@@ -27,8 +27,8 @@ module _ (g : Graph) (out : List ℕ) (b : Bool) (h : isDone (judgedWrite g (len
   unfolding writtenOf
   written-is = λ i. record { answer = judgedWrite g (length out); length = when h i then length (bytesOf g) else 0 }
 
-  buffer-is : bufferAfter g out ≡ when b then bytesOf g ++ drop (length (bytesOf g)) out else out
-  unfolding bufferAfter
+  buffer-is : fileAfter g out ≡ when b then bytesOf g ++ drop (length (bytesOf g)) out else out
+  unfolding fileAfter
   buffer-is = ap (λ (t : Bool). when t then bytesOf g ++ drop (length (bytesOf g)) out else out) h
 
 module _ (g : Graph) (out : List ℕ) (a : Answer) (d : Bool) (e : a ≡ judged g) (t : d ≡ isDone a) where
@@ -42,7 +42,7 @@ module _ (g : Graph) (out : List ℕ) (a : Answer) (d : Bool) (e : a ≡ judged 
   pub write-refused : not d ≡ true → _≡_ {A = Written} (record { answer = a; length = 0 }) (writtenOf g (length out))
   write-refused n = ap (λ (x : Answer). record { answer = x; length = 0 }) (answer-refused n) ∙ sym (written-is g out false (not-done n))
 
-  pub refused-keeps : not d ≡ true → out ≡ bufferAfter g out
+  pub refused-keeps : not d ≡ true → out ≡ fileAfter g out
   refused-keeps n = sym (buffer-is g out false (not-done n))
 
   module _ (n : not d ≡ false) (len : ℕ) (hl : len ≡ headLength + rowLength * rowTotal g) where
@@ -62,7 +62,7 @@ module _ (g : Graph) (out : List ℕ) (a : Answer) (d : Bool) (e : a ≡ judged 
     pub write-small : length out < len → _≡_ {A = Written} (record { answer = BufferTooSmall; length = 0 }) (writtenOf g (length out))
     write-small l = ap (λ (x : Answer). record { answer = x; length = 0 }) (sym (small l)) ∙ sym (written-is g out false (ap isDone (small l)))
 
-    pub small-keeps : length out < len → out ≡ bufferAfter g out
+    pub small-keeps : length out < len → out ≡ fileAfter g out
     small-keeps l = sym (buffer-is g out false (ap isDone (small l)))
 
     write-done : len ≤ length out → _≡_ {A = Written} (record { answer = a; length = len }) (writtenOf g (length out))
@@ -70,7 +70,7 @@ module _ (g : Graph) (out : List ℕ) (a : Answer) (d : Bool) (e : a ≡ judged 
         (λ i. record { answer = (e ∙ gone-on a (judged g) d e t n ∙ sym (enough l)) i; length = file-len i })
         ∙ sym (written-is g out true (ap isDone (enough l)))
 
-    done-holds : (out′ : List ℕ) → len ≤ length out → out′ ≡ sets out 0 (bytesOf g) → out′ ≡ bufferAfter g out
+    done-holds : (out′ : List ℕ) → len ≤ length out → out′ ≡ sets out 0 (bytesOf g) → out′ ≡ fileAfter g out
     done-holds out′ l f =
         f
         ∙ sets-eq (bytesOf g) out 0 (omega (arith, file-len))
@@ -78,5 +78,5 @@ module _ (g : Graph) (out : List ℕ) (a : Answer) (d : Bool) (e : a ≡ judged 
         ∙ sym (buffer-is g out true (ap isDone (enough l)))
 
     pub write-whole : (out′ : List ℕ) → len ≤ length out → out′ ≡ sets out 0 (bytesOf g)
-        → (_≡_ {A = Written} (record { answer = a; length = len }) (writtenOf g (length out))) × (out′ ≡ bufferAfter g out)
+        → (_≡_ {A = Written} (record { answer = a; length = len }) (writtenOf g (length out))) × (out′ ≡ fileAfter g out)
     write-whole out′ l f = (write-done l, done-holds out′ l f)

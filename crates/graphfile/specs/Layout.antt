@@ -5,7 +5,7 @@ use lib.ListN.{getD}
 use Rattle.sets.specs.declared.set.Set.{Set}
 use Rattle.engine.specs.declared.marking.Marking.{Marking}
 use Rattle.engine.specs.Markings.{markingOf}
-use Rattle.sets.specs.Numbers.{numberAt}
+use Rattle.sets.specs.Files.{numberAt}
 
 -- the two letters and the edition
 abbrev pub letters : List ℕ

@@ -1,10 +1,10 @@
 -- When bytes are no graph file, and which number they get (01, "Numbers given back", the order for a graph file).
-use mathlib.Core.Bool.{Bool, true, false}
-use mathlib.Core.List.{List, [], _∷_}
+use mathlib.Core.Bool.{Bool, true}
+use mathlib.Core.List.{List}
 use Prim.Native.Nat.{ℕ, zero, suc, _+_, _*_}
 use lib.Dec.{eqb, ltb}
-use lib.ListN.{length, take}
-use Rattle.sets.specs.Tests.{_and_, _or_, non, when_then_else_}
+use lib.ListN.{length}
+use Rattle.sets.specs.Tests.{_or_, non, when_then_else_}
 use Rattle.sets.specs.Members.{mem, those, isEmpty, within}
 use Rattle.sets.specs.declared.set.Set.{Set}
 use Rattle.sets.specs.declared.answer.Answer.{Answer}
@@ -12,23 +12,17 @@ use Rattle.sets.specs.declared.answer.Answer.the-variants.{Done, TooShort, Wron
 use Rattle.engine.specs.Judged.{markingWithin}
 use Rattle.sets.specs.Answers.{thenAsk, firstRefusal}
 use Rattle.sets.specs.Sizes.{mostActivities}
+use Rattle.sets.specs.Files.{opensWith}
 use Rattle.graphfile.specs.Layout.{letters, headLength, rowLength, relationCount, activitiesIn, eventsIn, markingIn, offsetIn, countIn, earlierRows, keyIn, rowIn, endOf}
 
 -- the limit on a relation's rows, whatever A is
 abbrev pub mostRows : ℕ
 mostRows = 64
 
--- the same bytes
-unfoldable pub same : List ℕ → List ℕ → Bool
-same [] [] = true
-same [] (y ∷ ys) = false
-same (x ∷ xs) [] = false
-same (x ∷ xs) (y ∷ ys) = eqb x y and same xs ys
-
 -- 2; 3 for A; 5 for an event not below A, then for the marking
 unfoldable pub judgedHead : List ℕ → Answer
 judgedHead bytes =
-    when non (same (take 3 bytes) letters) then WrongLetters
+    when non (opensWith letters bytes) then WrongLetters
     else when ltb mostActivities (activitiesIn bytes) then AboveLimit
     else when non (within (eventsIn bytes) (those (λ a. ltb a (activitiesIn bytes)))) then Outside
     else when non (markingWithin (eventsIn bytes) (markingIn bytes)) then Outside

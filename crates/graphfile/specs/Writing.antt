@@ -14,7 +14,7 @@ use Rattle.engine.specs.declared.marking.Marking.{Marking}
 use Rattle.engine.specs.declared.graph.Graph.{Graph}
 use Rattle.engine.specs.Judged.{judged}
 use Rattle.graphfile.specs.declared.writer.Written.{Written}
-use Rattle.sets.specs.Numbers.{littleEndian}
+use Rattle.sets.specs.Files.{littleEndian}
 use Rattle.graphfile.specs.Layout.{letters, rowLength}
 
 abbrev pub setBytes : Set → List ℕ
@@ -87,5 +87,5 @@ writtenOf g space =
     }
 
 -- the buffer after it: the file, then what was there; all as it was where refused
-unfoldable pub bufferAfter : Graph → List ℕ → List ℕ
-bufferAfter g buffer = when isDone (judgedWrite g (length buffer)) then bytesOf g ++ drop (length (bytesOf g)) buffer else buffer
+unfoldable pub fileAfter : Graph → List ℕ → List ℕ
+fileAfter g buffer = when isDone (judgedWrite g (length buffer)) then bytesOf g ++ drop (length (bytesOf g)) buffer else buffer

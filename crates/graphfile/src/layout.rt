@@ -1,9 +1,8 @@
 // What stands where in a graph file.
 ghost use mathlib.Core.Path.{_≡_};
 ghost use Prim.Native.Nat.{_+_, _*_, _≤_, _<_};
-ghost use lib.ListN.{length, take};
-ghost use Rattle.graphfile.specs.Layout.{letters, headLength, rowLength, relationCount, setAt, markingAt, markingIn, offsetIn, countIn, earlierRows, keyIn, rowIn};
-ghost use Rattle.graphfile.specs.Refusals.{same};
+ghost use lib.ListN.{length};
+ghost use Rattle.graphfile.specs.Layout.{headLength, rowLength, relationCount, setAt, markingAt, markingIn, offsetIn, countIn, earlierRows, keyIn, rowIn};
 use crate::number::number_at;
 use engine::Marking;
 use sets::Set;
@@ -31,21 +30,6 @@ pub const ENTRY: usize = 4;
 pub const OFFSETS: usize = 36;
 
 pub const COUNTS: usize = 38;
-
-// Whether the bytes open with the letters and the edition.
-pub(crate) fn opens_right(bytes: &[u8]) -> bool
-    requires { ⌜ 3 ≤ length (now bytes) ⌝ }
-    ensures { λ r. ⌜ r ≡ same (take 3 (now (bytes .entry))) letters ⌝ }
-{
-    let wanted = LETTERS;
-    if bytes[0] != wanted[0] {
-        return false;
-    }
-    if bytes[1] != wanted[1] {
-        return false;
-    }
-    bytes[2] == wanted[2]
-}
 
 // The set in 8 bytes from a place on.
 pub(crate) fn set_at(bytes: &[u8], at: usize) -> Set

@@ -10,6 +10,7 @@ use engine::judge::marking_within;
 use sets::Activity;
 use sets::Answer;
 use sets::Set;
+use sets::opening;
 
 // The greatest number of rows of a relation, whatever A is.
 const MOST_ROWS: usize = 64;
@@ -18,7 +19,7 @@ fn judge_head(bytes: &[u8]) -> Answer
     requires { ⌜ headLength ≤ length (now bytes) ⌝ }
     ensures { λ r. ⌜ r ≡ judgedHead (now (bytes .entry)) ⌝ }
 {
-    if !layout::opens_right(bytes) {
+    if !opening::opens_with(&layout::LETTERS, bytes) {
         return Answer::WrongLetters;
     }
     let activities = bytes[3];

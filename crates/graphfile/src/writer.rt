@@ -6,7 +6,7 @@ ghost use lib.ListN.{length};
 ghost use lib.Seq.{sets};
 ghost use Rattle.engine.specs.Relations.{graphOf};
 ghost use Rattle.graphfile.specs.Layout.{letters, headLength, rowLength};
-ghost use Rattle.graphfile.specs.Writing.{rowsFor, rowOf, rowCount, entryBytes, entriesBytes, markingBytes, openingBytes, relationBytes, relationsBytes, bytesOf, writtenOf, bufferAfter};
+ghost use Rattle.graphfile.specs.Writing.{rowsFor, rowOf, rowCount, entryBytes, entriesBytes, markingBytes, openingBytes, relationBytes, relationsBytes, bytesOf, writtenOf, fileAfter};
 use crate::layout;
 use crate::number::put_number;
 use engine::Graph;
@@ -203,7 +203,7 @@ fn put_file<'a>(
 // Writes the file of a graph into the first bytes of a buffer.
 pub fn write(g: Graph, out: &mut [u8]) -> Written
     ensures { λ r. ⌜ r ≡ writtenOf g (length (now (out .entry))) ⌝ }
-    ensures { λ _. ⌜ now (out .exit) ≡ bufferAfter g (now (out .entry)) ⌝ }
+    ensures { λ _. ⌜ now (out .exit) ≡ fileAfter g (now (out .entry)) ⌝ }
 {
     let answer = judge_for(
         g.activities,

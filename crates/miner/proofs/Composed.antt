@@ -12,7 +12,7 @@ use Rattle.engine.specs.Relations.{graphOf}
 use Rattle.engine.specs.declared.marking.Marking.{Marking}
 use Rattle.miner.specs.declared.tally.Tally.{Tally}
 use Rattle.miner.specs.Tallies.{tallyOf}
-use Rattle.miner.specs.Reading.{excludesItself, turned, inEither, reducedOf, waited, fiveFrom, sevenFrom, includesFrom, waitedOf, conditionsOf, responsesOf, chainsOf, neverOf, sevenOf, includesOf, graphRead}
+use Rattle.miner.specs.Reading.{excludesItself, turned, inEither, reducedOf, waited, fiveFrom, sevenFrom, includesFrom, waitedOf, conditionsOf, responsesOf, chainsOf, neverOf, sevenOf, includesOf, graphFound}
 
 -- steps 3 and 6, of the includes
 pub includes-by : (L : Traces) (chains never three six r : List ℕ)
@@ -56,10 +56,10 @@ module _ (A : ℕ) (L : Traces) (t : Tally) (selves : Set) (opening : Marking) (
   the-eight : eight ≡ rowsOf (reducedOf (conditionsOf t))
   the-eight = he ∙ ap (λ (r : List ℕ). rowsOf (reducedOf r)) hw
 
-  pub read-by : graphOf A (t .events) opening conditions responses includes excludes ≡ graphRead A L (tallyOf L)
-  unfolding graphRead
+  pub read-by : graphOf A (t .events) opening conditions responses includes excludes ≡ graphFound A L (tallyOf L)
+  unfolding graphFound
   read-by =
       (λ i.
       graphOf A (t .events) (ho i) ((hd ∙ (λ j. waitedOf (t .events) (the-eight j) (the-includes j) (the-excludes j) L)) i)
       ((hr ∙ ap (λ (r : List ℕ). rowsOf (reducedOf r)) ha) i) (the-includes i) (the-excludes i))
-      ∙ ap (graphRead A L) ht
+      ∙ ap (graphFound A L) ht

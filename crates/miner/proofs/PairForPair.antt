@@ -14,7 +14,7 @@ use Rattle.rules.specs.Mined.{graphFrom, minedGraph}
 use Rattle.rules.proofs.InTurn.{Small}
 use Rattle.miner.specs.Passes.{Fact, forward, through, letIn, beforeFirst, missed}
 use Rattle.miner.specs.Tallies.{tallyOf}
-use Rattle.miner.specs.Reading.{absent, turned, inEither, reducedOf, waited, conditionsOf, chainsOf, sevenOf, includesOf, waitedOf, graphRead}
+use Rattle.miner.specs.Reading.{absent, turned, inEither, reducedOf, waited, conditionsOf, chainsOf, sevenOf, includesOf, waitedOf, graphFound}
 use Rattle.miner.proofs.Folds.{heard, forward-rowsOf, through-all}
 use Rattle.miner.proofs.Exclusions.{absent-rows}
 use Rattle.miner.proofs.LaterSteps.{responses-mined, conditions-mined, includes-mined, excludes-mined}
@@ -53,8 +53,8 @@ module _ (L : Traces) where
         (ap₂ (λ (i x : List ℕ). through (λ r σ. forward (missed (tallyOf L .events) i x) r [] σ) noRows L) includes-are (excludes-mined L) ∙ missed-are)
         ∙ conditions-mined L
 
-    pub pair-for-pair : (A : ℕ) → graphRead A L (tallyOf L) ≡ minedGraph A L
-    unfolding graphRead minedGraph graphFrom
+    pub pair-for-pair : (A : ℕ) → graphFound A L (tallyOf L) ≡ minedGraph A L
+    unfolding graphFound minedGraph graphFrom
     pair-for-pair A i =
         record {
           activities = A;

@@ -120,8 +120,8 @@ abbrev pub includesOf : Tally → Traces → List ℕ
 includesOf t L = includesFrom (chainsOf t) (neverOf t) L
 
 -- the graph
-unfoldable pub graphRead : ℕ → Traces → Tally → Graph
-graphRead A L t =
+unfoldable pub graphFound : ℕ → Traces → Tally → Graph
+graphFound A L t =
     graphOf A (t .events) (openingOf (t .events))
     (waitedOf (t .events) (rowsOf (reducedOf (conditionsOf t))) (includesOf t L) (sevenOf t) L)
     (rowsOf (reducedOf (responsesOf t)))

@@ -3,7 +3,7 @@ ghost use mathlib.Core.Path.{_≡_};
 ghost use mathlib.Core.List.{[]};
 ghost use Rattle.sets.specs.Rows.{noRows};
 ghost use Rattle.miner.specs.Passes.{forward, through, walked, letIn, beforeFirst, missed};
-ghost use Rattle.miner.specs.Reading.{fiveFrom, sevenFrom, includesFrom, waitedOf, graphRead};
+ghost use Rattle.miner.specs.Reading.{fiveFrom, sevenFrom, includesFrom, waitedOf, graphFound};
 ghost use Rattle.miner.specs.Mine.{minedOf};
 ghost use Rattle.miner.specs.Tallies.{tallyOf};
 use crate::reduce;
@@ -43,8 +43,8 @@ fn excludes_seven<'a>(events: Set, five: &'a Rows, never: &'a Rows, unalternated
 }
 
 // What step 6 includes, over all traces.
-fn let_in<'a>(log: &'a [u8], traces: usize, unfollowed: &'a Rows) -> Rows
-    ensures { λ r. ⌜ r ≡ through (λ r σ. forward (letIn (now (unfollowed .entry))) r [] σ) noRows (walked (now (log .entry)) traces 0) ⌝ }
+fn let_in<'a>(log: &'a [u8], traces: usize, never: &'a Rows) -> Rows
+    ensures { λ r. ⌜ r ≡ through (λ r σ. forward (letIn (now (never .entry))) r [] σ) noRows (walked (now (log .entry)) traces 0) ⌝ }
 {
     let mut out = rows::empty();
     let mut k: usize = 0;
@@ -52,7 +52,7 @@ fn let_in<'a>(log: &'a [u8], traces: usize, unfollowed: &'a Rows) -> Rows
         let p = calllog::trace::trace_part(log, k);
         let start = p.start;
         let end = start + p.length;
-        second::let_in(&log[start..end], unfollowed, &mut out);
+        second::let_in(&log[start..end], never, &mut out);
         k += 1;
     }
     out
@@ -117,8 +117,8 @@ fn conditions_ten<'a>(
 }
 
 // The graph of a log's first traces.
-fn graph_read(log: &[u8], activities: u8, traces: usize) -> Graph
-    ensures { λ r. ⌜ r ≡ graphRead activities (walked (now (log .entry)) traces 0) (tallyOf (walked (now (log .entry)) traces 0)) ⌝ }
+fn graph_found(log: &[u8], activities: u8, traces: usize) -> Graph
+    ensures { λ r. ⌜ r ≡ graphFound activities (walked (now (log .entry)) traces 0) (tallyOf (walked (now (log .entry)) traces 0)) ⌝ }
 {
     let t = tally::counted(log, traces);
     let events = t.events;
@@ -154,6 +154,6 @@ pub fn mine(log: &[u8]) -> Mined
             graph: Graph::empty(),
         };
     }
-    let graph = graph_read(log, judged.activities, judged.traces);
+    let graph = graph_found(log, judged.activities, judged.traces);
     Mined { answer, graph }
 }

@@ -24,7 +24,7 @@ use Rattle.graphfile.specs.Refusals.{judgedFile}
 use Rattle.graphfile.specs.Held.{graphIn, readOf}
 use Rattle.graphfile.proofs.Codec.{Bytes}
 use Rattle.graphfile.proofs.RoundTrips.{file-graph}
-use Rattle.graphfile.specs.Writing.{writtenOf, bufferAfter}
+use Rattle.graphfile.specs.Writing.{writtenOf, fileAfter}
 use Rattle.graphfile.specs.declared.reader.Reading.{Reading}
 use Rattle.graphfile.specs.declared.writer.Written.{Written}
 use Rattle.graphfile.specs.Markings.{markingFrom, markingInto}
@@ -50,7 +50,7 @@ module _ (a : Answer) (g : Graph) (out : List ℕ) (r : Bool) (hr : r ≡ isDone
 
   pub put-kept : not r ≡ true → out ≡ putBuffer a g out
   unfolding putBuffer
-  put-kept h = sym (ap (λ (t : Bool). when t then bufferAfter g out else out) (sym hr ∙ not-true r h))
+  put-kept h = sym (ap (λ (t : Bool). when t then fileAfter g out else out) (sym hr ∙ not-true r h))
 
   pub put-done : (n : ℕ) (w : Written) → not r ≡ false → w ≡ writtenOf g (length out) → n ≡ packedOf (w .answer) (w .length) → n ≡ putNumber a g (length out)
   unfolding putNumber
@@ -59,9 +59,9 @@ module _ (a : Answer) (g : Graph) (out : List ℕ) (r : Bool) (hr : r ≡ isDone
       ∙ ap (λ (x : Written). packedOf (x .answer) (x .length)) hw
       ∙ sym (ap (λ (t : Bool). when t then packedOf (writtenOf g (length out) .answer) (writtenOf g (length out) .length) else packedOf a 0) (sym hr ∙ not-false r h))
 
-  pub put-filled : (out′ : List ℕ) → not r ≡ false → out′ ≡ bufferAfter g out → out′ ≡ putBuffer a g out
+  pub put-filled : (out′ : List ℕ) → not r ≡ false → out′ ≡ fileAfter g out → out′ ≡ putBuffer a g out
   unfolding putBuffer
-  put-filled out′ h e = e ∙ sym (ap (λ (t : Bool). when t then bufferAfter g out else out) (sym hr ∙ not-false r h))
+  put-filled out′ h e = e ∙ sym (ap (λ (t : Bool). when t then fileAfter g out else out) (sym hr ∙ not-false r h))
 
 pub ruleset putting = (put-refused, put-kept, put-done, put-filled)
 

@@ -12,7 +12,7 @@ use Rattle.engine.specs.Replay.{replayOf, steppedOf}
 use Rattle.engine.specs.declared.step.Stepped.{Stepped}
 use Rattle.engine.specs.declared.graph.Graph.{Graph}
 use Rattle.graphfile.specs.Held.{readOf}
-use Rattle.graphfile.specs.Writing.{writtenOf, bufferAfter}
+use Rattle.graphfile.specs.Writing.{writtenOf, fileAfter}
 use Rattle.graphfile.specs.Markings.{markingFrom, markingInto}
 use Rattle.miner.specs.Mine.{minedOf}
 use Rattle.report.specs.Listing.{listedOf}
@@ -26,7 +26,7 @@ unfoldable pub putNumber : Answer → Graph → ℕ → ℕ
 putNumber a g space = when isDone a then packedOf (writtenOf g space .answer) (writtenOf g space .length) else packedOf a 0
 
 unfoldable pub putBuffer : Answer → Graph → List ℕ → List ℕ
-putBuffer a g buffer = when isDone a then bufferAfter g buffer else buffer
+putBuffer a g buffer = when isDone a then fileAfter g buffer else buffer
 
 -- skelfora_mine
 abbrev pub mineNumber : List ℕ → ℕ → ℕ
@@ -35,7 +35,7 @@ mineNumber log space = putNumber (minedOf log .answer) (minedOf log .graph) spac
 abbrev pub mineBuffer : List ℕ → List ℕ → List ℕ
 mineBuffer log buffer = putBuffer (minedOf log .answer) (minedOf log .graph) buffer
 
--- skelfora_listing: the log's own number, or 7; its buffer is report's `bufferAfter`
+-- skelfora_listing: the log's own number, or 7; its buffer is report's `listingAfter`
 abbrev pub listingNumber : List ℕ → ℕ → ℕ
 listingNumber log space = packedOf (listedOf log space .answer) (listedOf log space .length)
 

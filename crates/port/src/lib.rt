@@ -4,7 +4,7 @@ ghost use mathlib.Core.Path.{_≡_};
 ghost use Prim.Native.Nat.{_^_, _<_};
 ghost use lib.ListN.{length};
 ghost use Rattle.port.specs.Port.{packedOf, putNumber, putBuffer, mineNumber, mineBuffer, rewriteNumber, rewriteBuffer, replayNumber, listingNumber, stepOf, stepBytes};
-ghost use Rattle.report.specs.Listing.{bufferAfter};
+ghost use Rattle.report.specs.Listing.{listingAfter};
 ghost use Rattle.sets.specs.Answers.{numberOf};
 use engine::Graph;
 use engine::Marking;
@@ -51,7 +51,7 @@ pub extern "C" fn skelfora_mine(log: &[u8], file: &mut [u8]) -> u64
 #[no_mangle]
 pub extern "C" fn skelfora_listing(log: &[u8], out: &mut [u8]) -> u64
     ensures { λ r. ⌜ r ≡ listingNumber (now (log .entry)) (length (now (out .entry))) ⌝ }
-    ensures { λ _. ⌜ now (out .exit) ≡ bufferAfter (now (log .entry)) (now (out .entry)) ⌝ }
+    ensures { λ _. ⌜ now (out .exit) ≡ listingAfter (now (log .entry)) (now (out .entry)) ⌝ }
 {
     let listed = report::write_listing(log, out);
     let answer = listed.answer;

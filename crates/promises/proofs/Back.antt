@@ -18,7 +18,7 @@ use Rattle.engine.specs.Judged.{judged}
 use Rattle.engine.specs.declared.graph.Graph.{Graph}
 use Rattle.graphfile.specs.Refusals.{judgedFile}
 use Rattle.graphfile.specs.Held.{graphIn, readOf}
-use Rattle.graphfile.specs.Writing.{bytesOf, judgedWrite, writtenOf, bufferAfter}
+use Rattle.graphfile.specs.Writing.{bytesOf, judgedWrite, writtenOf, fileAfter}
 use Rattle.graphfile.specs.declared.reader.Reading.{Reading}
 use Rattle.graphfile.specs.declared.writer.Written.{Written}
 use Rattle.graphfile.proofs.Codec.{Bytes}
@@ -43,8 +43,8 @@ module _ (file : List ℕ) (small : Bytes file) (ok : judgedFile file ≡ Done) 
   unfolding writtenOf fileBack
   written-copy n i = record { answer = judged-copy n i; length = when isDone (judged-copy n i) then length (same i) else 0 }
 
-  buffer-copy : (before : List ℕ) → bufferAfter (graphIn file) before ≡ fileCopied file before
-  unfolding bufferAfter fileCopied
+  buffer-copy : (before : List ℕ) → fileAfter (graphIn file) before ≡ fileCopied file before
+  unfolding fileAfter fileCopied
   buffer-copy before i = when isDone (judged-copy (length before) i) then same i ++ drop (length (same i)) before else before
 
 module _ (file before : List ℕ) (r : Reading) (t : Bool) (hr : r ≡ readOf file) (ht : t ≡ isDone (r .answer)) where
@@ -62,25 +62,25 @@ module _ (file before : List ℕ) (r : Reading) (t : Bool) (hr : r ≡ readOf fi
         (λ i. when sym not-done i then file ++ drop (length file) before else before),
       )
 
-  pub file-done : not t ≡ false → Bytes file → (w : Written) (after : List ℕ) → w ≡ writtenOf (r .graph) (length before) → after ≡ bufferAfter (r .graph) before
+  pub file-done : not t ≡ false → Bytes file → (w : Written) (after : List ℕ) → w ≡ writtenOf (r .graph) (length before) → after ≡ fileAfter (r .graph) before
       → (w ≡ fileBack file (length before)) × (after ≡ fileCopied file before)
   unfolding readOf
   file-done y small w after hw ha =
       let ok : judgedFile file ≡ Done = sym the-answer ∙ done-is (r .answer) (sym ht ∙ not-false t y) in
       let held : r .graph ≡ graphIn file = ap (λ (x : Reading). x .graph) hr ∙ ap (λ (a : Answer). when isDone a then graphIn file else emptyGraph) ok in (
         hw ∙ ap (λ (g : Graph). writtenOf g (length before)) held ∙ written-copy file small ok (length before),
-        ha ∙ ap (λ (g : Graph). bufferAfter g before) held ∙ buffer-copy file small ok before,
+        ha ∙ ap (λ (g : Graph). fileAfter g before) held ∙ buffer-copy file small ok before,
       )
 
 -- ---- a graph, written and read again
 
-module _ (g : Graph) (before after : List ℕ) (w : Written) (t : Bool) (hw : w ≡ writtenOf g (length before)) (ha : after ≡ bufferAfter g before) (ht : t ≡ isDone (w .answer)) where
+module _ (g : Graph) (before after : List ℕ) (w : Written) (t : Bool) (hw : w ≡ writtenOf g (length before)) (ha : after ≡ fileAfter g before) (ht : t ≡ isDone (w .answer)) where
   the-write : w .answer ≡ judgedWrite g (length before)
   unfolding writtenOf
   the-write = ap (λ (x : Written). x .answer) hw
 
   pub graph-refused : not t ≡ true → (e : Graph) → e ≡ emptyGraph
-      → (_≡_ {A = Reading} (record { answer = w .answer; graph = e }) (graphBack g (length before))) × (after ≡ bufferAfter g before)
+      → (_≡_ {A = Reading} (record { answer = w .answer; graph = e }) (graphBack g (length before))) × (after ≡ fileAfter g before)
   unfolding graphBack
   graph-refused n e he =
       let refused : isDone (judgedWrite g (length before)) ≡ false = ap isDone (sym the-write) ∙ sym ht ∙ not-true t n in (
@@ -107,7 +107,7 @@ module _ (g : Graph) (before after : List ℕ) (w : Written) (t : Bool) (hw : w 
         omega (arith, room, long, e)
 
     pub graph-done : Machine g → (r : Reading) → r ≡ readOf (take (w .length - 0) after)
-        → (r ≡ graphBack g (length before)) × (after ≡ bufferAfter g before)
+        → (r ≡ graphBack g (length before)) × (after ≡ fileAfter g before)
     unfolding graphBack
     graph-done machine r hr = (
       written-then-read g before after w r machine legal room hw ha (hr ∙ ap (λ (n : ℕ). readOf (take n after)) (sub-zero (w .length)))

@@ -39,7 +39,7 @@ use Rattle.calllog.proofs.Finding.{found-answer}
 use Rattle.calllog.proofs.Traces.{read-within}
 use Rattle.graphfile.specs.Refusals.{judgedFile}
 use Rattle.graphfile.specs.Held.{graphIn, readOf}
-use Rattle.graphfile.specs.Writing.{bytesOf, judgedWrite, writtenOf, bufferAfter}
+use Rattle.graphfile.specs.Writing.{bytesOf, judgedWrite, writtenOf, fileAfter}
 use Rattle.graphfile.specs.declared.reader.Reading.{Reading}
 use Rattle.graphfile.specs.declared.writer.Written.{Written}
 use Rattle.graphfile.proofs.Codec.{Bytes}
@@ -153,9 +153,9 @@ module _ (g : Graph) (m : Marking) where
 
 module _ (g : Graph) where
   -- no byte of the buffer is changed
-  pub write-stays : (before after : List ℕ) (r : Written) → r ≡ writtenOf g (length before) → after ≡ bufferAfter g before → Refused (r .answer)
+  pub write-stays : (before after : List ℕ) (r : Written) → r ≡ writtenOf g (length before) → after ≡ fileAfter g before → Refused (r .answer)
       → (r .length ≡ 0) × (after ≡ before)
-  unfolding writtenOf bufferAfter
+  unfolding writtenOf fileAfter
   write-stays before after r h k n =
       let refused : isDone (judgedWrite g (length before)) ≡ false = ap (λ (x : Written). isDone (x .answer)) (sym h) ∙ n in (
         ap (λ (x : Written). x .length) h ∙ ap (λ (t : Bool). when t then length (bytesOf g) else 0) refused,
@@ -208,13 +208,13 @@ module _ (g : Graph) (σ : List ℕ) (ok : judgedFor g (length σ) ≡ Done) (r 
 
 pub graph-round : (g : Graph) (before after : List ℕ) (w : Written) (r : Reading)
     → Machine g → judged g ≡ Done → length (bytesOf g) ≤ length before
-    → w ≡ writtenOf g (length before) → after ≡ bufferAfter g before → r ≡ readOf (take (w .length) after)
+    → w ≡ writtenOf g (length before) → after ≡ fileAfter g before → r ≡ readOf (take (w .length) after)
     → r ≡ record { answer = Done; graph = g }
 graph-round = written-then-read
 
 pub file-round : (bytes before after : List ℕ) (r : Reading) (w : Written)
     → Bytes bytes → r ≡ readOf bytes → r .answer ≡ Done → length bytes ≤ length before
-    → w ≡ writtenOf (r .graph) (length before) → after ≡ bufferAfter (r .graph) before
+    → w ≡ writtenOf (r .graph) (length before) → after ≡ fileAfter (r .graph) before
     → (w ≡ record { answer = Done; length = length bytes }) × (after ≡ bytes ++ drop (length bytes) before)
 file-round = read-then-written
 

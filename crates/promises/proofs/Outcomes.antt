@@ -14,6 +14,7 @@ use Rattle.sets.specs.Tests.{_and_, _or_, non}
 use Rattle.sets.specs.Members.{width, mem, those, within, isEmpty, leastBelow, countBelow}
 use Rattle.sets.specs.Rows.{noRows, rowAt, withRow, rowsOf}
 use Rattle.sets.specs.Answers.{numberOf, isDone}
+use Rattle.sets.specs.Files.{opensWith}
 use Rattle.sets.specs.declared.set.Set.{Set}
 use Rattle.sets.specs.declared.activity.Activity.{Activity}
 use Rattle.sets.specs.declared.answer.Answer.{Answer}
@@ -26,14 +27,14 @@ use Rattle.engine.specs.Replay.{enabledOf, steppedOf, acceptingOf, ending, repl
 use Rattle.engine.specs.declared.marking.Marking.{Marking}
 use Rattle.engine.specs.declared.graph.Graph.{Graph}
 use Rattle.calllog.specs.Logs.{judgedOf, partOf, foundOf, askedOf}
-use Rattle.calllog.specs.Reader.{opened, after as moved}
+use Rattle.calllog.specs.Reader.{opened, readerAfter}
 use Rattle.calllog.specs.declared.reader.LogReader.{LogReader}
 use Rattle.graphfile.specs.Held.{readOf}
-use Rattle.graphfile.specs.Writing.{writtenOf, bufferAfter as fileAfter}
+use Rattle.graphfile.specs.Writing.{writtenOf, fileAfter}
 use Rattle.graphfile.specs.Markings.{markingFrom, markingInto}
 use Rattle.miner.specs.Mine.{minedOf}
 use Rattle.miner.specs.Reading.{turned as turnedRows}
-use Rattle.report.specs.Listing.{listedOf, bufferAfter as listingAfter}
+use Rattle.report.specs.Listing.{listedOf, listingAfter}
 use Rattle.port.specs.Port.{mineNumber, mineBuffer, rewriteNumber, rewriteBuffer, replayNumber, listingNumber, stepOf, stepBytes}
 use Rattle.promises.specs.Promised.{ownReplay, graphBack, fileBack, fileCopied}
 
@@ -112,6 +113,11 @@ join-once rows n s = one-outcome (withRow rows n (those (λ b. mem (rowAt rows n
 pub keep-once : (rows : List ℕ) (n : ℕ) (s : Set) → Once (withRow rows n (those (λ b. mem (rowAt rows n) b and mem s b)))
 keep-once rows n s = one-outcome (withRow rows n (those (λ b. mem (rowAt rows n) b and mem s b)))
 
+-- ---- sets: what files open with
+
+pub opens-with-once : (mark bytes : List ℕ) → Once (opensWith mark bytes)
+opens-with-once mark bytes = one-outcome (opensWith mark bytes)
+
 -- ---- engine
 
 pub Marking-of-once : (e p i : Set) → Once (markingOf e p i)
@@ -185,11 +191,11 @@ log-ask-once bytes next k = one-outcome (askedOf bytes next k)
 pub open-once : (log : RefT (List ℕ)) → Once (opened log)
 open-once log = one-outcome (opened log)
 
-pub trace-once : (r : LogReader) (k : ℕ) → OnceLent (foundOf (now (r .log)) k) (moved r k)
-trace-once r k = one-outcome-lent (foundOf (now (r .log)) k) (moved r k)
+pub trace-once : (r : LogReader) (k : ℕ) → OnceLent (foundOf (now (r .log)) k) (readerAfter r k)
+trace-once r k = one-outcome-lent (foundOf (now (r .log)) k) (readerAfter r k)
 
-pub next-trace-once : (r : LogReader) → OnceLent (foundOf (now (r .log)) (r .next)) (moved r (r .next))
-next-trace-once r = one-outcome-lent (foundOf (now (r .log)) (r .next)) (moved r (r .next))
+pub next-trace-once : (r : LogReader) → OnceLent (foundOf (now (r .log)) (r .next)) (readerAfter r (r .next))
+next-trace-once r = one-outcome-lent (foundOf (now (r .log)) (r .next)) (readerAfter r (r .next))
 
 pub read-trace-once : (log : List ℕ) (k : ℕ) → Once (foundOf log k)
 read-trace-once log k = one-outcome (foundOf log k)

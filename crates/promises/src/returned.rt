@@ -1,7 +1,7 @@
 // Demand 2 on the code: files and graphs go round without a change.
 ghost use mathlib.Core.Path.{_≡_};
 ghost use lib.ListN.{length};
-ghost use Rattle.graphfile.specs.Writing.{bufferAfter};
+ghost use Rattle.graphfile.specs.Writing.{fileAfter};
 ghost use Rattle.promises.specs.Promised.{graphBack, fileBack, fileCopied};
 use engine::Graph;
 use graphfile::Reading;
@@ -12,7 +12,7 @@ use graphfile::write;
 // A graph, written and read again, is that graph.
 pub fn graph_back(g: Graph, out: &mut [u8]) -> Reading
     ensures { λ r. ⌜ r ≡ graphBack g (length (now (out .entry))) ⌝ }
-    ensures { λ _. ⌜ now (out .exit) ≡ bufferAfter g (now (out .entry)) ⌝ }
+    ensures { λ _. ⌜ now (out .exit) ≡ fileAfter g (now (out .entry)) ⌝ }
 {
     let written = write(g, out);
     let answer = written.answer;

@@ -19,7 +19,7 @@ use Rattle.rules.specs.Mined.{minedGraph}
 use Rattle.miner.specs.Mine.{minedOf}
 use Rattle.miner.specs.declared.mining.Mined.{Mined}
 use Rattle.report.specs.declared.writer.Listed.{Listed}
-use Rattle.report.specs.Listing.{refusedLine, listingOf, longestListing, listedOf, bufferAfter}
+use Rattle.report.specs.Listing.{refusedLine, listingOf, longestListing, listedOf, listingAfter}
 use Rattle.report.specs.Puts.{Put, graphText}
 use Rattle.report.proofs.Longest.{longest}
 use Rattle.report.proofs.WholeLaws.{listing-done, listing-refused}
@@ -31,15 +31,15 @@ module _ (log out : List ℕ) (b : Bool) (h : ltb (length out) longestListing �
   unfolding listedOf
   listed-is = ap (λ (t : Bool). when t then record { answer = BufferTooSmall; length = 0 } else record { answer = logOf log .answer; length = length (listingOf log) }) h
 
-  buffer-is : bufferAfter log out ≡ when b then out else listingOf log ++ drop (length (listingOf log)) out
-  unfolding bufferAfter
+  buffer-is : listingAfter log out ≡ when b then out else listingOf log ++ drop (length (listingOf log)) out
+  unfolding listingAfter
   buffer-is = ap (λ (t : Bool). when t then out else listingOf log ++ drop (length (listingOf log)) out) h
 
 module _ (log out : List ℕ) (small : length out < longestListing) where
   pub small-listed : _≡_ {A = Listed} (record { answer = BufferTooSmall; length = 0 }) (listedOf log (length out))
   small-listed = sym (listed-is log out true (lt-ltb (length out) longestListing small))
 
-  pub small-kept : out ≡ bufferAfter log out
+  pub small-kept : out ≡ listingAfter log out
   small-kept = sym (buffer-is log out true (lt-ltb (length out) longestListing small))
 
 module _ (log out : List ℕ) (big : longestListing ≤ length out) where
@@ -53,7 +53,7 @@ module _ (log out : List ℕ) (big : longestListing ≤ length out) where
         let size : n ≡ length (listingOf log) = p .place ∙ zero-add (length text) ∙ ap length e in
         (λ i. record { answer = ha i; length = size i }) ∙ sym (listed-is log out false (le-ltb (length out) longestListing big))
 
-    put-held : out′ ≡ bufferAfter log out
+    put-held : out′ ≡ listingAfter log out
     put-held =
         p .bytes
         ∙ sets-eq text out 0 (fits text e)
@@ -80,7 +80,7 @@ module _ (log out : List ℕ) (big : longestListing ≤ length out) where
         pub refused-listed : _≡_ {A = Listed} (record { answer = mined .answer; length = n }) (listedOf log (length out))
         refused-listed = put-listed _ out′ n refused-is p (mined .answer) answer-is
 
-        pub refused-held : out′ ≡ bufferAfter log out
+        pub refused-held : out′ ≡ listingAfter log out
         refused-held = put-held _ out′ n refused-is p
 
     module _ (t : not r ≡ false) where
@@ -98,5 +98,5 @@ module _ (log out : List ℕ) (big : longestListing ≤ length out) where
         pub graph-listed : _≡_ {A = Listed} (record { answer = mined .answer; length = n }) (listedOf log (length out))
         graph-listed = put-listed _ out′ n graph-is p (mined .answer) answer-is
 
-        pub graph-held : out′ ≡ bufferAfter log out
+        pub graph-held : out′ ≡ listingAfter log out
         graph-held = put-held _ out′ n graph-is p

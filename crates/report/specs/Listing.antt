@@ -82,6 +82,6 @@ listedOf bytes room =
     else record { answer = logOf bytes .answer; length = length (listingOf bytes) }
 
 -- the listing, then what was there
-unfoldable pub bufferAfter : List ℕ → List ℕ → List ℕ
-bufferAfter bytes buffer =
+unfoldable pub listingAfter : List ℕ → List ℕ → List ℕ
+listingAfter bytes buffer =
     when ltb (length buffer) longestListing then buffer else listingOf bytes ++ drop (length (listingOf bytes)) buffer

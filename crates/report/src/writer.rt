@@ -2,7 +2,7 @@
 ghost use mathlib.Core.Path.{_≡_};
 ghost use Prim.Native.Nat.{_+_, _≤_};
 ghost use lib.ListN.{length};
-ghost use Rattle.report.specs.Listing.{refusedLine, listedOf, bufferAfter};
+ghost use Rattle.report.specs.Listing.{refusedLine, listedOf, listingAfter};
 ghost use Rattle.report.specs.Puts.{Put, linesText, graphText};
 use crate::heading;
 use crate::relations;
@@ -98,7 +98,7 @@ fn put_graph(out: &mut [u8], log: &[u8], g: Graph) -> usize
 // Lists a log: reads it, mines it, replays it on its graph.
 pub fn write_listing(log: &[u8], out: &mut [u8]) -> Listed
     ensures { λ r. ⌜ r ≡ listedOf (now (log .entry)) (length (now (out .entry))) ⌝ }
-    ensures { λ _. ⌜ now (out .exit) ≡ bufferAfter (now (log .entry)) (now (out .entry)) ⌝ }
+    ensures { λ _. ⌜ now (out .exit) ≡ listingAfter (now (log .entry)) (now (out .entry)) ⌝ }
 {
     if out.len() < LONGEST {
         return Listed {

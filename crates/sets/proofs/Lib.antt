@@ -6,4 +6,4 @@ pub mod Members
 pub mod RowLaws
 pub mod Asking
 pub mod Order
-pub mod Numbers
+pub mod Files

@@ -40,7 +40,7 @@ use denote.Triple.Table.{entered, cited}
 use denote.Triple.Walked.{says, Stays, gave-ref, walkOf, goes-gave-ref, Walks, ends-at, walked, walk-meets}
 use denote.Triple.Clauses.{ensured, lasts}
 use Rattle.calllog.specs.Logs.{foundOf}
-use Rattle.calllog.specs.Reader.{after}
+use Rattle.calllog.specs.Reader.{readerAfter}
 use Rattle.calllog.specs.declared.reader.LogReader.{LogReader}
 use Rattle.calllog.specs.declared.trace.Found.{Found}
 use Rattle.calllog.proofs.reader.LogReader as T
@@ -100,7 +100,7 @@ module _ {M : Type 1} (𝓤 : URA M) (H : Heap 𝓤) (A : Atoms 𝓤) (W : Given
 
   -- what is had at exit: the tokens, what was found, and the reader's last value
   abbrev told : Found → LogReader → Type 0
-  told r w = (r ≡ foundOf (now (h .log)) (h .next)) × (w ≡ after h (h .next))
+  told r w = (r ≡ foundOf (now (h .log)) (h .next)) × (w ≡ readerAfter h (h .next))
 
   exits : (r : Found) (u : Val) (w : LogReader) → told r w → ent 𝓤 (⋆ 𝓤 H A ((‵ (flft κ q) ⊛ ‵ (flft κ′ q′) ⊛ ‵ ftrue) ∷ ‵ (fres γ (R .coded .code w)) ∷ ‵ (F.the-row .own r (u ∷ [])) ∷ [])) (Post u)
   exits r u w is =

@@ -45,7 +45,7 @@ use denote.Triple.Walked.{says, Stays, stay-none, stay-none-slice, walkOf, goes-
 use denote.Exit.{yes}
 use denote.Triple.Clauses.{ensured, lasts}
 use Rattle.calllog.specs.Logs.{foundOf}
-use Rattle.calllog.specs.Reader.{opened, after}
+use Rattle.calllog.specs.Reader.{opened, readerAfter}
 use Rattle.calllog.specs.declared.reader.LogReader.{LogReader}
 use Rattle.calllog.specs.declared.trace.Found.{Found}
 use Rattle.calllog.proofs.reader.LogReader as T
@@ -155,7 +155,7 @@ module _ {M : Type 1} (𝓤 : URA M) (H : Heap 𝓤) (A : Atoms 𝓤) (W : Given
       nothing ! $ owned ! usize (Is usize) (uint-makes 𝓤 H A W w64) k _ (refl, k-fits) $ fjoin ! $ move ! (3 ∷ 0 ∷ []) $ fjoin ! $ nothing ! $ move ! (3 ∷ 0 ∷ []) $ join ! $ move ! (2 ∷ 0 ∷ []) $ join ! $ join ! $ frame ! $ done !
 
   abbrev told : LogReader → Found → LogReader → Type 0
-  told r f w = (f ≡ foundOf (now (r .log)) k) × (w ≡ after r k)
+  told r f w = (f ≡ foundOf (now (r .log)) k) × (w ≡ readerAfter r k)
 
   exits : (f : Found) (u : Val) → f ≡ foundOf (now s) k → ent 𝓤 (⋆ 𝓤 H A (‵ (flft κ ql) ∷ (‵ (flft κ qr) ⊛ ‵ ftrue) ∷ ‵ (F.the-row .own f (u ∷ [])) ∷ ‵ Own ∷ [])) (Post u)
   exits f u is =

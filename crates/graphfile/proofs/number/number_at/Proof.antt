@@ -2,7 +2,7 @@ use native.Mathlib.Omega.{arith}
 use mathlib.Core.Path.{_≡_}
 use Prim.Native.Nat.{_+_, _-_, _*_, _^_, _≤_, _<_}
 use borrow.Author.Needs.{needs}
-use Rattle.sets.specs.Numbers.{numberAt}
+use Rattle.sets.specs.Files.{numberAt}
 use Rattle.graphfile.proofs.number.number_at.Statement.{statement}
 use Rattle.graphfile.proofs.number.number_at.Tie as tie
 use Rattle.graphfile.proofs.Codec.{reading, turn-fits}

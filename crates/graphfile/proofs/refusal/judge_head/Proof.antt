@@ -3,8 +3,11 @@ use Rattle.graphfile.proofs.Judging.{heads}
 use Rattle.graphfile.proofs.refusal.judge_head.Statement.{statement}
 use Rattle.graphfile.proofs.refusal.judge_head.Tie as tie
 
-opens-right-requires : tie.Need-opens-right-requires
-opens-right-requires c κs = search needs
+slice-aggregate-opens-with : tie.Need-slice-aggregate-opens-with
+slice-aggregate-opens-with c = search needs
+
+opens-with-requires : tie.Need-opens-with-requires
+opens-with-requires c κs = search needs
 
 returns : tie.Need-returns
 returns c = search (heads, needs)
@@ -43,7 +46,8 @@ pub judge-head-spec : {M : Type 1} → statement M
 judge-head-spec =
     tie.close
     (tie.spec
-    opens-right-requires
+    slice-aggregate-opens-with
+    opens-with-requires
     returns
     shared-slice-read-activities
     returns-2

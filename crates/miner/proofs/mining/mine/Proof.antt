@@ -15,8 +15,8 @@ empty-requires c κs = search needs
 returns : tie.Need-returns
 returns c = search (mine-refused, mine-done, needs)
 
-graph-read-requires : tie.Need-graph-read-requires
-graph-read-requires c κs = search needs
+graph-found-requires : tie.Need-graph-found-requires
+graph-found-requires c κs = search needs
 
 returns-2 : tie.Need-returns-2
 returns-2 c = search (mine-refused, mine-done, needs)
@@ -29,5 +29,5 @@ mine-spec =
     is-done-requires
     empty-requires
     returns
-    graph-read-requires
+    graph-found-requires
     returns-2)

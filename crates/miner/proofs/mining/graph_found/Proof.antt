@@ -1,7 +1,7 @@
 use Rattle.miner.proofs.Composed.{read-by}
 use borrow.Author.Needs.{needs}
-use Rattle.miner.proofs.mining.graph_read.Statement.{statement}
-use Rattle.miner.proofs.mining.graph_read.Tie as tie
+use Rattle.miner.proofs.mining.graph_found.Statement.{statement}
+use Rattle.miner.proofs.mining.graph_found.Tie as tie
 
 counted-requires : tie.Need-counted-requires
 counted-requires c κs = search needs
@@ -59,8 +59,8 @@ returns c =
     (selves .selves .ensures) (five .excludes-five .ensures) (seven .excludes-seven .ensures) (six .includes-six .ensures) (two .unbroken2 .ensures)
     (eight .reduced .ensures) (ten .conditions-ten .ensures) (answering .unbroken3 .ensures) (responses .reduced2 .ensures) (c .opening .ensures)
 
-pub graph-read-spec : {M : Type 1} → statement M
-graph-read-spec =
+pub graph-found-spec : {M : Type 1} → statement M
+graph-found-spec =
     tie.close
     (tie.spec
     counted-requires
