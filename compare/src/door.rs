@@ -30,6 +30,14 @@ pub fn filled(number: u8, length: usize) -> u64 {
     u64::from(number) + 256 * length as u64
 }
 
+/// The length of a graph file that was written, or the number of a refusal.
+pub fn written(outcome: Result<usize, u8>) -> u64 {
+    match outcome {
+        Ok(length) => filled(0, length),
+        Err(number) => filled(number, 0),
+    }
+}
+
 pub fn replayed(number: u8, place: usize, accepting: bool) -> u64 {
     u64::from(number) + 256 * place as u64 + (u64::from(accepting) << 32)
 }

@@ -3,7 +3,7 @@ use super::engine::{execute, replay as replay_graph};
 use super::graph_file::{self, read_marking, set_bytes};
 use super::listing::listing as list;
 use super::{log, miner};
-use crate::door::{filled, replayed, Door};
+use crate::door::{filled, replayed, written, Door};
 
 pub const DOOR: Door = Door {
     name: "judge",
@@ -14,16 +14,8 @@ pub const DOOR: Door = Door {
     step,
 };
 
-fn of_write(outcome: Result<usize, u8>) -> u64 {
-    match outcome {
-        Ok(length) => filled(0, length),
-        Err(number) => filled(number, 0),
-    }
-}
-
 fn mine(bytes: &[u8], file: &mut [u8]) -> u64 {
-    let written = log::read(bytes).and_then(|log| graph_file::write(&miner::mine(&log), file));
-    of_write(written)
+    written(log::read(bytes).and_then(|log| graph_file::write(&miner::mine(&log), file)))
 }
 
 fn listing(bytes: &[u8], out: &mut [u8]) -> u64 {
@@ -44,7 +36,7 @@ fn replay(file: &[u8], trace: &[u8]) -> u64 {
 }
 
 fn rewrite(file: &[u8], out: &mut [u8]) -> u64 {
-    of_write(graph_file::read(file).and_then(|graph| graph_file::write(&graph, out)))
+    written(graph_file::read(file).and_then(|graph| graph_file::write(&graph, out)))
 }
 
 fn step(file: &[u8], lent: &mut [u8; 24], activity: u8) -> u64 {

@@ -1,7 +1,7 @@
 //! The yardstick behind the five functions of `port`.
 use super::graph_file::{marking_at, read_into, write_judged};
 use super::{engine, listing as lister, log, miner};
-use crate::door::{filled, replayed, Door};
+use crate::door::{filled, replayed, written, Door};
 use crate::value::GraphValue;
 
 pub const DOOR: Door = Door {
@@ -13,15 +13,8 @@ pub const DOOR: Door = Door {
     step,
 };
 
-fn of_write(outcome: Result<usize, u8>) -> u64 {
-    match outcome {
-        Ok(length) => filled(0, length),
-        Err(number) => filled(number, 0),
-    }
-}
-
 fn mine(bytes: &[u8], file: &mut [u8]) -> u64 {
-    of_write(log::judge(bytes).and_then(|log| write_judged(&miner::mine(&log), file)))
+    written(log::judge(bytes).and_then(|log| write_judged(&miner::mine(&log), file)))
 }
 
 fn listing(bytes: &[u8], out: &mut [u8]) -> u64 {
@@ -43,7 +36,7 @@ fn replay(file: &[u8], trace: &[u8]) -> u64 {
 
 fn rewrite(file: &[u8], out: &mut [u8]) -> u64 {
     let mut graph = GraphValue::EMPTY;
-    of_write(read_into(file, &mut graph).and_then(|()| write_judged(&graph, out)))
+    written(read_into(file, &mut graph).and_then(|()| write_judged(&graph, out)))
 }
 
 fn step(file: &[u8], lent: &mut [u8; 24], activity: u8) -> u64 {

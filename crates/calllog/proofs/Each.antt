@@ -2,12 +2,11 @@
 use mathlib.Core.Path.{_≡_, sym, subst}
 use mathlib.Core.List.{List, [], _∷_, List·Memᴰ, List·Memᴰ·not-nil, List·Memᴰ·cases-cons}
 use mathlib.Core.Logic.{_⊎_, inl, inr}
-use Prim.Native.Nat.{ℕ, suc, _≤_, _<_, suc-le-suc}
+use Prim.Native.Nat.{ℕ, suc, _<_, suc-le-suc}
 use native.Mathlib.Nat.{zero-lt-suc}
 use lib.Dec.{T, ltb, ltb→lt}
 use lib.ListN.{length, getD}
 use Rattle.sets.proofs.Tests.{and-l, and-r, true→T}
-use Rattle.sets.specs.Sizes.{longestTrace}
 use Rattle.calllog.specs.Judged.{allBelow}
 use Rattle.calllog.specs.Logs.{logOf}
 use Rattle.calllog.proofs.Traces.{read-within}
@@ -32,11 +31,6 @@ below-of a (y ∷ xs) x t m = go (List·Memᴰ·cases-cons m) (λ h. below-of a 
     go (inr h) ih = ih h
 
 module _ (bytes t : List ℕ) (m : List·Memᴰ t (logOf bytes .traces)) where
-  pub trace-short : length t ≤ longestTrace
-  trace-short =
-      let r = number-of (logOf bytes .traces) t m in
-      subst (λ (x : List ℕ). length x ≤ longestTrace) (sym (r .2)) (read-within bytes .lengths (r .0) (r .1))
-
   pub event-below : (x : ℕ) → List·Memᴰ x t → x < logOf bytes .activities
   event-below x h =
       let r = number-of (logOf bytes .traces) t m in

@@ -92,13 +92,6 @@ part-trace bytes k p l e =
     let h : k < tracesIn bytes = omega (arith, traces-number bytes d) in
     ap (λ (x : Part). take (x .length) (drop (x .start) bytes)) (e ∙ part-there bytes k d h) ∙ sym (trace-is bytes d k h)
 
--- the same, as a slice that ends at start + length has it
-pub part-slice : (bytes : List ℕ) (k : ℕ) (p : Part) → k < length (logOf bytes .traces) → p ≡ partOf bytes k
-    → take (p .start + p .length - p .start) (drop (p .start) bytes) ≡ getD (logOf bytes .traces) k []
-part-slice bytes k p l e =
-    let n : p .start + p .length - p .start ≡ p .length = omega arith in
-    ap (λ (m : ℕ). take m (drop (p .start) bytes)) n ∙ part-trace bytes k p l e
-
 -- what `find_trace` finds is trace k, within the bytes
 pub found-trace : (bytes : List ℕ) (k : ℕ) (f : Found) → f ≡ foundOf bytes k → f .answer ≡ Done
     → (f .start + f .length ≤ length bytes) × (take (f .length) (drop (f .start) bytes) ≡ getD (logOf bytes .traces) k [])

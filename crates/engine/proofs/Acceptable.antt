@@ -12,15 +12,15 @@ use Rattle.sets.specs.Members.{width, mem, those, within}
 use Rattle.sets.specs.Rows.{rowAt, inRow}
 use Rattle.sets.specs.Answers.{isDone}
 use Rattle.sets.specs.declared.set.Set.{Set}
-use Rattle.sets.specs.declared.answer.Answer.the-variants.{Done, AboveLimit, Outside, NoEvent, NotIncluded, Waiting}
-use Rattle.sets.proofs.Tests.{and-l, and-r, and-i, or-e, T→true, F→false, non-false, false→F, either}
+use Rattle.sets.specs.declared.answer.Answer.the-variants.{Done, AboveLimit, Outside}
+use Rattle.sets.proofs.Tests.{and-l, and-r, and-i, or-e, T→true, non-false, either}
 use Rattle.sets.proofs.Asking.{went}
 use Rattle.sets.proofs.Members.{those-e, within-e, within-i}
 use Rattle.sets.proofs.Below.{every-e}
 use Rattle.engine.specs.declared.marking.Marking.{Marking}
 use Rattle.engine.specs.declared.graph.Graph.{Graph}
-use Rattle.engine.specs.Relations.{Relations, relationsOf}
-use Rattle.engine.specs.Steps.{waits, enabled, after}
+use Rattle.engine.specs.Relations.{relationsOf}
+use Rattle.engine.specs.Steps.{enabled, after}
 use Rattle.engine.specs.Judged.{markingWithin, rowWithin, rowsWithin, relationsWithin, graphWithin, judgedFor, judged, judgedWith}
 use Rattle.sets.specs.Sizes.{mostActivities, longestTrace}
 use Rattle.engine.specs.Replay.{enabledOf, steppedOf, ending, replayFrom, replayOf}
@@ -144,22 +144,3 @@ module _ (g : Graph) (w : T (graphWithin g)) where
       (within-i _ E (λ a la t. either (or-e _ _ (those-e _ a t .1)) (λ x. within-e _ E (p .0) a la x) (λ x. subst (λ (b : ℕ). T (mem E b)) (sym (eqb→eq a e x)) ev)))
       (within-i _ E (λ a la t. either (or-e _ _ (those-e _ a t .1)) (λ x. within-e _ E (p .1) a la (and-l _ _ x)) (λ x. in-inside E (g .responses) (rows-inside .1) e l a la x)))
       (within-i _ E (λ a la t. either (or-e _ _ (those-e _ a t .1)) (λ x. within-e _ E (p .2) a la (and-l _ _ x)) (λ x. in-inside E (g .includes) (rows-inside .2) e l a la x)))
-
--- ---- enabled
-
-module _ (events : Set) (r : Relations) (m : Marking) (e : ℕ) where
-  pub enabled-done : T (mem events e) → T (mem (m .included) e) → (T (waits r m e) → ⊥) → enabled events r m e ≡ Done
-  unfolding enabled non
-  enabled-done ev inc free =
-      (λ j.
-      when non (T→true (mem events e) ev j) then NoEvent
-      else when non (T→true (mem (m .included) e) inc j) then NotIncluded
-      else when F→false (waits r m e) free j then Waiting
-      else Done)
-
-  pub done-enabled : enabled events r m e ≡ Done → T (mem events e) × T (mem (m .included) e) × (T (waits r m e) → ⊥)
-  unfolding enabled
-  done-enabled h =
-      let a = went _ _ _ refl h in
-      let b = went _ _ _ refl (a .1) in
-      (non-false _ (a .0), non-false _ (b .0), false→F (went (waits r m e) Waiting Done refl (b .1) .0))

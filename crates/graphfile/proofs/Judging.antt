@@ -9,7 +9,6 @@ use lib.Dec.{ltb}
 use lib.ListN.{length}
 use Rattle.sets.specs.Tests.{_or_, non, when_then_else_}
 use Rattle.sets.specs.Members.{mem, those, isEmpty, within}
-use Rattle.sets.specs.Answers.{firstRefusal}
 use Rattle.sets.specs.declared.set.Set.{Set}
 use Rattle.sets.specs.declared.answer.Answer.{Answer}
 use Rattle.sets.specs.declared.answer.Answer.the-variants.{Done, TooShort, WrongLetters, AboveLimit, WrongOffset, Outside, BadRow}
@@ -18,7 +17,7 @@ use Rattle.sets.specs.Sizes.{mostActivities}
 use Rattle.sets.specs.Files.{opensWith}
 use Rattle.engine.specs.declared.marking.Marking.{Marking}
 use Rattle.graphfile.specs.Layout.{letters, headLength, rowLength, relationCount, activitiesIn, eventsIn, markingIn, offsetIn, countIn, earlierRows, keyIn, rowIn, endOf}
-use Rattle.graphfile.specs.Refusals.{mostRows, judgedHead, judgedEntry, judgedEnd, rises, rowAnswer, judgedRow, judgedRelation}
+use Rattle.graphfile.specs.Refusals.{mostRows, judgedHead, judgedEntry, judgedEnd, rises, rowAnswer, judgedRow}
 
 -- ---- the end
 
@@ -150,8 +149,3 @@ module _ (bytes : List ℕ) (l : Bool) (hl : l ≡ opensWith letters bytes) wher
         head-right n = marked true (not-false m n)
 
 pub ruleset heads = (head-letters, head-above, head-events, head-marking, head-right)
-
-pub relation-is : (bytes : List ℕ) (r first count : ℕ) (a : Answer) → first ≡ earlierRows bytes r → count ≡ countIn bytes r
-    → a ≡ firstRefusal count (judgedRow bytes first) → a ≡ judgedRelation bytes r
-unfolding judgedRelation
-relation-is bytes r first count a e f h = h ∙ ap₂ (λ (x n : ℕ). firstRefusal n (judgedRow bytes x)) e f

@@ -96,13 +96,7 @@ pub joined-with : (rows : List ℕ) (e : ℕ) (s : Set) (rows′ : List ℕ)
 unfolding gained
 joined-with rows e s rows′ h = h
 
--- the row of the event gains a set that is the fact's
-pub gains-by : (p : Fact) (rows : List ℕ) (e : ℕ) (past rest : List ℕ) (s : Set) (rows′ : List ℕ) → s ≡ those (p e past rest)
-    → rows′ ≡ withRow rows e (those (λ b. mem (rowAt rows e) b or mem s b)) → rows′ ≡ gains p rows e past rest
-unfolding gains
-gains-by p rows e past rest s rows′ hs h = joined-by rows e (p e past rest) s rows′ hs h
-
--- the same, of what a turn's function says: the row gains f of the members of a set that is known
+-- what a turn's function says: the row of the event gains f of the members of a set that is known
 pub gained-by : (p : Fact) (f : ℕ → Bool → Bool) (q : ℕ → Bool) (rows : List ℕ) (e : ℕ) (past rest : List ℕ) (s : Set) (rows′ : List ℕ) → s ≡ those q
     → ((x : ℕ) → f x (q x) ≡ p e past rest x) → rows′ ≡ gained rows e (λ x. f x (mem s x)) → rows′ ≡ gains p rows e past rest
 unfolding gains gained

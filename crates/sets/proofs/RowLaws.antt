@@ -2,7 +2,7 @@
 use mathlib.Core.Path.{_≡_, refl, sym, ap, _∙_, subst}
 use mathlib.Core.Bool.{Bool, true, false}
 use mathlib.Core.List.{List}
-use Prim.Native.Nat.{ℕ, zero, suc, _+_, _^_, _≤_, _<_}
+use Prim.Native.Nat.{ℕ, zero, suc, _+_, _≤_, _<_}
 use native.Mathlib.Nat.{not-suc-le-zero, le-of-suc-le-suc, add-zero, add-suc, suc-add, zero-add}
 use native.Mathlib.Omega.{arith}
 use borrow.Author.Tests.{lt-ltb, le-ltb, ltb-true, ltb-false, eqb-true, eqb-false, ne-eqb}
@@ -14,7 +14,7 @@ use Rattle.sets.specs.Members.{width, bit, bitsOf, mem, those}
 use Rattle.sets.specs.Rows.{Relation, noRows, rowAt, withRow, inRow, listFrom, rowsOf}
 use Rattle.sets.specs.declared.set.Set.{Set}
 use Rattle.sets.proofs.Tests.{T→true, F→false, split, either, or-false, true-and, false-and}
-use Rattle.sets.proofs.Bits.{is-bitsOf, bit-bitsOf, bitsOf-ext}
+use Rattle.sets.proofs.Bits.{bit-bitsOf, bitsOf-ext}
 
 -- ---- reading and writing a row
 
@@ -85,16 +85,6 @@ in-rowsOf r a b ha hb =
 pub row-mem : (r : Relation) (a b : ℕ) → a < width → b < width → mem (rowAt (rowsOf r) a) b ≡ r a b
 unfolding inRow
 row-mem r a b ha hb = in-rowsOf r a b ha hb
-
--- rows that have a relation's members are the relation's rows
-pub rows-are : (rows : List ℕ) (r : Relation) → length rows ≡ width → ((a : ℕ) → a < width → getD rows a 0 < 2 ^ width)
-    → ((a b : ℕ) → a < width → b < width → inRow rows a b ≡ r a b) → rows ≡ rowsOf r
-unfolding inRow
-rows-are rows r len small f =
-    ext-getD 0 rows (rowsOf r) (len ∙ sym (length-rowsOf r))
-    (λ a h.
-    let l : a < width = subst (λ (n : ℕ). a < n) len h in
-    is-bitsOf width (getD rows a 0) (r a) (small a l) (λ b hb. ap (λ (s : Set). mem s b) (row-in rows a l) ∙ f a b l hb) ∙ sym (getD-rowsOf r a l))
 
 pub rowsOf-ext : (r q : Relation) → ((a b : ℕ) → a < width → b < width → r a b ≡ q a b) → rowsOf r ≡ rowsOf q
 rowsOf-ext r q e =
