@@ -6,5 +6,6 @@ pub mod StepForStep
 pub mod Early
 pub mod Outcomes
 pub mod Walked
+pub mod Contracts
 pub mod Demands
 pub mod StandIns
