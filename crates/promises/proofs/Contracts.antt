@@ -119,8 +119,7 @@ module _ (bytes : List ℕ) where
   pub write-listing-said : (before : List ℕ) (r : Listed) (after : List ℕ) → write-listing-gives before r after
       → (r ≡ listedOf bytes (length before)) × (after ≡ listingAfter bytes before)
   write-listing-said before r after c =
-      let d = c .2 .2 in
-      (
+      let d = c .2 .2 in (
         d .3 .0 ∙ (λ i. listedOf (c .1 i) (length (c .2 .1 i))),
         sym (d .2) ∙ d .3 .1 ∙ (λ i. listingAfter (c .1 i) (c .2 .1 i)),
       )
@@ -199,8 +198,7 @@ module _ (file : List ℕ) where
   pub file-back-said : (before : List ℕ) (w : Written) (after : List ℕ) → file-back-gives before w after
       → (w ≡ fileBack file (length before)) × (after ≡ fileCopied file before)
   file-back-said before w after c =
-      let d = c .2 .2 in
-      (
+      let d = c .2 .2 in (
         d .3 .0 ∙ (λ i. fileBack (c .1 i) (length (c .2 .1 i))),
         sym (d .2) ∙ d .3 .1 ∙ (λ i. fileCopied (c .1 i) (c .2 .1 i)),
       )

@@ -287,8 +287,7 @@ pub file-returns : (file before : List ℕ) (w : Written) (after : List ℕ) →
 unfolding fileBack fileCopied
 file-returns file before w after c d =
     let h = file-back-said file before w after c in
-    let done : isDone (judgedCopy file (length before)) ≡ true = ap (λ (x : Written). isDone (x .answer)) (sym (h .0)) ∙ ap (λ (n : ℕ). eqb n 0) d in
-    (
+    let done : isDone (judgedCopy file (length before)) ≡ true = ap (λ (x : Written). isDone (x .answer)) (sym (h .0)) ∙ ap (λ (n : ℕ). eqb n 0) d in (
       ap (λ (x : Written). x .length) (h .0) ∙ ap (λ (t : Bool). when t then length file else 0) done,
       h .1 ∙ ap (λ (t : Bool). when t then file ++ drop (length file) before else before) done,
     )

@@ -9,3 +9,4 @@ pub mod Walked
 pub mod Contracts
 pub mod Demands
 pub mod StandIns
+pub mod Counts
