@@ -82,6 +82,20 @@ def judge(crate, path):
     return told, faults
 
 
+def named():
+    """By crate, the wrong versions that docs/STATEMENTS.md names."""
+    crate, names = None, collections.defaultdict(set)
+    for line in open(os.path.join(ROOT, "docs", "STATEMENTS.md"), encoding="utf-8"):
+        if line.startswith("## "):
+            crate = line[3:].split()[0]
+        elif crate:
+            names[crate].update(re.findall(r"(?<!\*)\*(\w+)\*(?!\*)", line))
+    return names
+
+
+STATED = named()
+
+
 def main():
     kept, bad = collections.Counter(), 0
     for path in sorted(glob.glob(os.path.join(ROOT, "crates", "*", "must-fail", "*.edit"))):
@@ -89,11 +103,17 @@ def main():
         if len(sys.argv) > 1 and crate not in sys.argv[1:]:
             continue
         told, faults = judge(crate, path)
+        names = [w.name for w in wrongs(path)[0]]
+        faults += [f"docs/STATEMENTS.md does not name {name}" for name in names if name not in STATED[crate]]
+        STATED[crate].difference_update(names)
         print(*told, sep="\n") if told else None
         for fault in faults:
             print(f"crates/{crate}/must-fail/{os.path.basename(path)}: {fault}")
         kept[crate] += len(told)
         bad += len(faults)
+    for crate, name in ((c, name) for c in kept for name in sorted(STATED[c])):
+        print(f"docs/STATEMENTS.md: {name} is no kept wrong version of {crate}")
+        bad += 1
     print(f"wrong versions refused, each by its own proof: {sum(kept.values())} ({', '.join(f'{c} {n}' for c, n in kept.items())})")
     sys.exit(bad != 0)
 
