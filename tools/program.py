@@ -1,0 +1,129 @@
+"""Builds a proved program of the repository, saying what it does, and runs it. Each command at the root goes through here."""
+import contextlib
+import fcntl
+import os
+import platform
+import re
+import shutil
+import signal
+import subprocess
+import tempfile
+import threading
+
+from command import Fault, say
+
+ROOT = os.path.dirname(os.path.dirname(os.path.realpath(__file__)))
+
+# A build that takes longer than this is spoken of.
+PATIENCE = 2.0
+
+# The lines of rt that are of use to whoever waits.
+NEWS = re.compile(r"rt: (\S+ proved \(\d+ s\)|\S+ NOT PROVED.*|.*FAILED.*|\S+: (?:the program ended|what the program wrote).*)")
+
+
+def run(name, data):
+    """What the program writes, given the bytes on standard input. It is built first, if anything changed."""
+    build(name)
+    ended = subprocess.run(words(name), input=data, stdout=subprocess.PIPE, check=False)
+    if ended.returncode != 0:
+        raise Fault(f"the program {name} ended with status {ended.returncode}")
+    return ended.stdout
+
+
+def build(name):
+    """Has rt make the program of today's sources. It is asked every time: it looks for what changed by itself, so neither a change
+    nor a build that failed leaves an older program to be run."""
+    if not shutil.which("rt"):
+        raise Fault("rt, the Rattle toolchain, is not on the PATH (README.md says where it comes from)")
+    with only_one_build(), patience(name), room() as temporary:
+        status, said = ask_rt(["check", name], temporary)
+    if status != 0:
+        for line in said[-3:]:
+            say(line)
+        raise Fault("the program could not be built, so none is run; target/log has all that rt said")
+
+
+def ask_rt(asked, temporary):
+    """Runs rt with standard input closed to it, passing its news on. Gives its status and its lines."""
+    said = []
+    rt = subprocess.Popen(
+        ["rt"] + asked,
+        cwd=ROOT,
+        stdin=subprocess.DEVNULL,
+        stdout=subprocess.PIPE,
+        stderr=subprocess.STDOUT,
+        env={**os.environ, "TMPDIR": temporary},
+        encoding="utf-8",
+        errors="replace",
+        start_new_session=True,
+    )
+    try:
+        for line in rt.stdout:
+            said.append(line.rstrip("\n"))
+            news = NEWS.fullmatch(said[-1])
+            if news:
+                say(news.group(1))
+        return rt.wait(), said
+    finally:
+        end(rt)
+
+
+def end(process):
+    """Ends a process and all that it started, if it still runs."""
+    if process.poll() is None:
+        for number in (signal.SIGTERM, signal.SIGKILL):
+            with contextlib.suppress(ProcessLookupError, subprocess.TimeoutExpired):
+                os.killpg(process.pid, number)
+                process.wait(5)
+
+
+@contextlib.contextmanager
+def room():
+    """A folder for what rt keeps while it works, gone afterwards. rt runs programs there as nobody, who must be able to pass."""
+    folder = tempfile.mkdtemp(prefix="skelfora-")
+    try:
+        os.chmod(folder, 0o711)
+        yield folder
+    finally:
+        shutil.rmtree(folder, ignore_errors=True)
+
+
+@contextlib.contextmanager
+def patience(name):
+    """Says that a build takes time: at once where there is no program yet, else when it does."""
+    if os.path.exists(os.path.join(ROOT, "target", "bin", name)):
+        timer = threading.Timer(PATIENCE, say, ["something changed: proving and building what it touches"])
+        timer.daemon = True
+    else:
+        timer = threading.Timer(0, say, ["the first build, with all its proofs: this takes some minutes"])
+    timer.start()
+    try:
+        yield
+    finally:
+        timer.cancel()
+
+
+@contextlib.contextmanager
+def only_one_build():
+    """Two builds in one folder would meet: the later one waits."""
+    folder = os.open(ROOT, os.O_RDONLY)
+    try:
+        try:
+            fcntl.flock(folder, fcntl.LOCK_EX | fcntl.LOCK_NB)
+        except BlockingIOError:
+            say("another build is running here: waiting for it")
+            fcntl.flock(folder, fcntl.LOCK_EX)
+        yield
+    finally:
+        os.close(folder)
+
+
+def words(name):
+    """How the program is started. Programs are for x86-64; for another processor the kit has an emulator."""
+    guide = subprocess.run(["rt", "doc"], stdout=subprocess.PIPE, check=True, encoding="utf-8").stdout.strip()
+    kit = os.path.dirname(os.path.dirname(os.path.realpath(guide)))
+    tools = os.path.join(kit, "on", platform.machine(), "toolchain")
+    emulator = os.path.join(tools, "bin", "qemu-x86_64")
+    lib = os.path.join(tools, "lib")
+    start = [os.path.join(lib, "ld-linux-x86-64.so.2"), "--library-path", lib, os.path.join(ROOT, "target", "bin", name)]
+    return ([emulator] if os.access(emulator, os.X_OK) else []) + start
