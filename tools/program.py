@@ -14,8 +14,8 @@ from command import Fault, say
 
 ROOT = os.path.dirname(os.path.dirname(os.path.realpath(__file__)))
 
-# A build that takes longer than this is spoken of.
-PATIENCE = 2.0
+# Seconds after which a build that is under way is spoken of.
+PATIENCE = 5.0
 
 # The lines of rt that are of use to whoever waits.
 NEWS = re.compile(r"rt: (\S+ proved \(\d+ s\)|\S+ NOT PROVED.*|.*FAILED.*|\S+: (?:the program ended|what the program wrote).*)")
@@ -92,7 +92,7 @@ def room():
 def patience(name):
     """Says that a build takes time: at once where there is no program yet, else when it does."""
     if os.path.exists(os.path.join(ROOT, "target", "bin", name)):
-        timer = threading.Timer(PATIENCE, say, ["something changed: proving and building what it touches"])
+        timer = threading.Timer(PATIENCE, say, ["still building: what changed since the last build is proved again"])
         timer.daemon = True
     else:
         timer = threading.Timer(0, say, ["the first build, with all its proofs: this takes some minutes"])
