@@ -21,10 +21,10 @@ PATIENCE = 5.0
 NEWS = re.compile(r"rt: (\S+ proved \(\d+ s\)|\S+ NOT PROVED.*|.*FAILED.*|\S+: (?:the program ended|what the program wrote).*)")
 
 
-def run(name, data):
+def run(name, data=b"", arguments=(), folder=None):
     """What the program writes, given the bytes on standard input. It is built first, if anything changed."""
     build(name)
-    ended = subprocess.run(words(name), input=data, stdout=subprocess.PIPE, check=False)
+    ended = subprocess.run([*start(name), *arguments], input=data, stdout=subprocess.PIPE, cwd=folder, check=False)
     if ended.returncode != 0:
         raise Fault(f"the program {name} ended with status {ended.returncode}")
     return ended.stdout
@@ -33,21 +33,26 @@ def run(name, data):
 def build(name):
     """Has rt make the program of today's sources. It is asked every time: it looks for what changed by itself, so neither a change
     nor a build that failed leaves an older program to be run."""
+    made("the program", os.path.join("target", "bin", name), ["rt", "check", name])
+
+
+def made(what, path, words):
+    """Has rt make a file, by a command that asks rt for it."""
     if not shutil.which("rt"):
         raise Fault("rt, the Rattle toolchain, is not on the PATH (README.md says where it comes from)")
-    with only_one_build(), patience(name), room() as temporary:
-        status, said = ask_rt(["check", name], temporary)
+    with only_one_build(), patience(path), room() as temporary:
+        status, said = watched(words, temporary)
     if status != 0:
         for line in said[-3:]:
             say(line)
-        raise Fault("the program could not be built, so none is run; target/log has all that rt said")
+        raise Fault(f"{what} could not be built, so none is used; target/log has all that rt said")
 
 
-def ask_rt(asked, temporary):
-    """Runs rt with standard input closed to it, passing its news on. Gives its status and its lines."""
+def watched(words, temporary):
+    """Runs a command of rt's with nothing on standard input, passing its news on. Gives its status and its lines."""
     said = []
     rt = subprocess.Popen(
-        ["rt"] + asked,
+        words,
         cwd=ROOT,
         stdin=subprocess.DEVNULL,
         stdout=subprocess.PIPE,
@@ -89,9 +94,9 @@ def room():
 
 
 @contextlib.contextmanager
-def patience(name):
-    """Says that a build takes time: at once where there is no program yet, else when it does."""
-    if os.path.exists(os.path.join(ROOT, "target", "bin", name)):
+def patience(path):
+    """Says that a build takes time: at once where there is nothing yet, else when it does."""
+    if os.path.exists(os.path.join(ROOT, path)):
         timer = threading.Timer(PATIENCE, say, ["still building: what changed since the last build is proved again"])
         timer.daemon = True
     else:
@@ -118,12 +123,12 @@ def only_one_build():
         os.close(folder)
 
 
-def words(name):
-    """How the program is started. Programs are for x86-64; for another processor the kit has an emulator."""
+def start(name):
+    """The words that start the program. Programs are for x86-64; for another processor the kit has an emulator."""
     guide = subprocess.run(["rt", "doc"], stdout=subprocess.PIPE, check=True, encoding="utf-8").stdout.strip()
     kit = os.path.dirname(os.path.dirname(os.path.realpath(guide)))
     tools = os.path.join(kit, "on", platform.machine(), "toolchain")
     emulator = os.path.join(tools, "bin", "qemu-x86_64")
     lib = os.path.join(tools, "lib")
-    start = [os.path.join(lib, "ld-linux-x86-64.so.2"), "--library-path", lib, os.path.join(ROOT, "target", "bin", name)]
-    return ([emulator] if os.access(emulator, os.X_OK) else []) + start
+    plain = [os.path.join(lib, "ld-linux-x86-64.so.2"), "--library-path", lib, os.path.join(ROOT, "target", "bin", name)]
+    return [emulator, *plain] if os.access(emulator, os.X_OK) else plain

@@ -4,8 +4,7 @@ from collections import namedtuple
 Pair = namedtuple("Pair", "letter source target")
 Replay = namedtuple("Replay", "call steps number accepting")
 
-# How a replay's number reads in a sentence. Of its own log a graph refuses nothing, so all but the first is for other listings.
-ENDED = {0: "done", 8: "refused at a step that the graph lacks", 9: "refused at a step that is shut out", 10: "refused at a step that waits"}
+RELATIONS = {"C": "condition", "R": "response", "I": "include", "E": "exclude"}
 
 
 def parsed(listing):
@@ -38,7 +37,7 @@ def count(number, word):
 
 
 def heading(counts):
-    relations = [count(counts[letter], word) for letter, word in (("C", "condition"), ("R", "response"), ("I", "include"), ("E", "exclude"))]
+    relations = [count(counts[letter], word) for letter, word in RELATIONS.items()]
     return f"{count(counts['events'], 'step')}, {count(counts['traces'], 'call')}; {', '.join(relations)}"
 
 
@@ -53,8 +52,9 @@ def groups(pairs, names):
 
 
 def of_call(replay):
-    ended = ENDED.get(replay.number, f"refused with {replay.number}")
-    return f"call {replay.call}: {count(replay.steps, 'step')}, {ended}, {'may end' if replay.accepting else 'may not end yet'}"
+    """A call replayed. The proved graph refuses no call of its own log, so a listing says "done, may end" of each."""
+    ended = "done" if replay.number == 0 else f"refused with {replay.number}"
+    return f"call {replay.call}: {count(replay.steps, 'step')}, {ended}, {'may end' if replay.accepting else 'may not end'}"
 
 
 def told(listing, names):

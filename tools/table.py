@@ -8,7 +8,8 @@ from command import MISUSED, Fault
 from names import checked, clean, decoded
 
 # What a column is called, in any case of letters. Of several that are there the first of this list counts.
-CALL_WORDS = ["case", "case id", "case_id", "caseid", "case:concept:name", "call", "call id", "call_id", "vessel", "ship", "trace", "trace id"]
+CALL_WORDS = ["case", "case id", "case_id", "caseid", "case:concept:name"]
+CALL_WORDS += ["call", "call id", "call_id", "vessel", "ship", "trace", "trace id"]
 STEP_WORDS = ["activity", "step", "concept:name", "task", "action", "event"]
 LINE_WORDS = ["steps", "activities", "events"]
 

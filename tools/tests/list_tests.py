@@ -108,9 +108,11 @@ def full_output(folder):
 
 @test("used wrongly: one line on standard error, nothing on standard output, exit status 2; what can't be read: 3")
 def used_wrongly(folder):
-    for words, status in ((["a", "b"], 2), (["--nosuch"], 2), (["--names"], 2), (["nosuch.log"], 3), (["data"], 3), (["--names", "nosuch", "data/L.log"], 3)):
+    misused = [["a", "b"], ["--nosuch"], ["--names"]]
+    unreadable = [["nosuch.log"], ["data"], ["--names", "nosuch", "data/L.log"]]
+    for words in misused + unreadable:
         gave = folder.run("./list", *words)
-        same((gave.status, gave.out), (status, b""), " ".join(words))
+        same((gave.status, gave.out), (2 if words in misused else 3, b""), " ".join(words))
         holds(one_line(gave.err), f"{words} says {gave.err!r}")
 
 

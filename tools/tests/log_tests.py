@@ -76,7 +76,7 @@ WRONG = {
     "32,769 steps": (MANY + "a\n", [], "32,769 steps, 32,768 are the most (--once writes each different call once)"),
     "XML that is no XES": ("<html></html>", [], "line 1: no XES: the first element is 'html', not 'log'"),
     "XES that is cut off": (XES[:400], [], "line 5: unclosed token"),
-    "an event without a name": ("<log><trace>\n<event><string key='x' value='y'/></event></trace></log>", [], "line 2: no step (an event without concept:name)"),
+    "an event without a name": ("<log><trace>\n<event/></trace></log>", [], "line 2: no step (an event without concept:name)"),
     "an event outside a trace": ("<log>\n<event/></log>", [], "line 2: an event outside any trace"),
     "a document type": ("<!DOCTYPE log []><log/>", [], "line 1: a document type is not taken"),
     "gzip that is cut off": (gzip.compress(TABLE.encode())[:30], [], "Compressed file ended before the end-of-stream marker was reached"),
