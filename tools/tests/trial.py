@@ -1,12 +1,15 @@
 """What the tests share: a folder to try things in, commands and what they gave, and the list of tests."""
 import os
-import shutil
+import signal
 import subprocess
 from collections import namedtuple
 
 ROOT = os.path.dirname(os.path.dirname(os.path.dirname(os.path.realpath(__file__))))
 
 TESTS = []
+
+# Seconds after which a command counts as one that does not end. The longest, ./library, may have to prove a crate.
+LONGEST = 300
 
 Gave = namedtuple("Gave", "status out err")
 
@@ -40,6 +43,13 @@ def read(*path):
         return file.read()
 
 
+def end(process):
+    """Ends a command, and what it began, if it has not ended by itself."""
+    if process.poll() is None:
+        os.killpg(process.pid, signal.SIGTERM)
+        process.wait()
+
+
 class Folder:
     """A folder that has the repository's commands, data and pages by links, so that what is written there touches nothing."""
 
@@ -71,19 +81,19 @@ class Folder:
 
     def run(self, *words, data=None, **how):
         """Runs a command here. Its input is `data`, or what `stdin` says."""
-        if data is not None:
-            how["input"] = data
-        elif "stdin" not in how:
-            how["stdin"] = subprocess.DEVNULL
+        how.setdefault("stdin", subprocess.DEVNULL if data is None else subprocess.PIPE)
         how = {"stdout": subprocess.PIPE, "stderr": subprocess.PIPE, **how}
-        ended = subprocess.run(list(words), cwd=self.path, check=False, timeout=100, **how)
-        return Gave(ended.returncode, ended.stdout, (ended.stderr or b"").decode())
+        begun = subprocess.Popen(list(words), cwd=self.path, start_new_session=True, **how)
+        try:
+            out, err = begun.communicate(data, timeout=LONGEST)
+        except subprocess.TimeoutExpired:
+            raise Different(f"{' '.join(words)}: no end after {LONGEST} s") from None
+        finally:
+            end(begun)
+        return Gave(begun.returncode, out, (err or b"").decode())
 
     def shell(self, text):
         return self.run("bash", "-euo", "pipefail", "-c", text)
-
-    def remove(self):
-        shutil.rmtree(self.path)
 
 
 def log_bytes(activities, *calls):
