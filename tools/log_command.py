@@ -103,13 +103,9 @@ def main(words):
     if len(options.files) != 2 or options.names is not None:
         raise Fault("two files are needed, CALLS and OUT.log; see ./log --help", MISUSED)
     path, out = options.files
-    if any(is_same(path, written) for written in (out, names.beside(out))):
-        raise Fault(f"{path} would be written over", MISUSED)
+    if not logfile.replaceable(out):
+        raise Fault(f"{out} is there and is no log: it is not written over", MISUSED)
     return make(path, out, options)
-
-
-def is_same(path, written):
-    return os.path.exists(path) and os.path.exists(written) and os.path.samefile(path, written)
 
 
 COMMAND = Command("log", main)

@@ -1,7 +1,10 @@
 """The log file, as docs/FORMATS.md has it: its limits, what its refusals mean, and how one is read in and written down."""
+import os
 import sys
 
 from command import Fault, reason
+
+LETTERS = b"BL\x01"
 
 MOST_NAMES = 64
 MOST_CALLS = 1024
@@ -30,6 +33,15 @@ def read(path):
             return file.read(ENOUGH)
     except OSError as error:
         raise Fault(f"can't read {path}: {reason(error)}") from error
+
+
+def replaceable(path):
+    """Whether nothing but a log, or an empty file, would be written over."""
+    try:
+        with open(path, "rb") as file:
+            return file.read(len(LETTERS)) in (LETTERS, b"")
+    except OSError:
+        return not os.path.exists(path)
 
 
 def read_standard_input():
@@ -65,4 +77,4 @@ def encoded(calls, names):
     for call in calls:
         entries += len(bodies).to_bytes(2, "little") + len(call.steps).to_bytes(2, "little")
         bodies += bytes(number[step] for step in call.steps)
-    return b"BL\x01" + bytes([len(names)]) + len(calls).to_bytes(2, "little") + bytes(entries) + bytes(bodies)
+    return LETTERS + bytes([len(names)]) + len(calls).to_bytes(2, "little") + bytes(entries) + bytes(bodies)

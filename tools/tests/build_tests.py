@@ -54,22 +54,22 @@ def lines(err):
     return [line for line in err.splitlines() if line.startswith("list: ")]
 
 
-@test("the first build says that it takes minutes and names each crate as it is proved; the next says nothing")
+@test("the first build says that it takes minutes and names each crate as it is proved, one beside it waits, the next says nothing")
 def first_build(folder):
     small = Small(folder.at("small"))
-    gave = small.run("./list", data=b"")
-    same((gave.status, gave.out), (0, b"7\n"), "the first build")
+    gave = small.shell("./list </dev/null & { sleep 1; ./list </dev/null 2>second; } >again; wait")
+    same((gave.status, gave.out, small.get("again")), (0, b"7\n", b"7\n"), "the first build, and a second one")
+    holds(b"waiting" in small.get("second"), "the second did not wait")
     said = lines(gave.err)
     holds("minutes" in said[0], f"no word of the time: {said}")
     for crate in ("figures", "listing"):
         holds(any(line.startswith(f"list: {crate} proved (") for line in said), f"{crate} is not named: {said}")
-    same(small.run("./list", data=b""), Gave(0, b"7\n", ""), "the second call")
+    same(small.run("./list", data=b""), Gave(0, b"7\n", ""), "the next call")
+    rebuilds(small)
 
 
-@test("after a change of the sources the program of today is run; after a build that failed none is, the second time neither")
-def rebuilds(folder):
-    small = Small(folder.at("small"))
-    same(small.run("./list", data=b"").out, b"7\n", "before")
+def rebuilds(small):
+    """After a change of the sources the program of today is run; after a build that failed none is, the second time neither."""
     small.write("8")
     gave = small.run("./list", data=b"")
     same((gave.status, gave.out), (0, b"8\n"), "after a change of a library")
@@ -78,8 +78,6 @@ def rebuilds(folder):
         gave = small.run("./list", data=b"")
         same((gave.status, gave.out), (3, b""), f"{time_} call after a build that failed")
         holds("could not be built" in gave.err, f"it says {gave.err!r}")
-    small.write("9")
-    same(small.run("./list", data=b"").out, b"9\n", "mended")
 
 
 @test("interrupted while it builds, it ends all that it began and leaves nothing in the temporary folder")

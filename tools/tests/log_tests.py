@@ -185,6 +185,7 @@ def other_faults(folder):
     folder.put("bad.names", NAMES)
     folder.put("good.log", LOG)
     folder.put("few.names", "a\n")
+    folder.put("other.csv", TABLE)
     gave = folder.run("./log", "--show", "bad.log")
     same((gave.status, gave.out, gave.err[:7]), (1, b"refused 4\n", "log: 4:"), "a refused log")
     for words, status in (
@@ -198,7 +199,8 @@ def other_faults(folder):
         (["--call", "nosuch", "calls.csv", "out.log"], 2),
         (["nosuch.csv", "out.log"], 3),
         (["calls.csv", "nosuch/out.log"], 3),
-        (["calls.csv", "data"], 3),
+        (["calls.csv", "data"], 2),
+        (["calls.csv", "other.csv"], 2),
     ):
         before = folder.files()
         gave = folder.run("./log", *words)
