@@ -106,11 +106,12 @@ def interrupted(folder):
         same(begun.wait(30), 128 + number, "exit status")
         begun.stderr.close()
         same(os.listdir(folder.at("temporary")), [], "the temporary folder")
-        wait_until(lambda: not small.busy(), "an end of what was begun", 0.5)
+        wait_until(lambda: not small.busy(), "an end of what was begun")
+        holds(not small.has("target/bin/listing"), "the build went on to its end")
 
 
-def wait_until(fact, what, seconds=10):
-    limit = time.monotonic() + seconds
+def wait_until(fact, what):
+    limit = time.monotonic() + 20
     while not fact():
         if time.monotonic() > limit:
             raise Different(f"waited for {what} in vain")
