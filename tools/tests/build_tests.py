@@ -106,12 +106,11 @@ def interrupted(folder):
         same(begun.wait(30), 128 + number, "exit status")
         begun.stderr.close()
         same(os.listdir(folder.at("temporary")), [], "the temporary folder")
-        wait_until(lambda: not small.busy(), "an end of what was begun")
-        holds(not small.has("target/bin/listing"), "the build went on to its end")
+        wait_until(lambda: not small.busy(), "an end of what was begun", 0.7)
 
 
-def wait_until(fact, what):
-    limit = time.monotonic() + 20
+def wait_until(fact, what, seconds=20):
+    limit = time.monotonic() + seconds
     while not fact():
         if time.monotonic() > limit:
             raise Different(f"waited for {what} in vain")
