@@ -20,6 +20,9 @@ PATIENCE = 5.0
 # The lines of rt that are of use to whoever waits.
 NEWS = re.compile(r"rt: (\S+ proved \(\d+ s\)|\S+ NOT PROVED.*|.*FAILED.*|\S+: (?:the program ended|what the program wrote).*)")
 
+# Those that tell where in the sources something is wrong.
+WHERE = re.compile(r"\.(?:rt|antt):\d+:\d+: ")
+
 
 def run(name, data=b"", arguments=(), folder=None):
     """What the program writes, given the bytes on standard input. It is built first, if anything changed."""
@@ -43,8 +46,8 @@ def made(what, path, words):
     with only_one_build(), patience(path), room() as temporary:
         status, said = watched(words, temporary)
     if status != 0:
-        for line in said[-3:]:
-            say(line)
+        for line in [line for line in said if WHERE.search(line)][:3]:
+            say(line[:300])
         raise Fault(f"{what} could not be built, so none is used; target/log has all that rt said")
 
 

@@ -83,7 +83,7 @@ def rebuilds(folder):
     for time_ in ("first", "second"):
         gave = small.run("./list", data=b"")
         same((gave.status, gave.out), (3, b""), f"{time_} call after a build that failed")
-        holds("could not be built" in gave.err, f"it says {gave.err!r}")
+        holds("could not be built" in gave.err and "crates/figures/src/lib.rt:3:1: error" in gave.err, f"it says {gave.err!r}")
 
 
 @test("interrupted while it builds, it ends all that it began and leaves nothing in the temporary folder")
