@@ -1,5 +1,6 @@
 """What the commands at the root have in common: how they begin, say what is wrong, write, and end."""
 import argparse
+import contextlib
 import os
 import signal
 import sys
@@ -54,6 +55,23 @@ class Command:
 def end_by_signal(number, _frame):
     """Ends by way of every `finally`, so that nothing is left behind."""
     sys.exit(128 + number)
+
+
+@contextlib.contextmanager
+def unbroken():
+    """Holds back a signal that would end the command, until the lines below are done: what they begin is then known and can be ended."""
+    held = []
+    before = {number: signal.getsignal(number) for number in (signal.SIGINT, signal.SIGTERM, signal.SIGHUP)}
+    caught = [number for number, handler in before.items() if callable(handler)]
+    for number in caught:
+        signal.signal(number, lambda *signalled: held.append(signalled))
+    try:
+        yield
+    finally:
+        for number in caught:
+            signal.signal(number, before[number])
+    for number, frame in held:
+        before[number](number, frame)
 
 
 def say(text):

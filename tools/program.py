@@ -10,7 +10,7 @@ import subprocess
 import tempfile
 import threading
 
-from command import Fault, say
+from command import Fault, say, unbroken
 
 ROOT = os.path.dirname(os.path.dirname(os.path.realpath(__file__)))
 
@@ -19,6 +19,9 @@ PATIENCE = 5.0
 
 # The lines of rt that are of use to whoever waits.
 NEWS = re.compile(r"rt: (\S+ proved \(\d+ s\)|\S+ NOT PROVED.*|.*FAILED.*|\S+: (?:the program ended|what the program wrote).*)")
+
+# Those that tell where in the sources something is wrong.
+WHERE = re.compile(r"\.(?:rt|antt):\d+:\d+: ")
 
 
 def run(name, data=b"", arguments=(), folder=None):
@@ -43,15 +46,30 @@ def made(what, path, words):
     with only_one_build(), patience(path), room() as temporary:
         status, said = watched(words, temporary)
     if status != 0:
-        for line in said[-3:]:
-            say(line)
+        for line in [line for line in said if WHERE.search(line)][:3]:
+            say(line[:300])
         raise Fault(f"{what} could not be built, so none is used; target/log has all that rt said")
 
 
 def watched(words, temporary):
     """Runs a command of rt's with nothing on standard input, passing its news on. Gives its status and its lines."""
-    said = []
-    rt = subprocess.Popen(
+    said, rt = [], None
+    try:
+        with unbroken():
+            rt = begun(words, temporary)
+        for line in rt.stdout:
+            said.append(line.rstrip("\n"))
+            news = NEWS.fullmatch(said[-1])
+            if news:
+                say(news.group(1))
+        return rt.wait(), said
+    finally:
+        with unbroken():
+            end(rt)
+
+
+def begun(words, temporary):
+    return subprocess.Popen(
         words,
         cwd=ROOT,
         stdin=subprocess.DEVNULL,
@@ -62,20 +80,11 @@ def watched(words, temporary):
         errors="replace",
         start_new_session=True,
     )
-    try:
-        for line in rt.stdout:
-            said.append(line.rstrip("\n"))
-            news = NEWS.fullmatch(said[-1])
-            if news:
-                say(news.group(1))
-        return rt.wait(), said
-    finally:
-        end(rt)
 
 
 def end(process):
-    """Ends a process and all that it started, if it still runs."""
-    if process.poll() is None:
+    """Ends a process and all that it started, if it began and still runs."""
+    if process is not None and process.poll() is None:
         for number in (signal.SIGTERM, signal.SIGKILL):
             with contextlib.suppress(ProcessLookupError, subprocess.TimeoutExpired):
                 os.killpg(process.pid, number)
@@ -85,12 +94,16 @@ def end(process):
 @contextlib.contextmanager
 def room():
     """A folder for what rt keeps while it works, gone afterwards. rt runs programs there as nobody, who must be able to pass."""
-    folder = tempfile.mkdtemp(prefix="skelfora-")
+    folder = None
     try:
+        with unbroken():
+            folder = tempfile.mkdtemp(prefix="skelfora-")
         os.chmod(folder, 0o711)
         yield folder
     finally:
-        shutil.rmtree(folder, ignore_errors=True)
+        with unbroken():
+            if folder is not None:
+                shutil.rmtree(folder, ignore_errors=True)
 
 
 @contextlib.contextmanager

@@ -24,20 +24,33 @@ def read(data, form=None, call=None, step=None):
     if not rows:
         raise Fault("nothing in it: no call")
     line, first = rows[0]
-    head = [cell.lower() for cell in first]
+    head = heading(first)
+    if call is None and step is None:
+        if form != "table" and heads_lines(head):
+            return by_lines(rows[1:], len(head) - 1)
+        if form == "lines" or form is None and not heads_table(head) and len(first) != 2:
+            return by_lines(rows, 0)
+        if not heads_table(head):
+            return by_rows(rows, (0, 1), 2)
+    return by_rows(rows[1:], columns(line, first, head, call, step), len(first))
+
+
+def heading(cells):
+    """The first line as headings: in small letters, without empty cells at its end."""
+    head = [cell.lower() for cell in cells]
     while len(head) > 1 and not head[-1]:
         head.pop()
-    if call is not None or step is not None:
-        return by_rows(rows[1:], columns(line, first, head, call, step), len(first))
-    if form != "table" and (head[0] in LINE_WORDS and len(head) == 1 or head[0] in CALL_WORDS and head[1:] and head[1] in LINE_WORDS):
-        return by_lines(rows[1:], len(head) - 1)
-    if form == "lines":
-        return by_lines(rows, 0)
-    if set(head) & {*CALL_WORDS, *STEP_WORDS} and len(head) > 1:
-        return by_rows(rows[1:], columns(line, first, head, None, None), len(first))
-    if form == "table" or len(first) == 2:
-        return by_rows(rows, (0, 1), 2)
-    return by_lines(rows, 0)
+    return head
+
+
+def heads_lines(head):
+    """Whether this is the heading of a call a line: its steps alone, or first the call's name."""
+    return head[-1] in LINE_WORDS and (len(head) == 1 or len(head) == 2 and head[0] in CALL_WORDS)
+
+
+def heads_table(head):
+    """Whether some column has a known name, of those that a table needs two of."""
+    return len(head) > 1 and not {*CALL_WORDS, *STEP_WORDS}.isdisjoint(head)
 
 
 def separator(text):

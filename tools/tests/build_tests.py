@@ -18,6 +18,10 @@ fn main() {
 """
 
 
+# The repository of the first test, once it is built: the second goes on from there.
+BUILT = []
+
+
 class Small(Folder):
     """A repository with ./list and tools/ as they are, and a program `listing` that writes a number which a library gives."""
 
@@ -65,11 +69,13 @@ def first_build(folder):
     for crate in ("figures", "listing"):
         holds(any(line.startswith(f"list: {crate} proved (") for line in said), f"{crate} is not named: {said}")
     same(small.run("./list", data=b""), Gave(0, b"7\n", ""), "the next call")
-    rebuilds(small)
+    BUILT.append(small)
 
 
-def rebuilds(small):
-    """After a change of the sources the program of today is run; after a build that failed none is, the second time neither."""
+@test("after a change of the sources the program of today is run; after a build that failed none is, the second time neither")
+def rebuilds(folder):
+    small = BUILT[0] if BUILT else Small(folder.at("small"))
+    same(small.run("./list", data=b"").out, b"7\n", "before")
     small.write("8")
     gave = small.run("./list", data=b"")
     same((gave.status, gave.out), (0, b"8\n"), "after a change of a library")
@@ -77,7 +83,7 @@ def rebuilds(small):
     for time_ in ("first", "second"):
         gave = small.run("./list", data=b"")
         same((gave.status, gave.out), (3, b""), f"{time_} call after a build that failed")
-        holds("could not be built" in gave.err, f"it says {gave.err!r}")
+        holds("could not be built" in gave.err and "crates/figures/src/lib.rt:3:1: error" in gave.err, f"it says {gave.err!r}")
 
 
 @test("interrupted while it builds, it ends all that it began and leaves nothing in the temporary folder")
@@ -100,12 +106,12 @@ def interrupted(folder):
         same(begun.wait(30), 128 + number, "exit status")
         begun.stderr.close()
         same(os.listdir(folder.at("temporary")), [], "the temporary folder")
-        wait_until(lambda: not small.busy(), "an end of what was begun")
+        wait_until(lambda: not small.busy(), "an end of what was begun", 0.7)
 
 
-def wait_until(fact, what):
-    for _ in range(200):
-        if fact():
-            return
-        time.sleep(0.05)
-    raise Different(f"waited for {what} in vain")
+def wait_until(fact, what, seconds=20):
+    limit = time.monotonic() + seconds
+    while not fact():
+        if time.monotonic() > limit:
+            raise Different(f"waited for {what} in vain")
+        time.sleep(0.02)

@@ -2,6 +2,7 @@
 import os
 import pty
 import socket
+import sys
 
 from trial import ROOT, Gave, holds, log_bytes, read, same, test
 
@@ -114,6 +115,8 @@ def used_wrongly(folder):
         gave = folder.run("./list", *words)
         same((gave.status, gave.out), (2 if words in misused else 3, b""), " ".join(words))
         holds(one_line(gave.err), f"{words} says {gave.err!r}")
+    gave = folder.run(sys.executable, "list", "data/L.log", env={**os.environ, "PATH": folder.at("nowhere")})
+    same((gave.status, gave.out, one_line(gave.err), "rt" in gave.err), (3, b"", True, True), "no rt")
 
 
 @test("./list --names: a sentence for each pair, grouped by step; too few names are one line; a refused log as before")

@@ -122,7 +122,7 @@ fn stepped<'a>(file: &'a [u8], marking: &'a [u8], a: Activity) -> Stepped
     }
     let g = r.graph;
     let m = graphfile::marking::read_marking(marking);
-    engine::step::step(g, m, a)
+    engine::execute::executed(g, m, a)
 }
 
 // One step at a marking of 24 lent bytes, executed, pending, included; they stay as they were where it is refused.

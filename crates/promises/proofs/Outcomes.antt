@@ -61,7 +61,7 @@ use Rattle.promises.proofs.replayed.replay_own.Reads as replay-own
 use Rattle.promises.proofs.replayed.replay_none.Reads as replay-none
 use Rattle.promises.proofs.returned.graph_back.Reads as graph-back
 use Rattle.promises.proofs.returned.file_back.Reads as file-back
-use Rattle.promises.proofs.Walked.{execute-Post, open-Post, trace-Post, next-trace-Post, read-trace-Post}
+use Rattle.promises.proofs.Walked.{execute-Post, executed-Post, open-Post, trace-Post, next-trace-Post, read-trace-Post, read-next-Post}
 
 module _ {K : Type 0} {A : K → Type 0} {R : K → Type 0} {E : K → Type 0} (Post : (κ : K) → A κ → R κ → E κ → Type 0) where
   -- two calls with the same arguments give the same
@@ -193,6 +193,9 @@ accepting-once κ a r r′ s s′ h h′ = h ∙ sym h′
 pub execute-once : OnceLent execute-Post (λ κ s. now (s .1 .0))
 execute-once κ a r r′ s s′ h h′ = (h .0 ∙ sym (h′ .0), h .1 ∙ sym (h′ .1))
 
+pub executed-once : Once executed-Post
+executed-once κ a r r′ s s′ h h′ = h ∙ sym h′
+
 pub run-once : Once run.Post
 run-once κ a r r′ s s′ h h′ = h ∙ sym h′
 
@@ -224,6 +227,9 @@ next-trace-once κ a r r′ s s′ h h′ = (h .0 ∙ sym (h′ .0), h .1 ∙ sy
 
 pub read-trace-once : Once read-trace-Post
 read-trace-once κ a r r′ s s′ h h′ = h ∙ sym h′
+
+pub read-next-once : Once read-next-Post
+read-next-once κ a r r′ s s′ h h′ = h ∙ sym h′
 
 -- ---- graphfile
 

@@ -8,10 +8,12 @@ use borrow.Fn.World.{World, Pr, w₀, ArgsD, ResD}
 use borrow.Fn.Read.{ReadAt, no-know, r-last}
 use borrow.Fn.Claims.{AllOf}
 use Rattle.engine.proofs.execute.execute as execute
+use Rattle.engine.proofs.execute.executed as executed
 use Rattle.calllog.proofs.reader.open as opens
 use Rattle.calllog.proofs.reader.trace as trace
 use Rattle.calllog.proofs.reader.next_trace as next-trace
 use Rattle.calllog.proofs.reader.read_trace as read-trace
+use Rattle.calllog.proofs.reader.read_next as read-next
 
 -- what a clause tells whoever has it
 abbrev Read : Pr w₀ → Type 2
@@ -54,3 +56,17 @@ module _ (κ : Lfts (read-trace.signature .lifetimes)) (a : ArgsD read-trace.sig
 
   abbrev pub read-trace-Post : Type 0
   read-trace-Post = Told read-trace-read
+
+module _ (κ : Lfts (executed.signature .lifetimes)) (a : ArgsD executed.signature κ) (r : ResD executed.signature κ) (s : AtExit executed.ended κ) where
+  abbrev executed-read : Read (executed.clauses (w₀ .𝓤) (w₀ .H) (w₀ .𝓖 .A) (w₀ .𝓜 .mem) (w₀ .𝓡 .run) κ a .ensures tt r s)
+  executed-read = r-last _
+
+  abbrev pub executed-Post : Type 0
+  executed-Post = Told executed-read
+
+module _ (κ : Lfts (read-next.signature .lifetimes)) (a : ArgsD read-next.signature κ) (r : ResD read-next.signature κ) (s : AtExit read-next.ended κ) where
+  abbrev read-next-read : Read (read-next.clauses (w₀ .𝓤) (w₀ .H) (w₀ .𝓖 .A) (w₀ .𝓜 .mem) (w₀ .𝓡 .run) κ a .ensures tt r s)
+  read-next-read = r-last _
+
+  abbrev pub read-next-Post : Type 0
+  read-next-Post = Told read-next-read
