@@ -12,6 +12,9 @@ proof refuses it; rt passes these two lines over:
 
 `refuses:` is a folder of the crate's proofs/, that of a function, or a file there, as `Cases.antt`; a second word names a theorem or a
 fact in it. A refusal counts only as an error right there that is no echo of another and no misfit of the proof's shape.
+
+    .ci/edits.py --fit [CRATE..]    only whether each `old:` text still stands where it says, once; needs no run of rt
+    .ci/edits.py [CRATE..]          where each wrong version was refused
 """
 import collections
 import glob
@@ -47,6 +50,23 @@ def wrongs(path):
     claims.update((w.target, None) for w in found if w.fact and claims[(w.target, None)])
     faults += [f"two wrong versions claim the refusal of {' '.join(filter(None, c))}" for c, n in claims.items() if n > 1]
     return found, faults
+
+
+def misfits(crate, path):
+    """The `old:` texts that are not, just once, in their file as the pairs before have left it."""
+    texts, file, old = {}, None, None
+    for number, line in enumerate(open(path, encoding="utf-8"), 1):
+        key, _, value = line.rstrip("\n").partition(": ")
+        if key == "file":
+            file = os.path.join(ROOT, "crates", crate, value)
+            if file not in texts:
+                texts[file] = open(file, encoding="utf-8").read() if os.path.exists(file) else ""
+        elif key == "old":
+            old = value
+            if texts.get(file, "").count(old) != 1:
+                yield f"line {number}: that text stands {texts.get(file, '').count(old)} times in its file"
+        elif key == "new" and old:
+            texts[file] = texts[file].replace(old, value)
 
 
 def refusals(log):
@@ -96,12 +116,23 @@ def named():
 STATED = named()
 
 
-def main():
-    kept, bad = collections.Counter(), 0
+def files(crates):
     for path in sorted(glob.glob(os.path.join(ROOT, "crates", "*", "must-fail", "*.edit"))):
         crate = path.split(os.sep)[-3]
-        if len(sys.argv) > 1 and crate not in sys.argv[1:]:
-            continue
+        if not crates or crate in crates:
+            yield crate, path
+
+
+def fit(crates):
+    bad = [(path, fault) for crate, path in files(crates) for fault in misfits(crate, path)]
+    for path, fault in bad:
+        print(f"{os.path.relpath(path, ROOT)}: {fault}")
+    sys.exit(bool(bad))
+
+
+def main(crates):
+    kept, bad = collections.Counter(), 0
+    for crate, path in files(crates):
         told, faults = judge(crate, path)
         names = [w.name for w in wrongs(path)[0]]
         faults += [f"docs/STATEMENTS.md does not name {name}" for name in names if name not in STATED[crate]]
@@ -118,4 +149,6 @@ def main():
     sys.exit(bad != 0)
 
 
-main()
+if "--fit" in sys.argv:
+    fit(sys.argv[2:])
+main(sys.argv[1:])

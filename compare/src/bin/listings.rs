@@ -83,19 +83,18 @@ fn long() -> Vec<(&'static str, u8, Vec<u8>)> {
     ]
 }
 
-/// L, the borders of the sizes, and some of each kind from seeds.
+/// L, accepted logs at the borders of the sizes, and some of each kind from seeds.
 fn accepted() -> Vec<Named> {
     let mut prng = Prng::new(5);
     let mut all = vec![("l".to_string(), 0, l())];
-    for (number, log) in logs::borders(&mut prng) {
+    let borders = logs::borders(&mut prng).into_iter();
+    for (number, log) in borders.filter(|(number, log)| *number == 0 && log.len() < 10_000) {
         all.push((format!("border-{}", all.len()), number, log));
     }
     for (_, _, make) in logs::KINDS {
-        for _ in 0..2 {
-            all.push((format!("seeded-{}", all.len()), 0, make(&mut prng)));
-        }
+        all.push((format!("seeded-{}", all.len()), 0, make(&mut prng)));
     }
-    for seed in 0..3 {
+    for seed in 0..2 {
         all.push((format!("small-{seed}"), 0, shapes::small(seed)));
     }
     all

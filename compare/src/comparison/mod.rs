@@ -18,7 +18,7 @@ const WITH_PORT: [Expected; 5] = [
     ("listing", &[0, 1, 2, 3, 4, 5]),
     ("replay", &[0, 1, 2, 3, 4, 5, 6, 8, 9, 10]),
     ("rewrite", &[0, 1, 2, 3, 4, 5, 6, 7]),
-    ("step", &[0, 1, 2, 3, 4, 5, 6, 8, 9, 10]),
+    ("step", &[0, 1, 2, 3, 4, 5, 6, 7, 8, 9, 10]),
 ];
 
 /// What those do not show: judge and yardstick, both Rust. These say nothing of the proved code.
