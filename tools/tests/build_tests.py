@@ -72,9 +72,11 @@ def first_build(folder):
     BUILT.append(small)
 
 
-@test("after a change of the sources the program of today is run; after a build that failed none is, the second time neither")
+@test("after a change, or without its program, today's is built and run; after a build that failed none is, the second time neither")
 def rebuilds(folder):
     small = BUILT[0] if BUILT else Small(folder.at("small"))
+    if BUILT:
+        os.unlink(small.at("target/bin/listing"))
     same(small.run("./list", data=b"").out, b"7\n", "before")
     small.write("8")
     gave = small.run("./list", data=b"")
