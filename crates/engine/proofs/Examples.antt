@@ -6,7 +6,7 @@ use mathlib.Core.List.{List, [], _∷_}
 use Prim.Native.Nat.{ℕ, _+_, _*_}
 use lib.Dec.{lit≤}
 use Rattle.sets.specs.Tests.{_and_, _or_, non}
-use Rattle.sets.specs.Members.{bit, bitsOf, someBelow, everyBelow, isEmpty, within}
+use Rattle.sets.specs.Members.{bit, bitsOf, someBelow, everyBelow, isEmpty, within, mem, those}
 use Rattle.sets.specs.Rows.{noRows, rowAt, withRow, inRow}
 use Rattle.sets.specs.declared.set.Set.{Set}
 use Rattle.sets.specs.declared.answer.Answer.{Answer}
@@ -72,9 +72,13 @@ paper =
 abbrev pub locked : Marking
 locked = markingOf (abcd 0 0 1 1) (abcd 1 0 0 0) (abcd 1 1 1 0)
 
-both-judged : (judged table3 ≡ Done) × (judged paper ≡ Done)
-unfolding judgedFor graphWithin relationsWithin rowsWithin rowWithin markingWithin within isEmpty everyBelow bitsOf bit _and_ _or_ non rowAt withRow
-both-judged = (refl, refl)
+pub table-judged : judged table3 ≡ Done
+unfolding judgedFor graphWithin relationsWithin rowsWithin rowWithin markingWithin within isEmpty everyBelow bitsOf bit mem those _and_ _or_ non rowAt withRow
+table-judged = refl
+
+paper-judged : judged paper ≡ Done
+unfolding judgedFor graphWithin relationsWithin rowsWithin rowWithin markingWithin within isEmpty everyBelow bitsOf bit mem those _and_ _or_ non rowAt withRow
+paper-judged = refl
 
 abbrev pub run : List ℕ → Answer → ℕ → Marking → Bool → Type 0
 run trace a i m accepts = replayOf paper trace ≡ ending a i m accepts
@@ -88,10 +92,10 @@ pub examples :
     × run (2 ∷ 3 ∷ 2 ∷ 0 ∷ []) Waiting 3 locked false
     × run (2 ∷ 3 ∷ 2 ∷ 1 ∷ []) Waiting 3 locked false
     × run (2 ∷ 3 ∷ 2 ∷ 3 ∷ []) NotIncluded 3 locked false
-unfolding replayFrom enabled waits after accepting someBelow bitsOf bit _and_ _or_ non rowAt withRow inRow
+unfolding replayFrom enabled waits after accepting someBelow bitsOf bit mem those _and_ _or_ non rowAt withRow inRow
 examples =
-    let on = both-judged .1 in (
-      stepped-judged table3 (both-judged .0) table3-before (opening-inside table3 (judged-within table3 0 (both-judged .0))) 4,
+    let on = paper-judged in (
+      stepped-judged table3 table-judged table3-before (opening-inside table3 (judged-within table3 0 table-judged)) 4,
       replay-judged paper on _ (lit≤ tt),
       replay-judged paper on _ (lit≤ tt),
       replay-judged paper on _ (lit≤ tt),

@@ -5,7 +5,8 @@ use Rattle.sets.specs.Rows.{Relation, noRows, inRow}
 use Rattle.sets.specs.declared.set.Set.{Set}
 use Rattle.engine.specs.declared.marking.Marking.{Marking}
 use Rattle.engine.specs.declared.graph.Graph.{Graph}
-use Rattle.engine.specs.Markings.{noSet, emptyMarking}
+use Rattle.engine.specs.Markings.{emptyMarking}
+use Rattle.sets.specs.Members.{noSet}
 
 -- a graph by its parts: conditions, responses, includes and excludes come in this order
 abbrev pub graphOf : ℕ → Set → Marking → List ℕ → List ℕ → List ℕ → List ℕ → Graph

@@ -1,4 +1,5 @@
 -- From a file to its graph and back: every accepted file, read and written again, is that file, and its graph is acceptable. Assumes nothing.
+use Rattle.sets.specs.Members.{noSet}
 use mathlib.Core.Path.{_≡_, refl, sym, ap, _∙_, subst}
 use mathlib.Core.Bool.{Bool, true, false}
 use mathlib.Core.Logic.{_⊎_, inl, inr}
@@ -11,13 +12,13 @@ use lib.Dec.{T, eqb, ltb, eqb→eq, lit<}
 use lib.Arith.{lt-of-le-ne}
 use lib.ListN.{length, getD-replicate}
 use Rattle.sets.specs.Tests.{_and_, _or_, non, when_then_else_}
-use Rattle.sets.specs.Members.{width, bit, mem, everyBelow, isEmpty, within}
+use Rattle.sets.specs.Members.{width, bit, mem, everyBelow, isEmpty, within, those}
 use Rattle.sets.specs.Rows.{noRows, rowAt, withRow}
 use Rattle.sets.specs.declared.set.Set.{Set}
 use Rattle.sets.proofs.Tests.{split, either, T→true, F→false, false→F, and-i, or-r, eqb-of}
 use Rattle.sets.proofs.Below.{every-i}
 use Rattle.sets.proofs.Bits.{bit-above}
-use Rattle.sets.proofs.RowLaws.{row-in, row-out}
+use Rattle.sets.proofs.RowLaws.{row-in, row-out, row-put-other, length-put}
 use Rattle.sets.specs.declared.answer.Answer.the-variants.{Done}
 use Rattle.engine.specs.Judged.{rowWithin, rowsWithin, relationsWithin, graphWithin, judgedFor, judged}
 use Rattle.sets.specs.Sizes.{mostActivities}
@@ -31,7 +32,7 @@ use Rattle.graphfile.proofs.Codec.{Bytes}
 use Rattle.graphfile.proofs.Parts.{part, meet, length-part, part-whole, part-one, part-number, part-row, number-below}
 use Rattle.graphfile.proofs.Accepted.{Accepted, head-done, entry-done}
 use Rattle.graphfile.proofs.Stores.{length-rows}
-use Rattle.graphfile.proofs.Legal.{Legal, from-lower, filled-below, filled-first, filled-inside, put-other, length-put, done-legal}
+use Rattle.graphfile.proofs.Legal.{Legal, from-lower, filled-below, filled-first, filled-inside, done-legal}
 use Rattle.graphfile.proofs.Places.{rows-end}
 
 -- ---- the rows of a relation
@@ -86,7 +87,7 @@ module _ (events : Set) (bytes : List ℕ) (small : Bytes bytes) where
           let first = row-back a n k rows len l same (omega arith) in
           let rest =
           ih put (length-put rows (keyIn bytes k) (rowIn bytes k) ∙ len)
-          (λ b h. ap isEmpty (put-other rows (keyIn bytes k) b (rowIn bytes k) (λ q. omega arith)) ∙ none b (omega arith))
+          (λ b h. ap isEmpty (row-put-other rows (keyIn bytes k) (rowIn bytes k) b (λ q. omega arith)) ∙ none b (omega arith))
           (subst (λ (x : ℕ). Legal events bytes (suc x) n (suc k)) same (l .2)) in
           let size : rowLength + rowLength * n ≡ rowLength * suc n = omega arith in
           meet bytes _ _ (headLength + rowLength * k) rowLength (headLength + rowLength * suc k) (rowLength * n) (omega arith) first rest
@@ -98,7 +99,7 @@ module _ (events : Set) (bytes : List ℕ) (small : Bytes bytes) where
           (row-empty a _ (ap isEmpty (filled-below events bytes rows (suc a) (suc n) k a l′ (omega arith)) ∙ none a (omega arith)))
           ∙ stay l′
 
-no-row : (b : ℕ) → rowAt noRows b ≡ record { bits = 0 }
+no-row : (b : ℕ) → rowAt noRows b ≡ noSet
 unfolding rowAt
 no-row b =
     either (split (ltb b width))
@@ -106,12 +107,12 @@ no-row b =
     (λ g. sym (row-out noRows b (ltb-false b width (F→false _ g))))
 
 no-rows : (b : ℕ) → isEmpty (rowAt noRows b) ≡ true
-unfolding isEmpty everyBelow bit non _and_
+unfolding isEmpty everyBelow bit mem those non _and_
 no-rows b = ap isEmpty (no-row b)
 
 no-inside : (events : Set) (b : ℕ) → T (rowWithin events b (rowAt noRows b))
-unfolding rowWithin within isEmpty everyBelow bit non _and_ _or_
-no-inside events b = subst (λ (s : Set). T (rowWithin events b s)) (sym (no-row b)) (or-r (mem events b) (isEmpty (record { bits = 0 })) tt)
+unfolding rowWithin within isEmpty everyBelow bit mem those non _and_ _or_
+no-inside events b = subst (λ (s : Set). T (rowWithin events b s)) (sym (no-row b)) (or-r (mem events b) (isEmpty noSet) tt)
 
 -- ---- the parts of the file
 
@@ -121,6 +122,7 @@ rowsLength bytes = rowLength * countIn bytes 0 + rowLength * countIn bytes 1 + r
 
 module _ (bytes : List ℕ) (small : Bytes bytes) (ok : Accepted bytes) where
   event-low : (x : ℕ) → T (mem (eventsIn bytes) x) → x < width
+  unfolding mem
   event-low x t =
       either (split (ltb x width)) (λ l. ltb-true x width (T→true _ l))
       (λ g. absurd (false→F (bit-above width (eventsIn bytes .bits) x (number-below bytes small 8 4 (omega (arith, ok .long))) (ltb-false x width (F→false _ g))) t))

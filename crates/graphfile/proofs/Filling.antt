@@ -17,7 +17,8 @@ use Rattle.sets.proofs.Asking.{done-is, refused, passed, never-done}
 use Rattle.sets.proofs.Order.{refusal-last, turns-begin, turn-passed, turn-refused, turns-end}
 use Rattle.graphfile.proofs.Judging.{row-judged}
 use Rattle.graphfile.proofs.Accepted.{accepted}
-use Rattle.engine.specs.Markings.{noSet, emptyMarking}
+use Rattle.engine.specs.Markings.{emptyMarking}
+use Rattle.sets.specs.Members.{noSet}
 use Rattle.engine.specs.declared.marking.Marking.{Marking}
 use Rattle.engine.specs.declared.graph.Graph.{Graph}
 use Rattle.graphfile.specs.declared.reader.Reading.{Reading}

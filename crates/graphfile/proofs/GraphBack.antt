@@ -81,7 +81,7 @@ module _ (events : Set) (bytes rows tail : List ℕ) (machine : Rows64 rows) (in
     -- an empty row is as it was, and a row that is put stands there
     stays : isEmpty (rowAt rows a) ≡ true → so-far a (suc m) ≡ so-far (suc a) m
     stays t =
-        let none : rowAt rows a .bits ≡ 0 = eqb-true (rowAt rows a .bits) 0 (empty-bits (rowAt rows a .bits) row-fits ∙ t) in
+        let none : rowAt rows a .bits ≡ 0 = eqb-true (rowAt rows a .bits) 0 (empty-bits (rowAt rows a) row-fits ∙ t) in
         ap (λ (n : ℕ). take a rows ++ n ∷ replicate m 0) (sym none ∙ row-bits) ∙ next-row
 
     puts : withRow (so-far a (suc m)) a (rowAt rows a) ≡ so-far (suc a) m

@@ -16,36 +16,12 @@ use Rattle.sets.specs.Rows.{rowAt, withRow}
 use Rattle.sets.specs.declared.set.Set.{Set}
 use Rattle.sets.specs.declared.answer.Answer.the-variants.{Done, Outside, BadRow}
 use Rattle.sets.proofs.Tests.{split, T→true, false→F, non-false, and-i, or-l, eqb-of}
-use Rattle.sets.proofs.RowLaws.{row-in, put-in}
+use Rattle.sets.proofs.RowLaws.{length-put, row-put-same, row-put-other}
 use Rattle.engine.specs.Judged.{rowWithin}
 use Rattle.graphfile.specs.Layout.{eventsIn, keyIn, rowIn}
 use Rattle.graphfile.specs.Refusals.{rises, rowAnswer, judgedRow}
 use Rattle.graphfile.specs.Held.{filled}
 use Rattle.sets.proofs.Asking.{went}
-
--- ---- a row that is put into rows
-
-pub length-put : (rows : List ℕ) (a : ℕ) (s : Set) → length (withRow rows a s) ≡ length rows
-unfolding withRow
-length-put rows a s = by (ltb a width)
-  where
-    by : (b : Bool) → length (cond b (set rows a (s .bits)) rows) ≡ length rows
-    by true = length-set rows a (s .bits)
-    by false = refl
-
-pub put-same : (rows : List ℕ) (a : ℕ) (s : Set) → a < width → length rows ≡ width → rowAt (withRow rows a s) a ≡ s
-put-same rows a s l e =
-    sym (row-in (withRow rows a s) a l)
-    ∙ ap (λ (r : List ℕ). record { bits = getD r a 0 }) (sym (put-in rows a s l))
-    ∙ ap (λ (n : ℕ). record { bits = n }) (getD-set-same rows a (s .bits) 0 (omega arith))
-
-pub put-other : (rows : List ℕ) (a b : ℕ) (s : Set) → (b ≡ a → ⊥) → rowAt (withRow rows a s) b ≡ rowAt rows b
-unfolding rowAt withRow
-put-other rows a b s n = by (ltb a width)
-  where
-    by : (c : Bool) → _≡_ {A = Set} (record { bits = cond (ltb b width) (getD (cond c (set rows a (s .bits)) rows) b 0) 0 }) (record { bits = cond (ltb b width) (getD rows b 0) 0 })
-    by true = ap (λ (x : ℕ). record { bits = cond (ltb b width) x 0 }) (getD-set-other rows a b (s .bits) 0 n)
-    by false = refl
 
 -- ---- n rows of the file from row k on, with rising keys from a on
 
@@ -73,14 +49,14 @@ module _ (events : Set) (bytes : List ℕ) where
   filled-below rows a (suc n) k b l h =
       let up = l .0 in
       filled-below (withRow rows (keyIn bytes k) (rowIn bytes k)) (suc (keyIn bytes k)) n (suc k) b (l .2) (omega arith)
-      ∙ put-other rows (keyIn bytes k) b (rowIn bytes k) (λ e. omega arith)
+      ∙ row-put-other rows (keyIn bytes k) (rowIn bytes k) b (λ e. omega arith)
 
   -- at the first key stands its set
   pub filled-first : (rows : List ℕ) (a n k : ℕ) → length rows ≡ width → Legal events bytes a (suc n) k → rowAt (filled bytes rows (suc n) k) (keyIn bytes k) ≡ rowIn bytes k
   unfolding filled
   filled-first rows a n k e l =
       filled-below (withRow rows (keyIn bytes k) (rowIn bytes k)) (suc (keyIn bytes k)) n (suc k) (keyIn bytes k) (l .2) (omega arith)
-      ∙ put-same rows (keyIn bytes k) (rowIn bytes k) (l .1 .low) e
+      ∙ row-put-same rows (keyIn bytes k) (rowIn bytes k) (l .1 .low) e
 
   -- a legal row is within the events as a row of a graph is
   row-inside : (k : ℕ) → LegalRow events bytes k → T (rowWithin events (keyIn bytes k) (rowIn bytes k))
@@ -100,9 +76,9 @@ module _ (events : Set) (bytes : List ℕ) where
       put b h (inl t) =
           let same : b ≡ keyIn bytes k = eqb→eq b (keyIn bytes k) t in
           subst (λ (x : ℕ). T (rowWithin events x (rowAt (withRow rows (keyIn bytes k) (rowIn bytes k)) x))) (sym same)
-          (subst (λ (s : Set). T (rowWithin events (keyIn bytes k) s)) (sym (put-same rows (keyIn bytes k) (rowIn bytes k) (l .1 .low) e)) (row-inside k (l .1)))
+          (subst (λ (s : Set). T (rowWithin events (keyIn bytes k) s)) (sym (row-put-same rows (keyIn bytes k) (rowIn bytes k) (l .1 .low) e)) (row-inside k (l .1)))
       put b h (inr n) =
-          subst (λ (s : Set). T (rowWithin events b s)) (sym (put-other rows (keyIn bytes k) b (rowIn bytes k) (λ q. n (eqb-of q)))) (f b h)
+          subst (λ (s : Set). T (rowWithin events b s)) (sym (row-put-other rows (keyIn bytes k) (rowIn bytes k) b (λ q. n (eqb-of q)))) (f b h)
 
 -- ---- legal rows are those that are judged done
 

@@ -7,7 +7,7 @@ use borrow.Author.Tests.{le-ltb}
 use lib.ListN.{length, take, drop, replicate}
 use lib.Seq.{take-at}
 use Rattle.sets.specs.Tests.{_and_, non, when_then_else_}
-use Rattle.sets.specs.Members.{bit, everyBelow, isEmpty}
+use Rattle.sets.specs.Members.{bit, everyBelow, isEmpty, mem, those}
 use Rattle.sets.specs.Rows.{rowAt}
 use Rattle.sets.specs.Answers.{isDone}
 use Rattle.sets.specs.declared.answer.Answer.{Answer}
@@ -127,5 +127,5 @@ fileOfG =
     ∷ []
 
 pub file-of-G : (bytesOf exampleG ≡ fileOfG) × (length fileOfG ≡ 124)
-unfolding bytesOf openingBytes markingBytes entriesBytes relationsBytes rowsFrom countFrom rowOf rowsFor littleEndian rowAt isEmpty everyBelow bit non _and_
+unfolding bytesOf openingBytes markingBytes entriesBytes relationsBytes rowsFrom countFrom rowOf rowsFor littleEndian rowAt isEmpty everyBelow bit mem those non _and_
 file-of-G = (refl, refl)

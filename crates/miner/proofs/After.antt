@@ -14,7 +14,7 @@ use Rattle.sets.specs.Tests.{_and_, _or_, non}
 use Rattle.sets.specs.Members.{width, mem, those}
 use Rattle.sets.specs.declared.set.Set.{Set}
 use Rattle.sets.proofs.Tests.{T→true, F→false, split, either, and-true, or-true, or-false, false-and, non-non}
-use Rattle.sets.proofs.Members.{those-ext, those-of, those-mem}
+use Rattle.sets.proofs.Members.{those-ext, those-of, those-mem, Fits}
 use Rattle.rules.specs.Traces.{_has_}
 use Rattle.miner.proofs.Turns.{rest-next, seenIn}
 use Rattle.miner.proofs.Tautologies.{and-false}
@@ -144,12 +144,12 @@ module _ (after : Set) (last : List ℕ) (e i : ℕ) where
   unfolding non
   stays x f = sym (and-true (mem after x)) ∙ ap (λ (c : Bool). mem after x and non c) (sym f)
 
-  pub left-not : after .bits < 2 ^ width → (getD last e 0 ≡ i → ⊥) → after ≡ those leaving
+  pub left-not : Fits after → (getD last e 0 ≡ i → ⊥) → after ≡ those leaving
   left-not s f =
       sym (those-mem after s)
       ∙ those-ext (mem after) leaving (λ x l. stays x (ap (λ (c : Bool). eqb x e and c) (ne-eqb (getD last e 0) i f) ∙ and-false (eqb x e)))
 
-  pub left-out : after .bits < 2 ^ width → width ≤ e → after ≡ those leaving
+  pub left-out : Fits after → width ≤ e → after ≡ those leaving
   left-out s g =
       sym (those-mem after s)
       ∙ those-ext (mem after) leaving

@@ -1,4 +1,5 @@
 -- Sets made of sets: what has the members that are known of the parts. The rows of src/steps.rt are made so. Assumes nothing.
+use Rattle.sets.specs.Members.{noSet}
 use mathlib.Core.Path.{_≡_, refl, sym, ap, ap₂, _∙_, subst}
 use mathlib.Core.Bool.{Bool, true, false, not}
 use mathlib.Core.List.{List}
@@ -11,8 +12,8 @@ use Rattle.sets.specs.Members.{width, mem, those, someBelow, isEmpty}
 use Rattle.sets.specs.Rows.{rowAt, inRow}
 use Rattle.sets.specs.declared.set.Set.{Set}
 use Rattle.sets.proofs.Tests.{T-ext, and-l, and-r, and-i, eqb-of, true-and, false-and, and-true, not-non, non-non}
-use Rattle.sets.proofs.Bits.{bit-zero}
-use Rattle.sets.proofs.Members.{those-ext, mem-those, empty-none, is-those as only}
+use Rattle.sets.proofs.Members.{mem-none}
+use Rattle.sets.proofs.Members.{those-ext, mem-those, empty-none, none-those}
 use Rattle.miner.specs.Reading.{excludesItself, diagonal}
 use Rattle.miner.proofs.Tautologies.{and-false}
 
@@ -32,8 +33,8 @@ pub joined : (op : Bool → Bool → Bool) (s t u : Set) (p q : ℕ → Bool) �
 joined op s t u p q hs ht hu = hu ∙ those-ext (λ a. op (mem s a) (mem t a)) (λ a. op (p a) (q a)) (λ a l. ap₂ op (hs a l) (ht a l))
 
 -- a set of nothing
-pub none : (p : ℕ → Bool) → ((a : ℕ) → a < width → p a ≡ false) → _≡_ {A = Set} (record { bits = 0 }) (those p)
-none p e = only 0 p (omega arith) (λ a l. bit-zero a ∙ sym (e a l))
+pub none : (p : ℕ → Bool) → ((a : ℕ) → a < width → p a ≡ false) → _≡_ {A = Set} noSet (those p)
+none p e = none-those p e
 
 pub without : (s u : Set) (p : ℕ → Bool) → Is s p → u ≡ those (λ a. non (mem s a)) → u ≡ those (λ a. non (p a))
 without s u p hs hu = hu ∙ those-ext (λ a. non (mem s a)) (λ a. non (p a)) (λ a l. ap non (hs a l))
@@ -47,10 +48,10 @@ module _ (r t : Bool) (e : r ≡ t) (p : ℕ → Bool) where
   pub where-true : (s : Set) → s ≡ those p → r ≡ true → s ≡ those (λ x. t and p x)
   where-true s h y = h ∙ those-ext p (λ x. t and p x) (λ x l. sym (true-and (p x)) ∙ ap (λ (b : Bool). b and p x) (sym y ∙ e))
 
-  pub where-false : r ≡ false → _≡_ {A = Set} (record { bits = 0 }) (those (λ x. t and p x))
+  pub where-false : r ≡ false → _≡_ {A = Set} noSet (those (λ x. t and p x))
   where-false n = none (λ x. t and p x) (λ x l. ap (λ (b : Bool). b and p x) (sym e ∙ n) ∙ false-and (p x))
 
-  pub unless-true : r ≡ true → _≡_ {A = Set} (record { bits = 0 }) (those (λ x. p x and non t))
+  pub unless-true : r ≡ true → _≡_ {A = Set} noSet (those (λ x. p x and non t))
   unfolding non
   unless-true y = none (λ x. p x and non t) (λ x l. ap (λ (b : Bool). p x and non b) (sym e ∙ y) ∙ and-false (p x))
 

@@ -1,4 +1,5 @@
 -- A loop that passes a set member by member, the least first, until none is left. Assumes nothing.
+use Rattle.sets.specs.Members.{noSet}
 use mathlib.Core.Path.{_≡_, refl, sym, ap, _∙_, subst}
 use mathlib.Core.Bool.{Bool, true, false, not}
 use mathlib.Core.Logic.{_⊎_, inl, inr}
@@ -124,7 +125,7 @@ abbrev pub inSome : List ℕ → (ℕ → Bool) → ℕ → Bool
 inSome rows p x = someBelow width (λ u. p u and inRow rows u x)
 
 module _ (rows : List ℕ) (all : Set) where
-  pub union-start : (Part all all) × _≡_ {A = Set} (record { bits = 0 }) (those (inSome rows (passed all all)))
+  pub union-start : (Part all all) × _≡_ {A = Set} noSet (those (inSome rows (passed all all)))
   union-start = (
     λ a l t. t,
     none (inSome rows (passed all all))

@@ -1,5 +1,6 @@
 -- The transitive reduction, by loops over the members of a row: what is known of a row while its targets are judged, and of a target while its
 -- middles are tried. Assumes nothing.
+use Rattle.sets.specs.Members.{noSet}
 use mathlib.Core.Path.{_≡_, refl, sym, ap, _∙_, subst}
 use mathlib.Core.Bool.{Bool, true, false, not}
 use mathlib.Core.List.{List}
@@ -12,9 +13,9 @@ use Rattle.sets.specs.Members.{width, mem, those, isEmpty, someBelow, leastBelo
 use Rattle.sets.specs.Rows.{rowAt, inRow}
 use Rattle.sets.specs.declared.set.Set.{Set}
 use Rattle.sets.proofs.Tests.{and-i, and-l, and-r, and-true, non-i, non-e, non-non, non-false, true→T, false→F, F→false}
-use Rattle.sets.proofs.Bits.{bit-zero}
+use Rattle.sets.proofs.Members.{mem-none}
 use Rattle.sets.proofs.Below.{some-i, some-e, least-is, least-lt}
-use Rattle.sets.proofs.Members.{is-those, those-ext, those-of, those-e, those-i, empty-e, empty-none}
+use Rattle.sets.proofs.Members.{none-those, those-ext, those-of, those-e, those-i, empty-e, empty-none}
 use Rattle.miner.specs.Reading.{reducedOf}
 
 -- ---- a turn of a loop over a set's members
@@ -86,14 +87,14 @@ pub record Judging (rows : List ℕ) (s : ℕ) (kept targets : Set) : Type 0 whe
   pub part : Part rows s targets
   pub judged : kept ≡ those (λ x. reducedOf rows s x and non (mem targets x))
 
-pub judging-row : (rows : List ℕ) (s : ℕ) (from : Set) → from ≡ rowAt rows s → Judging rows s (record { bits = 0 }) from
+pub judging-row : (rows : List ℕ) (s : ℕ) (from : Set) → from ≡ rowAt rows s → Judging rows s noSet from
 unfolding reducedOf inRow
 judging-row rows s from e =
     record {
       part = part-row rows s from e;
       judged =
-          is-those 0 _ (omega arith)
-          (λ x l. bit-zero x ∙ sym (F→false _ (λ h. non-e _ (and-r _ _ h) (subst (λ (u : Set). T (mem u x)) (sym e) (and-l _ _ (and-l _ _ h))))));
+          none-those _
+          (λ x l. F→false _ (λ h. non-e _ (and-r _ _ h) (subst (λ (u : Set). T (mem u x)) (sym e) (and-l _ _ (and-l _ _ h)))));
     }
 
 -- one target q less in m, where p is kept

@@ -1,4 +1,5 @@
 -- Loops over the width: rows that are filled or scattered, a set that is gathered. What the loops of src/steps.rt cite. Assumes nothing.
+use Rattle.sets.specs.Members.{noSet}
 use mathlib.Core.Path.{_≡_, refl, sym, ap, ap₂, _∙_, subst}
 use mathlib.Core.Bool.{Bool, true, false}
 use mathlib.Core.List.{List}
@@ -82,7 +83,7 @@ abbrev pub passing : (ℕ → Bool) → ℕ → ℕ → Bool
 passing p i a = ltb a i and p a
 
 module _ (p : ℕ → Bool) where
-  pub gather-start : _≡_ {A = Set} (record { bits = 0 }) (those (passing p 0))
+  pub gather-start : _≡_ {A = Set} noSet (those (passing p 0))
   gather-start = none (passing p 0) (λ a l. ap (λ (t : Bool). t and p a) (le-ltb a 0 (omega arith)) ∙ false-and (p a))
 
   pub gather-turn : (i : ℕ) (t : Bool) (one out out′ : Set) → out ≡ those (passing p i) → t ≡ p i → one ≡ those (λ x. t and eqb x i)

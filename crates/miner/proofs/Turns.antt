@@ -1,4 +1,5 @@
 -- One turn of a pass over a trace: what stands before place i, the set of it, and what the row of the event gains. Assumes nothing.
+use Rattle.sets.specs.Members.{noSet}
 use mathlib.Core.Path.{_≡_, refl, sym, ap, _∙_}
 use mathlib.Core.Bool.{Bool, true, false}
 use mathlib.Core.List.{List, [], _∷_, _++_, reverseAux}
@@ -41,12 +42,12 @@ abbrev pub lastIn : List ℕ → Set
 lastIn past = those (λ x. past beginsWith x)
 
 -- of an empty list both are the empty set
-pub seen-none : _≡_ {A = Set} (record { bits = 0 }) (seenIn [])
-unfolding _has_ bitsOf
+pub seen-none : _≡_ {A = Set} noSet (seenIn [])
+unfolding _has_ bitsOf those
 seen-none = refl
 
-pub last-none : _≡_ {A = Set} (record { bits = 0 }) (lastIn [])
-unfolding _beginsWith_ bitsOf
+pub last-none : _≡_ {A = Set} noSet (lastIn [])
+unfolding _beginsWith_ bitsOf those
 last-none = refl
 
 or-comm : (a b : Bool) → (a or b) ≡ (b or a)

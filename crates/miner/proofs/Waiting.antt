@@ -8,7 +8,7 @@ use Rattle.sets.specs.Tests.{_and_, _or_, non}
 use Rattle.sets.specs.Members.{width, mem, those}
 use Rattle.sets.specs.Rows.{rowAt, inRow}
 use Rattle.sets.specs.declared.set.Set.{Set}
-use Rattle.sets.proofs.Members.{those-of, those-mem}
+use Rattle.sets.proofs.Members.{those-of, those-mem, Fits}
 use Rattle.rules.specs.Traces.{_has_}
 use Rattle.miner.specs.Passes.{gained, gains, forward, beforeFirst, stillIncluded, missed}
 use Rattle.miner.proofs.Turns.{pastAt, past-next, seenIn, forward-next}
@@ -49,7 +49,7 @@ module _ (events : Set) (includes excludes : List ℕ) where
   abbrev pub openAfter : List ℕ → Set
   openAfter past = those (stillIncluded events includes excludes past)
 
-  pub open-first : events .bits < 2 ^ width → events ≡ openAfter []
+  pub open-first : Fits events → events ≡ openAfter []
   unfolding stillIncluded
   open-first l = sym (those-mem events l)
 

@@ -1,4 +1,5 @@
 -- A walk over the parts of a log's bytes: one part further, and the end. Assumes nothing.
+use Rattle.sets.specs.Members.{noSet}
 use mathlib.Core.Path.{_≡_, refl, sym, ap, _∙_}
 use mathlib.Core.Bool.{Bool, true, false}
 use mathlib.Core.List.{List, [], _∷_}
@@ -11,7 +12,7 @@ use Rattle.sets.specs.Members.{mem, those}
 use Rattle.sets.specs.declared.set.Set.{Set}
 use Rattle.sets.proofs.Members.{those-ext, those-of}
 use Rattle.sets.proofs.Tests.{or-false, false-or}
-use Rattle.sets.proofs.Bits.{bit-zero}
+use Rattle.sets.proofs.Members.{mem-none}
 use Rattle.calllog.specs.declared.trace.Part.{Part}
 use Rattle.calllog.specs.Logs.{partOf}
 use Rattle.rules.specs.Traces.{Traces, _has_, someTrace}
@@ -101,9 +102,9 @@ module _ (log : List ℕ) (n k : ℕ) (all : Set) where
       ∙ ap (eventsFrom events) (sym (walked-end log n k h))
       ∙ inv
 
-pub events-start : (log : List ℕ) (n : ℕ) (events : Set) → events ≡ record { bits = 0 } → eventsFrom events (walked log (n - 0) 0) ≡ those (λ x. someTrace (walked log n 0) (λ σ. σ has x))
+pub events-start : (log : List ℕ) (n : ℕ) (events : Set) → events ≡ noSet → eventsFrom events (walked log (n - 0) 0) ≡ those (λ x. someTrace (walked log n 0) (λ σ. σ has x))
 events-start log n events e =
     ap (λ (s : Set). eventsFrom s (walked log (n - 0) 0)) e
-    ∙ ap (eventsFrom (record { bits = 0 })) (walked-start log n)
-    ∙ those-ext (λ x. mem (record { bits = 0 }) x or someTrace (walked log n 0) (λ σ. σ has x)) (λ x. someTrace (walked log n 0) (λ σ. σ has x))
-    (λ x l. ap (λ (t : Bool). t or someTrace (walked log n 0) (λ σ. σ has x)) (bit-zero x) ∙ false-or _)
+    ∙ ap (eventsFrom noSet) (walked-start log n)
+    ∙ those-ext (λ x. mem noSet x or someTrace (walked log n 0) (λ σ. σ has x)) (λ x. someTrace (walked log n 0) (λ σ. σ has x))
+    (λ x l. ap (λ (t : Bool). t or someTrace (walked log n 0) (λ σ. σ has x)) (mem-none x) ∙ false-or _)

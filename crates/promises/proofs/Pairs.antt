@@ -8,9 +8,9 @@ use Rattle.sets.specs.Members.{width, mem, those}
 use Rattle.sets.specs.Rows.{Relation, rowAt, inRow, rowsOf}
 use Rattle.sets.specs.declared.set.Set.{Set}
 use Rattle.sets.proofs.Tests.{T-eq, T-ext, T→true, F→false, split, either}
-use Rattle.sets.proofs.Bits.{bit-zero}
+use Rattle.sets.proofs.Members.{mem-none}
 use Rattle.sets.proofs.Members.{those-e, those-i}
-use Rattle.sets.proofs.RowLaws.{row-in, row-out, getD-rowsOf, in-rowsOf}
+use Rattle.sets.proofs.RowLaws.{row-rowsOf, row-out, in-rowsOf}
 use Rattle.rules.specs.Traces.{Traces}
 use Rattle.rules.specs.Mining.{event, mined}
 use Rattle.rules.specs.Mined.{graphFrom, minedGraph}
@@ -26,9 +26,9 @@ in-below r a b t =
     either (split (ltb a width))
     (λ h.
     let l : a < width = ltb-true a width (T→true _ h) in
-    let row : rowAt (rowsOf r) a ≡ those (r a) = sym (row-in (rowsOf r) a l) ∙ ap (λ (n : ℕ). record { bits = n }) (getD-rowsOf r a l) in
+    let row : rowAt (rowsOf r) a ≡ those (r a) = row-rowsOf r a l in
     (l, those-e (r a) b (T-eq (ap (λ (s : Set). mem s b) row) t) .0))
-    (λ h. absurd (T-eq (ap (λ (s : Set). mem s b) (sym (row-out (rowsOf r) a (ltb-false a width (F→false _ h)))) ∙ bit-zero b) t))
+    (λ h. absurd (T-eq (ap (λ (s : Set). mem s b) (sym (row-out (rowsOf r) a (ltb-false a width (F→false _ h)))) ∙ mem-none b) t))
 
 -- so the rows of a relation that holds of activities below the width alone are that relation, for all numbers
 whole : (r : Relation) → ((a b : ℕ) → T (r a b) → (a < width) × (b < width)) → (a b : ℕ) → inRow (rowsOf r) a b ≡ r a b

@@ -8,7 +8,7 @@ use native.Mathlib.Nat.{add-zero}
 use lib.Dec.{eqb}
 use lib.ListN.{length, getD}
 use Rattle.sets.specs.Tests.{_and_, _or_, non, when_then_else_}
-use Rattle.sets.specs.Members.{bit, bitsOf, someBelow, everyBelow, isEmpty, within}
+use Rattle.sets.specs.Members.{bit, bitsOf, someBelow, everyBelow, isEmpty, within, mem, those}
 use Rattle.sets.specs.Rows.{noRows, rowAt, inRow, listFrom, rowsOf}
 use Rattle.sets.specs.Answers.{isDone}
 use Rattle.sets.specs.declared.answer.Answer.the-variants.{Done, NotIncluded}
@@ -39,7 +39,7 @@ use Rattle.promises.specs.Demanded.{Refused}
 
 graph-L : minedGraph 3 tracesL ≡ G
 unfolding tracesL G
-    _and_ _or_ non bit bitsOf someBelow listFrom rowsOf
+    _and_ _or_ non bit mem those bitsOf someBelow listFrom rowsOf
     _has_ _beginsWith_ atEachFrom atSomeFrom everyTrace someTrace
     noPair noRelations smallestSource _without_ event someEvent _with_ atMostOnce precedes answers chained together before followed between alternates beforeFirst
     step1 step2 directlyBefore step3 neverTogether step4 closes step5 step6 step7 reduced step8 includedAfter neverMissed step9 step10
@@ -101,7 +101,7 @@ first-works g e = by (replayOf g (e ∷ [])) (isDone (replayOf g (e ∷ []) .ans
 -- on G, 0 is enabled once: ⟨0⟩ is done, and ⟨0,0⟩ is refused with 9
 on-G : (replayOf G (0 ∷ []) .answer ≡ Done) × (replayOf G (0 ∷ 0 ∷ []) .answer ≡ NotIncluded)
 unfolding G listFrom
-    _and_ _or_ non bit bitsOf someBelow everyBelow isEmpty within rowAt inRow
+    _and_ _or_ non bit mem those bitsOf someBelow everyBelow isEmpty within rowAt inRow
     waits enabled after accepting markingWithin rowWithin rowsWithin relationsWithin graphWithin judgedFor replayFrom replayOf
 on-G = (refl, refl)
 

@@ -4,7 +4,7 @@ use mathlib.Core.List.{List, [], _∷_, _++_}
 use Prim.Native.Nat.{ℕ, _+_}
 use lib.ListN.{getD}
 use Rattle.sets.specs.Tests.{_and_, _or_, non}
-use Rattle.sets.specs.Members.{bit, bitsOf, someBelow, everyBelow, countBelow, isEmpty, within}
+use Rattle.sets.specs.Members.{bit, bitsOf, someBelow, everyBelow, countBelow, isEmpty, within, mem, those}
 use Rattle.sets.specs.Rows.{rowAt, inRow, listFrom, rowsOf}
 use Rattle.engine.specs.declared.graph.Graph.{Graph}
 use Rattle.engine.specs.Steps.{waits, enabled, after, accepting}
@@ -70,7 +70,7 @@ printed =
 -- the graph of L, by its rows
 graph : minedGraph 3 L ≡ G
 unfolding L G
-    _and_ _or_ non bit bitsOf someBelow everyBelow listFrom rowsOf
+    _and_ _or_ non bit mem those bitsOf someBelow everyBelow listFrom rowsOf
     _has_ _beginsWith_ atEachFrom atSomeFrom everyTrace someTrace
     noPair noRelations smallestSource _without_ event someEvent _with_ atMostOnce precedes answers chained together before followed between alternates beforeFirst
     step1 step2 directlyBefore step3 neverTogether step4 closes step5 step6 step7 reduced step8 includedAfter neverMissed step9 step10
@@ -79,7 +79,7 @@ graph = refl
 
 lines : linesOf G L ≡ printed
 unfolding L G printed first
-    _and_ _or_ non bit bitsOf someBelow everyBelow countBelow isEmpty within rowAt inRow listFrom
+    _and_ _or_ non bit mem those bitsOf someBelow everyBelow countBelow isEmpty within rowAt inRow listFrom
     waits enabled after accepting markingWithin rowWithin rowsWithin relationsWithin graphWithin judgedFor replayFrom replayOf
     figures line passing pairsFrom firstLine pairLine pairLines traceLine traceLines relationLines linesOf
 lines = refl

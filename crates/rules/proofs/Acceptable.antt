@@ -9,11 +9,11 @@ use Rattle.sets.specs.Members.{width, mem, those, isEmpty, within}
 use Rattle.sets.specs.Rows.{Relation, rowAt, inRow, rowsOf}
 use Rattle.sets.specs.declared.answer.Answer.the-variants.{Done}
 use Rattle.sets.proofs.Tests.{and-i, or-l, or-r, non-i, non-e, T-eq, true→T, F→false, split, either}
-use Rattle.sets.proofs.Bits.{bit-zero}
+use Rattle.sets.proofs.Members.{mem-none}
 use Rattle.sets.proofs.Below.{every-i}
 use Rattle.sets.proofs.Members.{those-i, those-e, within-i}
 use Rattle.sets.proofs.RowLaws.{in-rowsOf}
-use Rattle.engine.specs.Markings.{noSet}
+use Rattle.sets.specs.Members.{noSet}
 use Rattle.engine.specs.Judged.{rowWithin, rowsWithin, relationsWithin, graphWithin, judgedFor, judged}
 use Rattle.sets.specs.Sizes.{mostActivities}
 use Rattle.engine.proofs.Acceptable.{marking-whole}
@@ -47,7 +47,7 @@ module _ (A : ℕ) (L : Traces) (ok : Accepted A L) where
   unfolding graphWithin relationsWithin minedGraph graphFrom
   graph-within =
       let E = those (event L) in
-      let none : T (within noSet E) = within-i noSet E (λ a l t. absurd (T-eq (bit-zero a) t)) in
+      let none : T (within noSet E) = within-i noSet E (λ a l t. absurd (T-eq (mem-none a) t)) in
       and-i _ _
       (and-i _ _
       (within-i E _ (λ a l t. those-i _ a l (true→T (lt-ltb a A (event-below a (those-e (event L) a t .1))))))

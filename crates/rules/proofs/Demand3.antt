@@ -16,14 +16,14 @@ use Rattle.sets.specs.declared.set.Set.{Set}
 use Rattle.sets.specs.declared.answer.Answer.{Answer}
 use Rattle.sets.specs.declared.answer.Answer.the-variants.{Done}
 use Rattle.sets.proofs.Tests.{and-l, and-r, or-e, or-l, or-r, non-i, non-e, T-eq, T→true, F→false, T-ext, either}
-use Rattle.sets.proofs.Bits.{bit-zero}
+use Rattle.sets.proofs.Members.{mem-none}
 use Rattle.sets.proofs.Below.{some-e}
 use Rattle.sets.proofs.Members.{mem-those, those-i, those-ext}
 use Rattle.sets.proofs.RowLaws.{in-rowsOf}
 use Rattle.engine.specs.declared.marking.Marking.{Marking}
 use Rattle.engine.specs.declared.graph.Graph.{Graph}
 use Rattle.engine.specs.declared.replay.Replayed.{Replayed}
-use Rattle.engine.specs.Markings.{noSet}
+use Rattle.sets.specs.Members.{noSet}
 use Rattle.engine.specs.Relations.{relationsOf}
 use Rattle.engine.specs.Steps.{waits, enabled, after, accepting}
 use Rattle.sets.specs.Sizes.{longestTrace}
@@ -57,7 +57,7 @@ or-swap : (a b : Bool) → (a or b) ≡ (b or a)
 or-swap a b = T-ext _ _ (λ t. either (or-e _ _ t) (λ x. or-r _ _ x) (λ x. or-l _ _ x)) (λ t. either (or-e _ _ t) (λ x. or-r _ _ x) (λ x. or-l _ _ x))
 
 none : those (λ a. false) ≡ noSet
-unfolding bitsOf
+unfolding bitsOf those
 none = refl
 
 -- nothing is pending where nothing is left to come
@@ -70,7 +70,7 @@ unfolding accepting
 accepts m e =
     T→true _ (non-i _ (λ t.
     let r = some-e width _ t in
-    T-eq (ap (λ (s : Set). mem s (r .0)) e ∙ bit-zero (r .0)) (and-l _ _ (r .2))))
+    T-eq (ap (λ (s : Set). mem s (r .0)) e ∙ mem-none (r .0)) (and-l _ _ (r .2))))
 
 module _ (A : ℕ) (L : Traces) where
   abbrev G : Graph
@@ -80,7 +80,7 @@ module _ (A : ℕ) (L : Traces) where
   unfolding minedGraph graphFrom includedAfter _has_
   opens σ =
       record {
-        ran = λ a l. bit-zero a;
+        ran = λ a l. mem-none a;
         open-now = λ a l. mem-those (event L) a l;
         due = λ a. false;
         pends = sym none;

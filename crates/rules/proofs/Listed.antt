@@ -1,9 +1,9 @@
 -- Graphs, logs and results as 01 writes them down: a relation by its pairs, a set by its members. For the tables of worked cases.
 use mathlib.Core.Bool.{Bool, false}
-use mathlib.Core.List.{List, [], _∷_, _++_}
+use mathlib.Core.List.{List, [], _∷_, _++_, _++_}
 use Prim.Native.Nat.{ℕ}
 use lib.Dec.{eqb}
-use lib.ListN.{getD}
+use lib.ListN.{getD, replicate}
 use Rattle.sets.specs.Tests.{_and_, _or_, when_then_else_}
 use Rattle.sets.specs.Members.{width, those}
 use Rattle.sets.specs.Rows.{Relation, listFrom, rowsOf}

@@ -23,12 +23,16 @@ bitsOf zero p = 0
 bitsOf (suc w) p = digit (p 0) + 2 * bitsOf w (λ a. p (suc a))
 
 -- a is a member of s
-abbrev pub mem : Set → ℕ → Bool
+unfoldable pub mem : Set → ℕ → Bool
 mem s a = bit (s .bits) a
 
 -- the set of the activities that pass
-abbrev pub those : (ℕ → Bool) → Set
+unfoldable pub those : (ℕ → Bool) → Set
 those p = record { bits = bitsOf width p }
+
+-- the set without a member
+abbrev pub noSet : Set
+noSet = record { bits = 0 }
 
 -- some number below w passes
 unfoldable pub someBelow : ℕ → (ℕ → Bool) → Bool

@@ -1,10 +1,11 @@
 -- A relation kept as one set for each activity.
-use mathlib.Core.Bool.{Bool, cond}
+use mathlib.Core.Bool.{Bool}
 use mathlib.Core.List.{List, [], _∷_}
 use Prim.Native.Nat.{ℕ, zero, suc}
 use lib.Dec.{ltb}
 use lib.ListN.{getD, set, replicate}
-use Rattle.sets.specs.Members.{width, mem, those}
+use Rattle.sets.specs.Tests.{when_then_else_}
+use Rattle.sets.specs.Members.{width, mem, those, noSet}
 use Rattle.sets.specs.declared.set.Set.{Set}
 
 -- a relation, as a test of two activities
@@ -17,11 +18,11 @@ noRows = replicate width 0
 
 -- row a; empty past the last
 unfoldable pub rowAt : List ℕ → ℕ → Set
-rowAt rows a = record { bits = cond (ltb a width) (getD rows a 0) 0 }
+rowAt rows a = when ltb a width then record { bits = getD rows a 0 } else noSet
 
 -- the rows with s at a; the same where there is no row a
 unfoldable pub withRow : List ℕ → ℕ → Set → List ℕ
-withRow rows a s = cond (ltb a width) (set rows a (s .bits)) rows
+withRow rows a s = when ltb a width then set rows a (s .bits) else rows
 
 -- b stands in row a
 unfoldable pub inRow : List ℕ → Relation

@@ -1,5 +1,6 @@
 -- The invariant: the rows are those of the pass over what was passed of the trace; `after` and `next` are the sets of what stands
 -- after the place and directly after it.
+use Rattle.sets.specs.Members.{noSet}
 use mathlib.Core.Path.{_≡_, refl, sym, ap, subst, _∙_}
 use mathlib.Core.List.{List}
 use Prim.Native.Nat.{ℕ, _+_, _-_, _≤_, _<_}
@@ -25,7 +26,7 @@ record Passed (σ l₀ u₀ f₀ l u f : List ℕ) (after next : Set) (i : ℕ) 
   followed : f ≡ backward isNext f₀ (pastAt σ i) (drop i σ)
 
 module _ {σ l₀ u₀ f₀ l u f : List ℕ} {after next : Set} where
-  start : l ≡ l₀ → u ≡ u₀ → f ≡ f₀ → after ≡ record { bits = 0 } → next ≡ record { bits = 0 } → Passed σ l₀ u₀ f₀ l u f after next (length σ)
+  start : l ≡ l₀ → u ≡ u₀ → f ≡ f₀ → after ≡ noSet → next ≡ noSet → Passed σ l₀ u₀ f₀ l u f after next (length σ)
   start hl hu hf ha hn =
       record {
         reached = omega arith;

@@ -1,4 +1,5 @@
 -- The invariant: what is left of the walk, from the rows as they are, gives the whole walk.
+use Rattle.sets.specs.Members.{noSet}
 use mathlib.Core.Path.{_≡_, refl}
 use mathlib.Core.List.{List, []}
 use Prim.Native.Nat.{ℕ, _+_, _-_, _≤_, _<_}
@@ -36,12 +37,12 @@ record Walked (log : List ℕ) (n : ℕ) (b₀ l₀ p₀ w₀ c₀ a₀ f₀ b l
   unalternated : Left (ahead notSince) log n k a₀ a
   followed : Left (back isNext) log n k f₀ f
 
-start : (log : List ℕ) (n : ℕ) (b l p w c a f : List ℕ) → Walked log n b l p w c a f b l p w c a f (record { bits = 0 }) 0
+start : (log : List ℕ) (n : ℕ) (b l p w c a f : List ℕ) → Walked log n b l p w c a f b l p w c a f noSet 0
 start log n b l p w c a f =
     record {
       reached = omega arith;
-      a-set = those-mem (record { bits = 0 }) (omega arith);
-      events-are = events-start log n (record { bits = 0 }) refl;
+      a-set = those-mem noSet (omega arith);
+      events-are = events-start log n noSet refl;
       before = through-start (ahead isEarlier) log n _ b refl;
       later = through-start (back isLater) log n _ l refl;
       unpreceded = through-start (ahead notEarlier) log n _ p refl;
