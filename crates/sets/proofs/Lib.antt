@@ -2,6 +2,7 @@
 pub mod Tests
 pub mod Bits
 pub mod Below
+pub mod Ways
 pub mod Members
 pub mod RowLaws
 pub mod TableLaws

@@ -1,10 +1,15 @@
 -- Ways through a chain of tests: each way out of the code gives the value that the definition has there. Assumes nothing.
 use mathlib.Core.Path.{_≡_, sym, ap, _∙_}
 use mathlib.Core.Bool.{Bool, true, false, not}
-use Prim.Native.Nat.{ℕ, _≤_, _<_}
+use Prim.Native.Nat.{ℕ, _+_, _≤_, _<_}
+use native.Mathlib.Omega.{arith}
+use borrow.Author.Count.{below-more}
 use borrow.Author.Tests.{not-true, not-false, lt-ltb, le-ltb}
-use lib.Dec.{ltb}
+use lib.Dec.{T, ltb}
 use Rattle.sets.specs.Tests.{_and_, _or_, non, when_then_else_}
+use Rattle.sets.specs.Members.{everyBelow}
+use Rattle.sets.proofs.Tests.{T→true, true→T, F→false, false→F}
+use Rattle.sets.proofs.Below.{every-i, every-e}
 
 -- ---- what a branch tells of the test
 
@@ -60,3 +65,21 @@ passed-by t x y z h k = k ∙ ap (λ (b : Bool). when b then x else y) h
 pub ruleset choice = (failed, held, is-so, above, not-above, non-holds, non-fails, taken, passed-by)
 
 pub ruleset conjunction = (failed, held, is-so, stops-l, goes, or-left, or-goes)
+
+-- ---- a loop that asks every number below w in turn: `while i < w { if !test(i) { return false; } i += 1; } true`
+
+-- the numbers below i have passed
+abbrev pub passed : (ℕ → Bool) → ℕ → Type 0
+passed p i = (a : ℕ) → a < i → T (p a)
+
+module _ (p : ℕ → Bool) (i : ℕ) where
+  pub every-more : (r : Bool) → r ≡ p i → not r ≡ false → passed p i → passed p (i + 1)
+  every-more r h t inv = below-more (λ a. T (p a)) i inv (true→T (sym (held (p i) r h t)))
+
+  pub every-stop : (w : ℕ) (r : Bool) → i < w → r ≡ p i → not r ≡ true → false ≡ everyBelow w p
+  every-stop w r l h t = sym (F→false _ (λ all. false→F (sym (failed (p i) r h t)) (every-e w p all i l)))
+
+  pub every-end : (w : ℕ) → w ≤ i → passed p i → true ≡ everyBelow w p
+  every-end w l inv = sym (T→true _ (every-i w p (λ a h. inv a (omega arith))))
+
+pub ruleset every-turn = (every-more, every-stop, every-end)
