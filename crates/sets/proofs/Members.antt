@@ -12,8 +12,8 @@ use lib.Bits.{bitAnd, bitOr, and-le-l, and-mask, or-lt}
 use Rattle.sets.specs.Tests.{_and_, _or_, non}
 use Rattle.sets.specs.Members.{width, bit, bitsOf, mem, those, noSet, someBelow, everyBelow, countBelow, leastBelow, isEmpty, within}
 use Rattle.sets.specs.declared.set.Set.{Set}
-use Rattle.sets.proofs.Tests.{non-or, non-non, T→true, F→false, false→F, non-false, non-e, imp-i, imp-e, split, either}
-use Rattle.sets.proofs.Bits.{is-bitsOf, bitsOf-ext, bitsOf-bit, bit-bitsOf, bit-bitsOf-above, bit-and, bit-or, bit-non, bit-above, bit-zero, bit-pow, bit-ones, one-shl}
+use Rattle.sets.proofs.Tests.{non-or, non-non, T→true, true→T, F→false, false→F, non-false, non-i, non-e, imp-i, imp-e, split, either}
+use Rattle.sets.proofs.Bits.{is-bitsOf, bitsOf-lt, bitsOf-ext, bitsOf-bit, bit-bitsOf, bit-bitsOf-above, bit-and, bit-or, bit-non, bit-above, bit-zero, bit-pow, bit-ones, one-shl}
 use Rattle.sets.proofs.Below.{some-ext, every-i, every-e, every-ext, non-some, none-zero, count-ext, count-less, least-is, least-lt, ones-count, trailing-least}
 
 -- ---- a set and its members
@@ -59,6 +59,26 @@ those-i p a l t = subst T (sym (mem-those p a l)) t
 -- a set is the set of its members
 pub those-mem : (s : Set) → Fits s → those (mem s) ≡ s
 those-mem s h = sym (is-those s (mem s) h (λ a l. refl))
+
+-- what proofs above ask of a set: that it is the set of its members, as every set of the code is
+abbrev pub Whole : Set → Type 0
+Whole s = those (mem s) ≡ s
+
+module _ (s : Set) (w : Whole s) where
+  pub whole-fits : Fits s
+  unfolding those
+  whole-fits = subst Fits w (bitsOf-lt width (mem s))
+
+  pub whole-low : (a : ℕ) → T (mem s a) → a < width
+  whole-low a t = those-e (mem s) a (subst (λ (u : Set). T (mem u a)) (sym w) t) .0
+
+  pub whole-empty : isEmpty s ≡ true → noSet ≡ s
+  unfolding isEmpty
+  whole-empty e = none-those (mem s) (λ a l. F→false _ (non-e (mem s a) (every-e width _ (true→T e) a l))) ∙ w
+
+pub empty-noSet : isEmpty noSet ≡ true
+unfolding isEmpty
+empty-noSet = T→true _ (every-i width _ (λ a l. non-i _ (false→F (mem-none a))))
 
 -- ---- a comprehension over a set that is itself one: what a caller of several operations shows, one law for each turn
 

@@ -2,19 +2,19 @@
 use mathlib.Core.Path.{_≡_, refl, sym, ap, _∙_, subst}
 use mathlib.Core.Bool.{Bool, true, false}
 use mathlib.Core.List.{List}
-use Prim.Native.Nat.{ℕ, zero, suc, _+_, _≤_, _<_}
+use Prim.Native.Nat.{ℕ, zero, suc, _+_, _^_, _≤_, _<_}
 use native.Mathlib.Nat.{not-suc-le-zero, le-of-suc-le-suc, add-zero, add-suc, suc-add, zero-add}
 use native.Mathlib.Omega.{arith}
 use borrow.Author.Tests.{lt-ltb, le-ltb, ltb-true, ltb-false, eqb-true, eqb-false, ne-eqb}
 use lib.Dec.{eqb, ltb}
-use lib.ListN.{length, getD, set, length-set}
+use lib.ListN.{length, getD, set, length-set, getD-replicate}
 use lib.Seq.{ext-getD, getD-set-same, getD-set-other}
 use Rattle.sets.specs.Tests.{_and_, _or_, when_then_else_}
 use Rattle.sets.specs.Members.{width, bitsOf, mem, those, noSet}
 use Rattle.sets.specs.Rows.{Relation, noRows, rowAt, withRow, inRow, listFrom, rowsOf}
 use Rattle.sets.specs.declared.set.Set.{Set}
 use Rattle.sets.proofs.Tests.{T→true, F→false, split, either, or-false, true-and, false-and}
-use Rattle.sets.proofs.Members.{those-ext, mem-those}
+use Rattle.sets.proofs.Members.{Whole, those-mem, those-ext, mem-those}
 
 -- ---- reading and writing a row
 
@@ -48,6 +48,21 @@ module _ (rows : List ℕ) (a : ℕ) where
       by : (t : Bool) → length (when t then set rows a (s .bits) else rows) ≡ length rows
       by true = length-set rows a (s .bits)
       by false = refl
+
+-- rows of the code's numbers hold whole sets
+pub row-whole : (rows : List ℕ) → ((i : ℕ) → getD rows i 0 < 2 ^ width) → (a : ℕ) → Whole (rowAt rows a)
+row-whole rows small a =
+    either (split (ltb a width))
+    (λ t. subst Whole (row-in rows a (ltb-true a width (T→true _ t))) (those-mem (record { bits = getD rows a 0 }) (small a)))
+    (λ f. subst Whole (row-out rows a (ltb-false a width (F→false _ f))) (those-mem noSet (omega arith)))
+
+pub row-none : (a : ℕ) → rowAt noRows a ≡ noSet
+row-none a =
+    either (split (ltb a width))
+    (λ t.
+    let l : a < width = ltb-true a width (T→true _ t) in
+    sym (row-in noRows a l) ∙ ap (λ (n : ℕ). record { bits = n }) (getD-replicate width a 0 0 l))
+    (λ f. sym (row-out noRows a (ltb-false a width (F→false _ f))))
 
 -- the row that was put is there
 pub row-put-same : (rows : List ℕ) (a : ℕ) (s : Set) → a < width → length rows ≡ width → rowAt (withRow rows a s) a ≡ s

@@ -1,8 +1,8 @@
 -- Tables, one after another: what stands in a row of one of them, and what a put leaves. Assumes nothing.
-use mathlib.Core.Path.{_≡_, refl, sym, ap, _∙_}
+use mathlib.Core.Path.{_≡_, refl, sym, ap, _∙_, subst}
 use mathlib.Core.Bool.{Bool, true, false}
 use mathlib.Core.List.{List, [], _∷_, _++_}
-use Prim.Native.Nat.{ℕ, zero, suc, _+_, _*_, _-_, _≤_, _<_}
+use Prim.Native.Nat.{ℕ, zero, suc, _+_, _*_, _-_, _^_, _≤_, _<_}
 use native.Mathlib.Nat.{not-suc-le-zero, le-of-suc-le-suc}
 use native.Mathlib.Numerals.{add-one}
 use native.Mathlib.Omega.{arith}
@@ -18,7 +18,7 @@ use Rattle.sets.specs.Rows.{Relation, noRows, rowAt, withRow, rowsOf}
 use Rattle.sets.specs.Tables.{noTables, tableAt, withRowIn, gainedIn, withRowsIn, withTable, tablesOf}
 use Rattle.sets.specs.declared.set.Set.{Set}
 use Rattle.sets.proofs.Tests.{T→true, F→false, T-ext, split, either, or-false, true-and, false-and}
-use Rattle.sets.proofs.Members.{those-ext}
+use Rattle.sets.proofs.Members.{Whole, those-mem}
 use Rattle.sets.proofs.RowLaws.{row-in, row-out, put-in, put-out, length-rowsOf, row-rowsOf, rowsOf-ext, empty-rowsOf, put-rowsOf}
 use Rattle.sets.proofs.RowLaws.{gain-rowsOf}
 
@@ -37,6 +37,14 @@ module _ (tables : List ℕ) (k a : ℕ) where
 
   pub table-row-past : a < width → length tables ≤ k * width + a → noSet ≡ rowAt (tableAt tables k) a
   table-row-past l h = ap (λ (n : ℕ). record { bits = n }) (sym (List·getD-eq-default tables 0 h)) ∙ table-row l
+
+  -- tables of the code's numbers hold whole sets
+  pub table-whole : ((i : ℕ) → getD tables i 0 < 2 ^ width) → Whole (rowAt (tableAt tables k) a)
+  table-whole small =
+      either (split (ltb a width))
+      (λ t. subst Whole (table-row (ltb-true a width (T→true _ t)))
+      (those-mem (record { bits = getD tables (k * width + a) 0 }) (small (k * width + a))))
+      (λ f. subst Whole (table-row-above (ltb-false a width (F→false _ f))) (those-mem noSet (omega arith)))
 
   module _ (s : Set) where
     pub table-put : a < width → set tables (k * width + a) (s .bits) ≡ withRowIn tables k a s
@@ -181,26 +189,32 @@ tablesOf-ext n r q e =
     is-tablesOf n (tablesOf n r) q (length-tablesOf n r)
     (λ k l. table-tablesOf n r k l ∙ rowsOf-ext (r k) (q k) (λ a b la lb. e k a b l la lb))
 
+pub length-table : (n : ℕ) (tables : List ℕ) (k : ℕ) → length tables ≡ n * width → k < n → length (tableAt tables k) ≡ width
+unfolding tableAt
+length-table n tables k h l =
+    let rest = length-drop (k * width) tables in
+    length-take-le width (drop (k * width) tables) (omega arith)
+
+-- a table of tables without a member
+pub table-none : (n k : ℕ) → k < n → tableAt (noTables n) k ≡ noRows
+unfolding tableAt
+table-none n k l =
+    let long = length-replicate {A = ℕ} (n * width) 0 in
+    let is = length-table n (noTables n) k long l in
+    ext-getD 0 (tableAt (noTables n) k) noRows (is ∙ sym (length-replicate {A = ℕ} width 0))
+    (λ i h.
+    let low : i < width = omega arith in
+    getD-take width (drop (k * width) (noTables n)) i 0 low
+    ∙ getD-drop (k * width) (noTables n) i 0
+    ∙ getD-replicate (n * width) (k * width + i) 0 0 (omega arith)
+    ∙ sym (getD-replicate width i 0 0 low))
+
 -- tables without a member are those of relations without a pair
 pub empty-tablesOf : (n : ℕ) (r : ℕ → Relation) → ((k a b : ℕ) → k < n → a < width → b < width → r k a b ≡ false)
     → noTables n ≡ tablesOf n r
-unfolding tableAt
 empty-tablesOf n r e =
     is-tablesOf n (noTables n) r (length-replicate {A = ℕ} (n * width) 0)
-    (λ k l. table k l ∙ empty-rowsOf (r k) (λ a b la lb. e k a b l la lb))
-  where
-    table : (k : ℕ) → k < n → tableAt (noTables n) k ≡ noRows
-    table k l =
-        let long = length-replicate {A = ℕ} (n * width) 0 in
-        let rest = length-drop (k * width) (noTables n) in
-        let is : length (tableAt (noTables n) k) ≡ width = length-take-le width (drop (k * width) (noTables n)) (omega arith) in
-        ext-getD 0 (tableAt (noTables n) k) noRows (is ∙ sym (length-replicate {A = ℕ} width 0))
-        (λ i h.
-        let low : i < width = omega arith in
-        getD-take width (drop (k * width) (noTables n)) i 0 low
-        ∙ getD-drop (k * width) (noTables n) i 0
-        ∙ getD-replicate (n * width) (k * width + i) 0 0 (omega arith)
-        ∙ sym (getD-replicate width i 0 0 low))
+    (λ k l. table-none n k l ∙ empty-rowsOf (r k) (λ a b la lb. e k a b l la lb))
 
 -- a row that is put into relations' tables: it is enough to know what becomes of its own table
 put-in-one : (n : ℕ) (r q : ℕ → Relation) (k a : ℕ) (s : Set)
