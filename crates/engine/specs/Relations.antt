@@ -2,7 +2,7 @@
 use mathlib.Core.List.{List}
 use Prim.Native.Nat.{ℕ, zero, suc}
 use Rattle.sets.specs.Rows.{Relation, inRow}
-use Rattle.sets.specs.Tables.{noTables, tableAt}
+use Rattle.sets.specs.Tables.{noTables, tableAt, tablesOf}
 use Rattle.sets.specs.declared.set.Set.{Set}
 use Rattle.engine.specs.declared.marking.Marking.{Marking}
 use Rattle.engine.specs.declared.graph.Head.{Head}
@@ -40,6 +40,16 @@ inTables tables =
       includes = inRow (tableAt tables 2);
       excludes = inRow (tableAt tables 3);
     }
+
+-- the other way: relation k as its table holds it, row by row
+abbrev pub kept : Relations → ℕ → Relation
+kept r zero = λ t s. r .conditions s t
+kept r (suc zero) = r .responses
+kept r (suc (suc zero)) = r .includes
+kept r (suc (suc (suc k))) = r .excludes
+
+abbrev pub tablesFrom : Relations → List ℕ
+tablesFrom r = tablesOf relationCount (kept r)
 
 abbrev pub relationsOf : Graph → Relations
 relationsOf g = inTables (g .relations)

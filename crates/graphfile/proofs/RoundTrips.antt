@@ -2,20 +2,20 @@
 use mathlib.Core.Path.{_≡_, refl, sym, ap, ap₂, _∙_, subst}
 use mathlib.Core.Bool.{Bool}
 use mathlib.Core.List.{List, [], _∷_, _++_}
-use Prim.Native.Nat.{ℕ, zero, suc, _+_, _*_, _≤_}
+use Prim.Native.Nat.{ℕ, _+_, _*_, _≤_}
 use borrow.Author.Tests.{le-ltb}
 use lib.Dec.{eqb, ltb}
 use lib.ListN.{length, take, drop}
 use lib.Seq.{take-at}
 use Rattle.sets.specs.Tests.{_and_, _or_, non, when_then_else_}
 use Rattle.sets.specs.Members.{bit, bitsOf, everyBelow, isEmpty, mem, those}
-use Rattle.sets.specs.Rows.{Relation, rowAt, listFrom, rowsOf}
+use Rattle.sets.specs.Rows.{rowAt, listFrom, rowsOf}
 use Rattle.sets.specs.Tables.{tableAt, tablesOf}
 use Rattle.sets.specs.Answers.{isDone}
 use Rattle.sets.specs.declared.answer.Answer.{Answer}
 use Rattle.sets.specs.declared.answer.Answer.the-variants.{Done, BufferTooSmall}
 use Rattle.engine.specs.Markings.{openingOf}
-use Rattle.engine.specs.Relations.{relationCount, headOf, graphOf, emptyGraph}
+use Rattle.engine.specs.Relations.{relationCount, headOf, graphOf, emptyGraph, tablesFrom}
 use Rattle.engine.specs.declared.graph.Graph.{Graph}
 use Rattle.engine.specs.Judged.{judged}
 use Rattle.graphfile.specs.declared.reader.Reading.{Reading}
@@ -107,13 +107,15 @@ read-then-written bytes before after r w small hr ok room hw ha =
 -- ---- 01's graph G: C 0 1, 0 2; R 0 2, 1 2; I 0 1; E 0 0, 1 1, 2 1, 2 2
 
 abbrev pub exampleG : Graph
-exampleG = graphOf (headOf 3 (those (λ a. ltb a 3)) (openingOf (those (λ a. ltb a 3)))) (tablesOf relationCount pairs)
-  where
-    pairs : ℕ → Relation
-    pairs zero t s = eqb s 0 and (eqb t 1 or eqb t 2)
-    pairs (suc zero) s t = eqb t 2 and (eqb s 0 or eqb s 1)
-    pairs (suc (suc zero)) s t = eqb s 0 and eqb t 1
-    pairs (suc (suc (suc k))) s t = ltb s 3 and eqb s t or eqb s 2 and eqb t 1
+exampleG =
+    graphOf (headOf 3 (those (λ a. ltb a 3)) (openingOf (those (λ a. ltb a 3))))
+    (tablesFrom
+    (record {
+      conditions = λ s t. eqb s 0 and (eqb t 1 or eqb t 2);
+      responses = λ s t. (eqb s 0 or eqb s 1) and eqb t 2;
+      includes = λ s t. eqb s 0 and eqb t 1;
+      excludes = λ s t. ltb s 3 and eqb s t or eqb s 2 and eqb t 1;
+    }))
 
 abbrev pub fileOfG : List ℕ
 fileOfG =

@@ -1,12 +1,12 @@
 -- The cases of 01, "Calls to try", that are marked (P): one table, computed by antt.
-use lib.Dec.{lit≤}
+use lib.Dec.{ltb, lit≤}
 use mathlib.Core.Path.{ap}
 use Prim.Native.Nat.{_≤_}
 use lib.ListN.{length}
 use Rattle.sets.specs.Sizes.{longestTrace}
 use Rattle.sets.specs.declared.answer.Answer.the-variants.{Done}
 use Rattle.engine.specs.Judged.{judged}
-use Rattle.engine.specs.Relations.{relationsOf}
+use Rattle.engine.specs.Relations.{headOf, graphOf, relationsOf}
 use Rattle.engine.proofs.Acceptable.{replay-judged, stepped-judged, opening-inside, judged-within}
 use Rattle.engine.proofs.Examples.{table-judged}
 use mathlib.Core.Path.{_≡_, refl}
@@ -15,10 +15,10 @@ use mathlib.Core.List.{List, [], _∷_, _++_, map}
 use Prim.Native.Nat.{ℕ}
 use Rattle.sets.specs.Tests.{_and_, _or_, non}
 use Rattle.sets.specs.Members.{bit, bitsOf, someBelow, everyBelow, isEmpty, within, mem, those}
-use Rattle.sets.specs.Rows.{rowAt, withRow, inRow, listFrom, rowsOf}
+use Rattle.sets.specs.Rows.{rowAt, inRow, listFrom, rowsOf}
+use Rattle.sets.specs.Tables.{tableAt, withRowIn, tablesOf}
 use Rattle.engine.specs.declared.graph.Graph.{Graph}
-use Rattle.engine.specs.Markings.{markingOf}
-use Rattle.sets.specs.Members.{noSet}
+use Rattle.engine.specs.Markings.{openingOf}
 use Rattle.engine.specs.Steps.{waits, enabled, after, accepting}
 use Rattle.engine.specs.Judged.{markingWithin, rowWithin, rowsWithin, relationsWithin, graphWithin, judgedFor, judgedWith}
 use Rattle.engine.specs.Replay.{enabledOf, steppedOf, replayFrom, replayOf}
@@ -52,15 +52,8 @@ listing =
 -- the same in numbers: each set, and each row of a relation from row 0, as the number that the graph file holds
 unfoldable pub G : Graph
 G =
-    record {
-      activities = 3;
-      events = record { bits = 7 };
-      opening = markingOf noSet noSet (record { bits = 7 });
-      conditions = rows (0 ∷ 1 ∷ 1 ∷ []);
-      responses = rows (4 ∷ 4 ∷ []);
-      includes = rows (2 ∷ []);
-      excludes = rows (1 ∷ 2 ∷ 6 ∷ []);
-    }
+    graphOf (headOf 3 (those (λ a. ltb a 3)) (openingOf (those (λ a. ltb a 3))))
+    (rows (0 ∷ 1 ∷ 1 ∷ []) ++ (rows (4 ∷ 4 ∷ []) ++ (rows (2 ∷ []) ++ rows (1 ∷ 2 ∷ 6 ∷ []))))
 
 part0 : List Case
 part0 =
@@ -118,7 +111,7 @@ table = part0 ++ part1 ++ part2 ++ part3 ++ part4 ++ part5 ++ part6 ++ part7 ++ 
 
 same0 : map asked part0 ≡ map wanted part0
 unfolding part0 file L listing G
-    _and_ _or_ non bit mem those bitsOf someBelow everyBelow isEmpty within rowAt withRow inRow listFrom rowsOf
+    _and_ _or_ non bit mem those bitsOf someBelow everyBelow isEmpty within rowAt tableAt withRowIn inRow listFrom rowsOf tablesOf
     waits enabled after accepting markingWithin rowWithin rowsWithin relationsWithin graphWithin judgedFor judgedWith enabledOf steppedOf replayFrom replayOf
     opensWith valueOf numberAt activitiesIn tracesIn offsetAt lengthAt bodiesStart eventsBefore
     firstRefusal allBelow judgedHead judgedEntry judgedBodies judgedContents judgedLog tracesFrom logOf
@@ -130,7 +123,7 @@ same0 = refl
 
 same1 : map asked part1 ≡ map wanted part1
 unfolding part1 file L listing G
-    _and_ _or_ non bit mem those bitsOf someBelow everyBelow isEmpty within rowAt withRow inRow listFrom rowsOf
+    _and_ _or_ non bit mem those bitsOf someBelow everyBelow isEmpty within rowAt tableAt withRowIn inRow listFrom rowsOf tablesOf
     waits enabled after accepting markingWithin rowWithin rowsWithin relationsWithin graphWithin judgedFor judgedWith enabledOf steppedOf replayFrom replayOf
     opensWith valueOf numberAt activitiesIn tracesIn offsetAt lengthAt bodiesStart eventsBefore
     firstRefusal allBelow judgedHead judgedEntry judgedBodies judgedContents judgedLog tracesFrom logOf
@@ -142,7 +135,7 @@ same1 = refl
 
 same2 : map asked part2 ≡ map wanted part2
 unfolding part2 file L listing G
-    _and_ _or_ non bit mem those bitsOf someBelow everyBelow isEmpty within rowAt withRow inRow listFrom rowsOf
+    _and_ _or_ non bit mem those bitsOf someBelow everyBelow isEmpty within rowAt tableAt withRowIn inRow listFrom rowsOf tablesOf
     waits enabled after accepting markingWithin rowWithin rowsWithin relationsWithin graphWithin judgedFor judgedWith enabledOf steppedOf replayFrom replayOf
     opensWith valueOf numberAt activitiesIn tracesIn offsetAt lengthAt bodiesStart eventsBefore
     firstRefusal allBelow judgedHead judgedEntry judgedBodies judgedContents judgedLog tracesFrom logOf
@@ -153,23 +146,23 @@ unfolding part2 file L listing G
 same2 = refl
 
 judged-G : judged G ≡ Done
-unfolding G judgedFor graphWithin relationsWithin rowsWithin rowWithin markingWithin within isEmpty everyBelow bitsOf bit mem those _and_ _or_ non rowAt listFrom
+unfolding G judgedFor graphWithin relationsWithin rowsWithin rowWithin markingWithin within isEmpty everyBelow bitsOf bit mem those _and_ _or_ non rowAt tableAt listFrom
 judged-G = refl
 
-on-G : (σ : List ℕ) → length σ ≤ longestTrace → end (replayOf G σ) ≡ end (replayFrom (G .events) (relationsOf G) (G .opening) 0 σ)
+on-G : (σ : List ℕ) → length σ ≤ longestTrace → end (replayOf G σ) ≡ end (replayFrom (G .head .events) (relationsOf G) (G .head .opening) 0 σ)
 on-G σ l = ap end (replay-judged G judged-G σ l)
 
 same3 : map asked part3 ≡ map wanted part3
-unfolding part3 replayFrom enabled waits after accepting someBelow bitsOf bit mem those _and_ _or_ non rowAt withRow inRow G listFrom
+unfolding part3 replayFrom enabled waits after accepting someBelow bitsOf bit mem those _and_ _or_ non rowAt tableAt withRowIn inRow G listFrom
 same3 = λ i. on-G (0 ∷ 1 ∷ 2 ∷ []) (lit≤ tt) i ∷ on-G (0 ∷ 2 ∷ []) (lit≤ tt) i ∷ on-G [] (lit≤ tt) i ∷ on-G (0 ∷ []) (lit≤ tt) i ∷ []
 
 same4 : map asked part4 ≡ map wanted part4
-unfolding part4 replayFrom enabled waits after accepting someBelow bitsOf bit mem those _and_ _or_ non rowAt withRow inRow G listFrom
+unfolding part4 replayFrom enabled waits after accepting someBelow bitsOf bit mem those _and_ _or_ non rowAt tableAt withRowIn inRow G listFrom
 same4 = λ i. on-G (2 ∷ []) (lit≤ tt) i ∷ on-G (0 ∷ 0 ∷ []) (lit≤ tt) i ∷ on-G (0 ∷ 2 ∷ 1 ∷ []) (lit≤ tt) i ∷ on-G (3 ∷ []) (lit≤ tt) i ∷ []
 
 same5 : map asked part5 ≡ map wanted part5
 unfolding part5 file L listing G
-    _and_ _or_ non bit mem those bitsOf someBelow everyBelow isEmpty within rowAt withRow inRow listFrom rowsOf
+    _and_ _or_ non bit mem those bitsOf someBelow everyBelow isEmpty within rowAt tableAt withRowIn inRow listFrom rowsOf tablesOf
     waits enabled after accepting markingWithin rowWithin rowsWithin relationsWithin graphWithin judgedFor judgedWith enabledOf steppedOf replayFrom replayOf
     opensWith valueOf numberAt activitiesIn tracesIn offsetAt lengthAt bodiesStart eventsBefore
     firstRefusal allBelow judgedHead judgedEntry judgedBodies judgedContents judgedLog tracesFrom logOf
@@ -181,7 +174,7 @@ same5 = refl
 
 same6 : map asked part6 ≡ map wanted part6
 unfolding part6 file L listing G
-    _and_ _or_ non bit mem those bitsOf someBelow everyBelow isEmpty within rowAt withRow inRow listFrom rowsOf
+    _and_ _or_ non bit mem those bitsOf someBelow everyBelow isEmpty within rowAt tableAt withRowIn inRow listFrom rowsOf tablesOf
     waits enabled after accepting markingWithin rowWithin rowsWithin relationsWithin graphWithin judgedFor judgedWith enabledOf steppedOf replayFrom replayOf
     opensWith valueOf numberAt activitiesIn tracesIn offsetAt lengthAt bodiesStart eventsBefore
     firstRefusal allBelow judgedHead judgedEntry judgedBodies judgedContents judgedLog tracesFrom logOf
@@ -193,7 +186,7 @@ same6 = refl
 
 same7 : map asked part7 ≡ map wanted part7
 unfolding part7 file L listing G
-    _and_ _or_ non bit mem those bitsOf someBelow everyBelow isEmpty within rowAt withRow inRow listFrom rowsOf
+    _and_ _or_ non bit mem those bitsOf someBelow everyBelow isEmpty within rowAt tableAt withRowIn inRow listFrom rowsOf tablesOf
     waits enabled after accepting markingWithin rowWithin rowsWithin relationsWithin graphWithin judgedFor judgedWith enabledOf steppedOf replayFrom replayOf
     opensWith valueOf numberAt activitiesIn tracesIn offsetAt lengthAt bodiesStart eventsBefore
     firstRefusal allBelow judgedHead judgedEntry judgedBodies judgedContents judgedLog tracesFrom logOf
@@ -204,7 +197,7 @@ unfolding part7 file L listing G
 same7 = refl
 
 same8 : map asked part8 ≡ map wanted part8
-unfolding part8 replayFrom enabled waits after accepting someBelow bitsOf bit mem those _and_ _or_ non rowAt withRow inRow G listFrom
+unfolding part8 replayFrom enabled waits after accepting someBelow bitsOf bit mem those _and_ _or_ non rowAt tableAt withRowIn inRow G listFrom
 same8 = λ i. step (stepped-judged table3 table-judged table3-before (opening-inside table3 (judged-within table3 0 table-judged)) 4 i) ∷ []
 
 -- THE THEOREM

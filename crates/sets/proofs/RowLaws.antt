@@ -35,12 +35,6 @@ module _ (rows : List ℕ) (a : ℕ) where
   unfolding withRow
   put-out s l = rw (le-ltb a width l)
 
-  -- the old row, joined with s by an operation on members
-  pub put-joined : (op : Bool → Bool → Bool) (s u : Set) → a < width
-      → u ≡ those (λ b. op (mem (record { bits = getD rows a 0 }) b) (mem s b))
-      → set rows a (u .bits) ≡ withRow rows a (those (λ b. op (mem (rowAt rows a) b) (mem s b)))
-  put-joined op s u l e = put-in u l ∙ ap (withRow rows a) (e ∙ ap (λ (r : Set). those (λ b. op (mem r b) (mem s b))) (row-in l))
-
   pub length-put : (s : Set) → length (withRow rows a s) ≡ length rows
   unfolding withRow
   length-put s = by (ltb a width)
@@ -97,14 +91,9 @@ rows-ext x y hx hy e =
 pub joined : (rows : List ℕ) (a : ℕ) (s u : Set) → a < width
     → u ≡ those (λ b. mem (record { bits = getD rows a 0 }) b or mem s b)
     → set rows a (u .bits) ≡ withRow rows a (those (λ b. mem (rowAt rows a) b or mem s b))
-joined rows a s u l e = put-joined rows a _or_ s u l e
+joined rows a s u l e = put-in rows a u l ∙ ap (withRow rows a) (e ∙ ap (λ (r : Set). those (λ b. mem r b or mem s b)) (row-in rows a l))
 
-pub met : (rows : List ℕ) (a : ℕ) (s u : Set) → a < width
-    → u ≡ those (λ b. mem (record { bits = getD rows a 0 }) b and mem s b)
-    → set rows a (u .bits) ≡ withRow rows a (those (λ b. mem (rowAt rows a) b and mem s b))
-met rows a s u l e = put-joined rows a _and_ s u l e
-
-pub ruleset writing = (row-in, row-out, put-in, put-out, joined, met)
+pub ruleset writing = (row-in, row-out, put-in, put-out, joined)
 
 -- ---- rows that are put down from a relation
 
@@ -174,7 +163,8 @@ pub gain-rowsOf : (r : Relation) (k : ℕ) (p : ℕ → Bool)
     → withRow (rowsOf r) k (those (λ b. mem (rowAt (rowsOf r) k) b or p b)) ≡ rowsOf (λ a b. r a b or eqb a k and p b)
 gain-rowsOf r k p =
     put-rowsOf r k (λ b. mem (rowAt (rowsOf r) k) b or p b)
-    ∙ rowsOf-ext (λ a b. when eqb a k then (mem (rowAt (rowsOf r) k) b or p b) else r a b) (λ a b. r a b or eqb a k and p b) (λ a b ha hb. pick a b ha hb (eqb a k) refl)
+    ∙ rowsOf-ext (λ a b. when eqb a k then (mem (rowAt (rowsOf r) k) b or p b) else r a b) (λ a b. r a b or eqb a k and p b)
+    (λ a b ha hb. pick a b ha hb (eqb a k) refl)
   where
     pick : (a b : ℕ) → a < width → b < width → (t : Bool) → eqb a k ≡ t
         → (when eqb a k then (mem (rowAt (rowsOf r) k) b or p b) else r a b) ≡ (r a b or eqb a k and p b)

@@ -14,13 +14,13 @@ use lib.Seq.{ext-getD, length-take-le, drop-set-add, drop-set-lt, take-set-le, t
 use lib.Seq.{getD-drop, set-out}
 use Rattle.sets.specs.Tests.{_and_, _or_, when_then_else_}
 use Rattle.sets.specs.Members.{width, mem, those, noSet}
-use Rattle.sets.specs.Rows.{Relation, noRows, rowAt, withRow, rowsOf}
+use Rattle.sets.specs.Rows.{Relation, noRows, rowAt, withRow, inRow, rowsOf}
 use Rattle.sets.specs.Tables.{noTables, tableAt, withRowIn, gainedIn, withRowsIn, withTable, tablesOf}
 use Rattle.sets.specs.declared.set.Set.{Set}
 use Rattle.sets.proofs.Tests.{T→true, F→false, T-ext, split, either, or-false, true-and, false-and}
 use Rattle.sets.proofs.Members.{Whole, those-mem}
 use Rattle.sets.proofs.RowLaws.{row-in, row-out, put-in, put-out, length-rowsOf, row-rowsOf, rowsOf-ext, empty-rowsOf, put-rowsOf}
-use Rattle.sets.proofs.RowLaws.{gain-rowsOf}
+use Rattle.sets.proofs.RowLaws.{gain-rowsOf, in-rowsOf}
 
 -- ---- what the code reads and writes: place k * width + a, where there is one
 
@@ -177,6 +177,9 @@ table-tablesOf (suc n) r (suc k) l =
     sym (next-table (rowsOf (r 0) ++ tablesOf n (λ j. r (suc j))) k)
     ∙ ap (λ (x : List ℕ). tableAt x k) (drop-at (rowsOf (r 0)) (tablesOf n (λ j. r (suc j))) width (length-rowsOf (r 0)))
     ∙ table-tablesOf n (λ j. r (suc j)) k (le-of-suc-le-suc l)
+
+pub in-tablesOf : (n : ℕ) (r : ℕ → Relation) (k a b : ℕ) → k < n → a < width → b < width → inRow (tableAt (tablesOf n r) k) a b ≡ r k a b
+in-tablesOf n r k a b l la lb = ap (λ (rows : List ℕ). inRow rows a b) (table-tablesOf n r k l) ∙ in-rowsOf (r k) a b la lb
 
 -- tables of the right length whose rows are those of relations are their tables
 pub is-tablesOf : (n : ℕ) (x : List ℕ) (r : ℕ → Relation) → length x ≡ n * width → ((k : ℕ) → k < n → tableAt x k ≡ rowsOf (r k))

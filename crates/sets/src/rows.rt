@@ -1,7 +1,7 @@
 // Rows of sets, one for each activity: how a relation is kept. Only these functions read or write the numbers, so a wider
 // set changes this file and set.rt alone.
 ghost use mathlib.Core.Path.{_≡_};
-ghost use Rattle.sets.specs.Tests.{_and_, _or_};
+ghost use Rattle.sets.specs.Tests.{_or_};
 ghost use Rattle.sets.specs.Members.{mem, those};
 ghost use Rattle.sets.specs.Rows.{noRows, rowAt, withRow};
 use crate::activity::Activity;
@@ -47,18 +47,6 @@ pub fn join(rows: &mut Rows, a: Activity, s: Set)
     if i < WIDTH {
         let old = Set { bits: rows[i] };
         let new = old.union(s);
-        rows[i] = new.bits;
-    }
-}
-
-// The activity's row keeps only members of a set.
-pub fn keep(rows: &mut Rows, a: Activity, s: Set)
-    ensures { λ _. ⌜ now (rows .exit) ≡ withRow (now (rows .entry)) (a .0) (those (λ b. mem (rowAt (now (rows .entry)) (a .0)) b and mem s b)) ⌝ }
-{
-    let i = a.0 as usize;
-    if i < WIDTH {
-        let old = Set { bits: rows[i] };
-        let new = old.intersection(s);
         rows[i] = new.bits;
     }
 }
