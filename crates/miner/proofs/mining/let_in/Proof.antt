@@ -22,35 +22,11 @@ Inv-loop log traces unfollowed out₀ k₀ out k = (k ≤ traces) × Left (pass 
 abbrev μ-loop : tie.MeasureT-loop
 μ-loop log traces unfollowed out₀ k₀ out k = traces - k
 
-empty-requires : tie.Need-empty-requires Inv-loop μ-loop
-empty-requires c κs = search needs
-
 loop-holds : tie.Need-loop-holds Inv-loop μ-loop
 loop-holds c = (search needs, from-empty _ _ _ _ (c .empty .ensures))
 
-trace-part-requires : tie.Need-trace-part-requires Inv-loop μ-loop
-trace-part-requires c κs = search needs
-
 add-end : tie.Need-add-end Inv-loop μ-loop
 add-end c = omega (arith, part-within _ _ _ (c .before .trace-part .ensures))
-
-sub-let-in : tie.Need-sub-let-in Inv-loop μ-loop
-sub-let-in c = search needs
-
-part-let-in-start : tie.Need-part-let-in-start Inv-loop μ-loop
-part-let-in-start c = search needs
-
-part-let-in-end : tie.Need-part-let-in-end Inv-loop μ-loop
-part-let-in-end c = search (part-within, needs)
-
-let-in-requires : tie.Need-let-in-requires Inv-loop μ-loop
-let-in-requires c κs = search needs
-
-add-k : tie.Need-add-k Inv-loop μ-loop
-add-k c = search needs
-
-loop-less : tie.Need-loop-less Inv-loop μ-loop
-loop-less c = search needs
 
 loop-again : tie.Need-loop-again Inv-loop μ-loop
 loop-again c = (search needs, search (through-next, needs))
@@ -61,18 +37,5 @@ returns c = through-end (pass _) _ _ _ _ _ (c .loop-test .left) (c .before .loop
 pub let-in-spec : {M : Type 1} → statement M
 let-in-spec =
     tie.close
-    (tie.spec
-    Inv-loop
-    μ-loop
-    empty-requires
-    loop-holds
-    trace-part-requires
-    add-end
-    sub-let-in
-    part-let-in-start
-    part-let-in-end
-    let-in-requires
-    add-k
-    loop-less
-    loop-again
-    returns)
+    (tie.spec Inv-loop μ-loop (λ c κs. search needs) loop-holds (λ c κs. search needs) add-end (λ c. search needs) (λ c. search needs)
+    (λ c. search (part-within, needs)) (λ c κs. search needs) (λ c. search needs) (λ c. search needs) loop-again returns)

@@ -26,29 +26,8 @@ abbrev μ-loop : tie.MeasureT-loop
 loop-holds : tie.Need-loop-holds Inv-loop μ-loop
 loop-holds c = (search needs, through-start ahead _ _ _ _ refl, through-start (waiting _ _ _) _ _ _ _ refl)
 
-trace-part-requires : tie.Need-trace-part-requires Inv-loop μ-loop
-trace-part-requires c κs = search needs
-
 add-end : tie.Need-add-end Inv-loop μ-loop
 add-end c = omega (arith, part-within _ _ _ (c .before .trace-part .ensures))
-
-sub-replay-included : tie.Need-sub-replay-included Inv-loop μ-loop
-sub-replay-included c = search needs
-
-part-replay-included-start : tie.Need-part-replay-included-start Inv-loop μ-loop
-part-replay-included-start c = search needs
-
-part-replay-included-end : tie.Need-part-replay-included-end Inv-loop μ-loop
-part-replay-included-end c = search (part-within, needs)
-
-replay-included-requires : tie.Need-replay-included-requires Inv-loop μ-loop
-replay-included-requires c κs = search needs
-
-add-k : tie.Need-add-k Inv-loop μ-loop
-add-k c = search needs
-
-loop-less : tie.Need-loop-less Inv-loop μ-loop
-loop-less c = search needs
 
 loop-again : tie.Need-loop-again Inv-loop μ-loop
 loop-again c = (search needs, search (through-next, needs), search (through-next, needs))
@@ -59,17 +38,5 @@ returns c = (through-end ahead _ _ _ _ _ (c .loop-test .left) (c .before .loop .
 pub replay-included-spec : {M : Type 1} → statement M
 replay-included-spec =
     tie.close
-    (tie.spec
-    Inv-loop
-    μ-loop
-    loop-holds
-    trace-part-requires
-    add-end
-    sub-replay-included
-    part-replay-included-start
-    part-replay-included-end
-    replay-included-requires
-    add-k
-    loop-less
-    loop-again
-    returns)
+    (tie.spec Inv-loop μ-loop loop-holds (λ c κs. search needs) add-end (λ c. search needs) (λ c. search needs)
+    (λ c. search (part-within, needs)) (λ c κs. search needs) (λ c. search needs) (λ c. search needs) loop-again returns)

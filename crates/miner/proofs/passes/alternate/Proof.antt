@@ -46,54 +46,12 @@ abbrev μ-loop : tie.MeasureT-loop
 loop-holds : tie.Need-loop-holds Inv-loop μ-loop
 loop-holds c = record { reached = search needs; seen-is = seen-none; whole = refl }
 
-shared-slice-read-t9 : tie.Need-shared-slice-read-t9 Inv-loop μ-loop
-shared-slice-read-t9 c = search needs
-
-sub-note-since : tie.Need-sub-note-since Inv-loop μ-loop
-sub-note-since c = search needs
-
-part-note-since-start : tie.Need-part-note-since-start Inv-loop μ-loop
-part-note-since-start c = search needs
-
-part-note-since-end : tie.Need-part-note-since-end Inv-loop μ-loop
-part-note-since-end c = search needs
-
-note-since-requires : tie.Need-note-since-requires Inv-loop μ-loop
-note-since-requires c κs = search needs
-
-one-requires : tie.Need-one-requires Inv-loop μ-loop
-one-requires c κs = search needs
-
-union-requires : tie.Need-union-requires Inv-loop μ-loop
-union-requires c κs = search needs
-
-add-i : tie.Need-add-i Inv-loop μ-loop
-add-i c = search needs
-
-loop-less : tie.Need-loop-less Inv-loop μ-loop
-loop-less c = search needs
-
-loop-again : tie.Need-loop-again Inv-loop μ-loop
-loop-again c = search (turn, needs)
-
 returns : tie.Need-returns Inv-loop μ-loop
 returns c = forward-end notSince _ _ _ _ (c .loop-test .left) (c .before .loop .inv .whole)
 
 pub alternate-spec : {M : Type 1} → statement M
 alternate-spec =
     tie.close
-    (tie.spec
-    Inv-loop
-    μ-loop
-    loop-holds
-    shared-slice-read-t9
-    sub-note-since
-    part-note-since-start
-    part-note-since-end
-    note-since-requires
-    one-requires
-    union-requires
-    add-i
-    loop-less
-    loop-again
+    (tie.spec Inv-loop μ-loop loop-holds (λ c. search needs) (λ c. search needs) (λ c. search needs) (λ c. search needs)
+    (λ c κs. search needs) (λ c κs. search needs) (λ c κs. search needs) (λ c. search needs) (λ c. search needs) (λ c. search (turn, needs))
     returns)

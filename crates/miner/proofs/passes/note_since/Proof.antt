@@ -3,27 +3,6 @@ use Rattle.miner.proofs.Alternate.{note-repeat, note-first}
 use Rattle.miner.proofs.passes.note_since.Statement.{statement}
 use Rattle.miner.proofs.passes.note_since.Tie as tie
 
-has-requires : tie.Need-has-requires
-has-requires c κs = search needs
-
-row-requires : tie.Need-row-requires
-row-requires c κs = search needs
-
-complement-requires : tie.Need-complement-requires
-complement-requires c κs = search needs
-
-unmet-requires : tie.Need-unmet-requires
-unmet-requires c κs = search needs
-
-join-requires : tie.Need-join-requires
-join-requires c κs = search needs
-
-complement-requires-2 : tie.Need-complement-requires-2
-complement-requires-2 c κs = search needs
-
-join-requires-2 : tie.Need-join-requires-2
-join-requires-2 c κs = search needs
-
 returns : tie.Need-returns
 returns c =
     let met = c .before .before in
@@ -39,13 +18,5 @@ returns-2 c =
 pub note-since-spec : {M : Type 1} → statement M
 note-since-spec =
     tie.close
-    (tie.spec
-    has-requires
-    row-requires
-    complement-requires
-    unmet-requires
-    join-requires
-    complement-requires-2
-    join-requires-2
-    returns
-    returns-2)
+    (tie.spec (λ c κs. search needs) (λ c κs. search needs) (λ c κs. search needs) (λ c κs. search needs) (λ c κs. search needs)
+    (λ c κs. search needs) (λ c κs. search needs) returns returns-2)

@@ -3,14 +3,9 @@ use Rattle.miner.proofs.Gains.{with-one}
 use Rattle.miner.proofs.second.and_then.Statement.{statement}
 use Rattle.miner.proofs.second.and_then.Tie as tie
 
-one-requires : tie.Need-one-requires
-one-requires c κs = search needs
-
-union-requires : tie.Need-union-requires
-union-requires c κs = search needs
-
 returns : tie.Need-returns
 returns c = with-one _ _ _ _ (c .before .one .ensures) (c .union .ensures)
 
 pub and-then-spec : {M : Type 1} → statement M
-and-then-spec = tie.close (tie.spec one-requires union-requires returns)
+and-then-spec =
+    tie.close (tie.spec (λ c κs. search needs) (λ c κs. search needs) returns)

@@ -5,9 +5,6 @@ use Rattle.miner.proofs.MadeSets.{unless-true, unless-false}
 use Rattle.miner.proofs.second.at_first.Statement.{statement}
 use Rattle.miner.proofs.second.at_first.Tie as tie
 
-has-requires : tie.Need-has-requires
-has-requires c κs = search needs
-
 returns : tie.Need-returns
 returns c = unless-true _ _ (c .before .has .ensures) _ (c .if1 .taken)
 
@@ -17,4 +14,5 @@ returns-2 c =
     unless-false _ _ (c .before .has .ensures) _ seen (sym (those-mem seen (search needs))) (c .if1 .left)
 
 pub at-first-spec : {M : Type 1} → statement M
-at-first-spec = tie.close (tie.spec has-requires returns returns-2)
+at-first-spec =
+    tie.close (tie.spec (λ c κs. search needs) returns returns-2)

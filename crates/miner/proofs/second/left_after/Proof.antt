@@ -3,21 +3,6 @@ use Rattle.miner.proofs.After.{left-last, left-not, left-out}
 use Rattle.miner.proofs.second.left_after.Statement.{statement}
 use Rattle.miner.proofs.second.left_after.Tie as tie
 
-cast-n : tie.Need-cast-n
-cast-n c = search needs
-
-mul-if2 : tie.Need-mul-if2
-mul-if2 c = search needs
-
-element-copy-out-if2 : tie.Need-element-copy-out-if2
-element-copy-out-if2 c = search needs
-
-one-requires : tie.Need-one-requires
-one-requires c κs = search needs
-
-difference-requires : tie.Need-difference-requires
-difference-requires c κs = search needs
-
 returns : tie.Need-returns
 returns c =
     let a = c .before .before .before .before .before .before .before .args in
@@ -36,12 +21,5 @@ returns-3 c =
 pub left-after-spec : {M : Type 1} → statement M
 left-after-spec =
     tie.close
-    (tie.spec
-    cast-n
-    mul-if2
-    element-copy-out-if2
-    one-requires
-    difference-requires
-    returns
-    returns-2
+    (tie.spec (λ c. search needs) (λ c. search needs) (λ c. search needs) (λ c κs. search needs) (λ c κs. search needs) returns returns-2
     returns-3)

@@ -4,18 +4,6 @@ use Rattle.miner.proofs.LetIn.{barred-by}
 use Rattle.miner.proofs.second.let_in_here.Statement.{statement}
 use Rattle.miner.proofs.second.let_in_here.Tie as tie
 
-intersection-requires : tie.Need-intersection-requires
-intersection-requires c κs = search needs
-
-join-requires : tie.Need-join-requires
-join-requires c κs = search needs
-
-row-requires : tie.Need-row-requires
-row-requires c κs = search needs
-
-union-requires : tie.Need-union-requires
-union-requires c κs = search needs
-
 returns : tie.Need-returns
 returns c = (
   joined-by _ _ _ _ _ (c .before .before .before .before .intersection .ensures) (c .before .before .join .ensures),
@@ -24,4 +12,4 @@ returns c = (
 
 pub let-in-here-spec : {M : Type 1} → statement M
 let-in-here-spec =
-    tie.close (tie.spec intersection-requires join-requires row-requires union-requires returns)
+    tie.close (tie.spec (λ c κs. search needs) (λ c κs. search needs) (λ c κs. search needs) (λ c κs. search needs) returns)

@@ -22,24 +22,6 @@ abbrev μ-loop : tie.MeasureT-loop
 loop-holds : tie.Need-loop-holds Inv-loop μ-loop
 loop-holds c = (search needs, seen-none, open-first _ _ _ (search needs), refl, refl)
 
-shared-slice-read-t15 : tie.Need-shared-slice-read-t15 Inv-loop μ-loop
-shared-slice-read-t15 c = search needs
-
-included-after-requires : tie.Need-included-after-requires Inv-loop μ-loop
-included-after-requires c κs = search needs
-
-note-waiting-requires : tie.Need-note-waiting-requires Inv-loop μ-loop
-note-waiting-requires c κs = search needs
-
-and-then-requires : tie.Need-and-then-requires Inv-loop μ-loop
-and-then-requires c κs = search needs
-
-add-i : tie.Need-add-i Inv-loop μ-loop
-add-i c = search needs
-
-loop-less : tie.Need-loop-less Inv-loop μ-loop
-loop-less c = search needs
-
 loop-again : tie.Need-loop-again Inv-loop μ-loop
 loop-again c =
     let t = c .before .before .before .before .before .before .loop-test .taken in
@@ -60,15 +42,5 @@ returns c =
 pub replay-included-spec : {M : Type 1} → statement M
 replay-included-spec =
     tie.close
-    (tie.spec
-    Inv-loop
-    μ-loop
-    loop-holds
-    shared-slice-read-t15
-    included-after-requires
-    note-waiting-requires
-    and-then-requires
-    add-i
-    loop-less
-    loop-again
-    returns)
+    (tie.spec Inv-loop μ-loop loop-holds (λ c. search needs) (λ c κs. search needs) (λ c κs. search needs) (λ c κs. search needs)
+    (λ c. search needs) (λ c. search needs) loop-again returns)

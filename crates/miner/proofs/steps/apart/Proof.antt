@@ -14,41 +14,9 @@ Inv-loop events before later out₀ a₀ out a = (a ≤ width) × (out ≡ rowsO
 abbrev μ-loop : tie.MeasureT-loop
 μ-loop events before later out₀ a₀ out a = width - a
 
-empty-requires : tie.Need-empty-requires Inv-loop μ-loop
-empty-requires c κs = search (filling, needs)
-
-loop-holds : tie.Need-loop-holds Inv-loop μ-loop
-loop-holds c = search (filling, needs)
-
-apart-row-requires : tie.Need-apart-row-requires Inv-loop μ-loop
-apart-row-requires c κs = search (filling, needs)
-
-put-requires : tie.Need-put-requires Inv-loop μ-loop
-put-requires c κs = search (filling, needs)
-
-add-a : tie.Need-add-a Inv-loop μ-loop
-add-a c = search (filling, needs)
-
-loop-less : tie.Need-loop-less Inv-loop μ-loop
-loop-less c = search (filling, needs)
-
-loop-again : tie.Need-loop-again Inv-loop μ-loop
-loop-again c = search (filling, needs)
-
-returns : tie.Need-returns Inv-loop μ-loop
-returns c = search (filling, needs)
-
 pub apart-spec : {M : Type 1} → statement M
 apart-spec =
     tie.close
-    (tie.spec
-    Inv-loop
-    μ-loop
-    empty-requires
-    loop-holds
-    apart-row-requires
-    put-requires
-    add-a
-    loop-less
-    loop-again
-    returns)
+    (tie.spec Inv-loop μ-loop (λ c κs. search (filling, needs)) (λ c. search (filling, needs)) (λ c κs. search (filling, needs))
+    (λ c κs. search (filling, needs)) (λ c. search (filling, needs)) (λ c. search (filling, needs)) (λ c. search (filling, needs))
+    (λ c. search (filling, needs)))

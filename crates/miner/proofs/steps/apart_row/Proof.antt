@@ -5,21 +5,6 @@ use Rattle.miner.proofs.MadeSets.{joined, less, is-those, is-row}
 use Rattle.miner.proofs.steps.apart_row.Statement.{statement}
 use Rattle.miner.proofs.steps.apart_row.Tie as tie
 
-row-requires : tie.Need-row-requires
-row-requires c κs = search needs
-
-row-requires-2 : tie.Need-row-requires-2
-row-requires-2 c κs = search needs
-
-union-requires : tie.Need-union-requires
-union-requires c κs = search needs
-
-others-requires : tie.Need-others-requires
-others-requires c κs = search needs
-
-difference-requires : tie.Need-difference-requires
-difference-requires c κs = search needs
-
 returns : tie.Need-returns
 unfolding apart
 returns c =
@@ -29,10 +14,4 @@ returns c =
 pub apart-row-spec : {M : Type 1} → statement M
 apart-row-spec =
     tie.close
-    (tie.spec
-    row-requires
-    row-requires-2
-    union-requires
-    others-requires
-    difference-requires
-    returns)
+    (tie.spec (λ c κs. search needs) (λ c κs. search needs) (λ c κs. search needs) (λ c κs. search needs) (λ c κs. search needs) returns)

@@ -5,27 +5,9 @@ use Rattle.miner.proofs.MadeSets.{joined, less, is-those, is-row, unles
 use Rattle.miner.proofs.steps.closing_row.Statement.{statement}
 use Rattle.miner.proofs.steps.closing_row.Tie as tie
 
-has-requires : tie.Need-has-requires
-has-requires c κs = search needs
-
 returns : tie.Need-returns
 unfolding closing
 returns c = unless-true _ _ (c .before .has .ensures) _ (c .if1 .taken)
-
-fellows-requires : tie.Need-fellows-requires
-fellows-requires c κs = search needs
-
-row-requires : tie.Need-row-requires
-row-requires c κs = search needs
-
-intersection-requires : tie.Need-intersection-requires
-intersection-requires c κs = search needs
-
-row-requires-2 : tie.Need-row-requires-2
-row-requires-2 c κs = search needs
-
-difference-requires : tie.Need-difference-requires
-difference-requires c κs = search needs
 
 returns-2 : tie.Need-returns-2
 unfolding closing
@@ -38,12 +20,5 @@ returns-2 c =
 pub closing-row-spec : {M : Type 1} → statement M
 closing-row-spec =
     tie.close
-    (tie.spec
-    has-requires
-    returns
-    fellows-requires
-    row-requires
-    intersection-requires
-    row-requires-2
-    difference-requires
-    returns-2)
+    (tie.spec (λ c κs. search needs) returns (λ c κs. search needs) (λ c κs. search needs) (λ c κs. search needs) (λ c κs. search needs)
+    (λ c κs. search needs) returns-2)

@@ -3,14 +3,9 @@ use Rattle.miner.proofs.MadeSets.{with-itself}
 use Rattle.miner.proofs.steps.diagonal_row.Statement.{statement}
 use Rattle.miner.proofs.steps.diagonal_row.Tie as tie
 
-one-requires : tie.Need-one-requires
-one-requires c κs = search needs
-
-intersection-requires : tie.Need-intersection-requires
-intersection-requires c κs = search needs
-
 returns : tie.Need-returns
 returns c = with-itself _ _ _ _ (c .before .one .ensures) (c .intersection .ensures)
 
 pub diagonal-row-spec : {M : Type 1} → statement M
-diagonal-row-spec = tie.close (tie.spec one-requires intersection-requires returns)
+diagonal-row-spec =
+    tie.close (tie.spec (λ c κs. search needs) (λ c κs. search needs) returns)

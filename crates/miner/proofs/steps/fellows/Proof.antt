@@ -5,9 +5,6 @@ use Rattle.miner.proofs.MadeSets.{where-true, where-false}
 use Rattle.miner.proofs.steps.fellows.Statement.{statement}
 use Rattle.miner.proofs.steps.fellows.Tie as tie
 
-has-requires : tie.Need-has-requires
-has-requires c κs = search needs
-
 returns : tie.Need-returns
 returns c = where-true _ _ (c .before .has .ensures) _ _ (sym (those-mem _ (search needs))) (c .if1 .taken)
 
@@ -15,4 +12,5 @@ returns-2 : tie.Need-returns-2
 returns-2 c = where-false _ _ (c .before .has .ensures) _ (c .if1 .left)
 
 pub fellows-spec : {M : Type 1} → statement M
-fellows-spec = tie.close (tie.spec has-requires returns returns-2)
+fellows-spec =
+    tie.close (tie.spec (λ c κs. search needs) returns returns-2)

@@ -6,15 +6,10 @@ use Rattle.sets.specs.declared.set.Set.{Set}
 use Rattle.miner.proofs.steps.least_of.Statement.{statement}
 use Rattle.miner.proofs.steps.least_of.Tie as tie
 
-row-requires : tie.Need-row-requires
-row-requires c κs = search needs
-
-least-requires : tie.Need-least-requires
-least-requires c κs = search needs
-
 returns : tie.Need-returns
 unfolding inRow
 returns c = c .least .ensures ∙ ap (λ (s : Set). leastBelow width (mem s)) (c .before .row .ensures)
 
 pub least-of-spec : {M : Type 1} → statement M
-least-of-spec = tie.close (tie.spec row-requires least-requires returns)
+least-of-spec =
+    tie.close (tie.spec (λ c κs. search needs) (λ c κs. search needs) returns)

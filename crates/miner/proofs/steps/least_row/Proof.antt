@@ -4,14 +4,9 @@ use Rattle.sets.specs.Rows.{rowAt}
 use Rattle.miner.proofs.steps.least_row.Statement.{statement}
 use Rattle.miner.proofs.steps.least_row.Tie as tie
 
-least-requires : tie.Need-least-requires
-least-requires c κs = search needs
-
-row-requires : tie.Need-row-requires
-row-requires c κs = search needs
-
 returns : tie.Need-returns
 returns c = c .row .ensures ∙ ap (rowAt _) (c .before .least .ensures)
 
 pub least-row-spec : {M : Type 1} → statement M
-least-row-spec = tie.close (tie.spec least-requires row-requires returns)
+least-row-spec =
+    tie.close (tie.spec (λ c κs. search needs) (λ c κs. search needs) returns)

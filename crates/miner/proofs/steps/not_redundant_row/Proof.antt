@@ -6,21 +6,6 @@ use Rattle.miner.proofs.Passing.{through}
 use Rattle.miner.proofs.steps.not_redundant_row.Statement.{statement}
 use Rattle.miner.proofs.steps.not_redundant_row.Tie as tie
 
-row-requires : tie.Need-row-requires
-row-requires c κs = search needs
-
-difference-requires : tie.Need-difference-requires
-difference-requires c κs = search needs
-
-row-requires-2 : tie.Need-row-requires-2
-row-requires-2 c κs = search needs
-
-union-of-requires : tie.Need-union-of-requires
-union-of-requires c κs = search needs
-
-difference-requires-2 : tie.Need-difference-requires-2
-difference-requires-2 c κs = search needs
-
 returns : tie.Need-returns
 unfolding notRedundant
 returns c =
@@ -30,10 +15,4 @@ returns c =
 pub not-redundant-row-spec : {M : Type 1} → statement M
 not-redundant-row-spec =
     tie.close
-    (tie.spec
-    row-requires
-    difference-requires
-    row-requires-2
-    union-of-requires
-    difference-requires-2
-    returns)
+    (tie.spec (λ c κs. search needs) (λ c κs. search needs) (λ c κs. search needs) (λ c κs. search needs) (λ c κs. search needs) returns)

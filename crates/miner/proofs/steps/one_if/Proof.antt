@@ -4,9 +4,6 @@ use Rattle.miner.proofs.MadeSets.{where-true, where-false}
 use Rattle.miner.proofs.steps.one_if.Statement.{statement}
 use Rattle.miner.proofs.steps.one_if.Tie as tie
 
-one-requires : tie.Need-one-requires
-one-requires c κs = search needs
-
 returns : tie.Need-returns
 returns c = where-true _ _ refl _ _ (c .one .ensures) (c .before .if1 .taken)
 
@@ -14,4 +11,5 @@ returns-2 : tie.Need-returns-2
 returns-2 c = where-false _ _ refl _ (c .if1 .left)
 
 pub one-if-spec : {M : Type 1} → statement M
-one-if-spec = tie.close (tie.spec one-requires returns returns-2)
+one-if-spec =
+    tie.close (tie.spec (λ c κs. search needs) returns returns-2)

@@ -10,24 +10,6 @@ Inv-loop rows₀ gain rest₀ rows rest = (Part rest₀ rest) × Shared rows₀ 
 abbrev μ-loop : tie.MeasureT-loop
 μ-loop rows₀ gain rest₀ rows rest = countBelow width (mem rest)
 
-loop-holds : tie.Need-loop-holds Inv-loop μ-loop
-loop-holds c = search (members, needs)
-
-is-empty-requires : tie.Need-is-empty-requires Inv-loop μ-loop
-is-empty-requires c κs = search (members, needs)
-
-least-requires : tie.Need-least-requires Inv-loop μ-loop
-least-requires c κs = search (members, needs)
-
-join-requires : tie.Need-join-requires Inv-loop μ-loop
-join-requires c κs = search (members, needs)
-
-without-least-requires : tie.Need-without-least-requires Inv-loop μ-loop
-without-least-requires c κs = search (members, needs)
-
-loop-less : tie.Need-loop-less Inv-loop μ-loop
-loop-less c = search (members, needs)
-
 loop-again : tie.Need-loop-again Inv-loop μ-loop
 loop-again c =
     let turn = c .before .before .before .before .before .before .loop .inv in
@@ -40,14 +22,5 @@ returns c = share-end _ _ _ _ _ _ (c .before .before .loop .inv .1) (c .before .
 pub share-spec : {M : Type 1} → statement M
 share-spec =
     tie.close
-    (tie.spec
-    Inv-loop
-    μ-loop
-    loop-holds
-    is-empty-requires
-    least-requires
-    join-requires
-    without-least-requires
-    loop-less
-    loop-again
-    returns)
+    (tie.spec Inv-loop μ-loop (λ c. search (members, needs)) (λ c κs. search (members, needs)) (λ c κs. search (members, needs))
+    (λ c κs. search (members, needs)) (λ c κs. search (members, needs)) (λ c. search (members, needs)) loop-again returns)

@@ -14,45 +14,9 @@ Inv-loop rows out₀ x₀ out x = (x ≤ width) × (out ≡ rowsOf (onto (smalle
 abbrev μ-loop : tie.MeasureT-loop
 μ-loop rows out₀ x₀ out x = width - x
 
-empty-requires : tie.Need-empty-requires Inv-loop μ-loop
-empty-requires c κs = search (scattering, needs)
-
-loop-holds : tie.Need-loop-holds Inv-loop μ-loop
-loop-holds c = search (scattering, needs)
-
-least-of-requires : tie.Need-least-of-requires Inv-loop μ-loop
-least-of-requires c κs = search (scattering, needs)
-
-one-requires : tie.Need-one-requires Inv-loop μ-loop
-one-requires c κs = search (scattering, needs)
-
-join-requires : tie.Need-join-requires Inv-loop μ-loop
-join-requires c κs = search (scattering, needs)
-
-add-x : tie.Need-add-x Inv-loop μ-loop
-add-x c = search (scattering, needs)
-
-loop-less : tie.Need-loop-less Inv-loop μ-loop
-loop-less c = search (scattering, needs)
-
-loop-again : tie.Need-loop-again Inv-loop μ-loop
-loop-again c = search (scattering, needs)
-
-returns : tie.Need-returns Inv-loop μ-loop
-returns c = search (scattering, needs)
-
 pub smallest-spec : {M : Type 1} → statement M
 smallest-spec =
     tie.close
-    (tie.spec
-    Inv-loop
-    μ-loop
-    empty-requires
-    loop-holds
-    least-of-requires
-    one-requires
-    join-requires
-    add-x
-    loop-less
-    loop-again
-    returns)
+    (tie.spec Inv-loop μ-loop (λ c κs. search (scattering, needs)) (λ c. search (scattering, needs)) (λ c κs. search (scattering, needs))
+    (λ c κs. search (scattering, needs)) (λ c κs. search (scattering, needs)) (λ c. search (scattering, needs))
+    (λ c. search (scattering, needs)) (λ c. search (scattering, needs)) (λ c. search (scattering, needs)))

@@ -11,24 +11,6 @@ Inv-loop rows out₀ rest₀ out rest = (Part rest₀ rest) × (out ≡ those (i
 abbrev μ-loop : tie.MeasureT-loop
 μ-loop rows out₀ rest₀ out rest = countBelow width (mem rest)
 
-loop-holds : tie.Need-loop-holds Inv-loop μ-loop
-loop-holds c = search (members, needs)
-
-is-empty-requires : tie.Need-is-empty-requires Inv-loop μ-loop
-is-empty-requires c κs = search (members, needs)
-
-least-row-requires : tie.Need-least-row-requires Inv-loop μ-loop
-least-row-requires c κs = search (members, needs)
-
-union-requires : tie.Need-union-requires Inv-loop μ-loop
-union-requires c κs = search (members, needs)
-
-without-least-requires : tie.Need-without-least-requires Inv-loop μ-loop
-without-least-requires c κs = search (members, needs)
-
-loop-less : tie.Need-loop-less Inv-loop μ-loop
-loop-less c = search (members, needs)
-
 loop-again : tie.Need-loop-again Inv-loop μ-loop
 loop-again c =
     let turn = c .before .before .before .before .before .loop .inv in
@@ -41,14 +23,5 @@ returns c = union-end _ _ _ _ _ (c .before .before .loop .inv .1) (c .before .is
 pub union-of-spec : {M : Type 1} → statement M
 union-of-spec =
     tie.close
-    (tie.spec
-    Inv-loop
-    μ-loop
-    loop-holds
-    is-empty-requires
-    least-row-requires
-    union-requires
-    without-least-requires
-    loop-less
-    loop-again
-    returns)
+    (tie.spec Inv-loop μ-loop (λ c. search (members, needs)) (λ c κs. search (members, needs)) (λ c κs. search (members, needs))
+    (λ c κs. search (members, needs)) (λ c κs. search (members, needs)) (λ c. search (members, needs)) loop-again returns)

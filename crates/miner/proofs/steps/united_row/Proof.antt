@@ -5,18 +5,10 @@ use Rattle.miner.proofs.MadeSets.{joined, is-row}
 use Rattle.miner.proofs.steps.united_row.Statement.{statement}
 use Rattle.miner.proofs.steps.united_row.Tie as tie
 
-row-requires : tie.Need-row-requires
-row-requires c κs = search needs
-
-row-requires-2 : tie.Need-row-requires-2
-row-requires-2 c κs = search needs
-
-union-requires : tie.Need-union-requires
-union-requires c κs = search needs
-
 returns : tie.Need-returns
 unfolding inEither
 returns c = joined _or_ _ _ _ _ _ (is-row _ _ _ (c .before .before .row .ensures)) (is-row _ _ _ (c .before .row2 .ensures)) (c .union .ensures)
 
 pub united-row-spec : {M : Type 1} → statement M
-united-row-spec = tie.close (tie.spec row-requires row-requires-2 union-requires returns)
+united-row-spec =
+    tie.close (tie.spec (λ c κs. search needs) (λ c κs. search needs) (λ c κs. search needs) returns)

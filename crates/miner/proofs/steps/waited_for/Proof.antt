@@ -4,24 +4,6 @@ use Rattle.miner.proofs.MadeSets.{without, joined, less, is-those, is-r
 use Rattle.miner.proofs.steps.waited_for.Statement.{statement}
 use Rattle.miner.proofs.steps.waited_for.Tie as tie
 
-one-requires : tie.Need-one-requires
-one-requires c κs = search needs
-
-complement-requires : tie.Need-complement-requires
-complement-requires c κs = search needs
-
-row-requires : tie.Need-row-requires
-row-requires c κs = search needs
-
-intersection-requires : tie.Need-intersection-requires
-intersection-requires c κs = search needs
-
-row-requires-2 : tie.Need-row-requires-2
-row-requires-2 c κs = search needs
-
-difference-requires : tie.Need-difference-requires
-difference-requires c κs = search needs
-
 returns : tie.Need-returns
 returns c =
     let other = without _ _ _ (is-those _ _ (c .before .before .before .before .before .one .ensures)) (c .before .before .before .before .complement .ensures) in
@@ -31,11 +13,5 @@ returns c =
 pub waited-for-spec : {M : Type 1} → statement M
 waited-for-spec =
     tie.close
-    (tie.spec
-    one-requires
-    complement-requires
-    row-requires
-    intersection-requires
-    row-requires-2
-    difference-requires
-    returns)
+    (tie.spec (λ c κs. search needs) (λ c κs. search needs) (λ c κs. search needs) (λ c κs. search needs) (λ c κs. search needs)
+    (λ c κs. search needs) returns)

@@ -5,21 +5,6 @@ use Rattle.miner.proofs.MadeSets.{joined, is-those, is-row}
 use Rattle.miner.proofs.steps.waited_row.Statement.{statement}
 use Rattle.miner.proofs.steps.waited_row.Tie as tie
 
-row-requires : tie.Need-row-requires
-row-requires c κs = search needs
-
-waited-for-requires : tie.Need-waited-for-requires
-waited-for-requires c κs = search needs
-
-union-requires : tie.Need-union-requires
-union-requires c κs = search needs
-
-fellows-requires : tie.Need-fellows-requires
-fellows-requires c κs = search needs
-
-intersection-requires : tie.Need-intersection-requires
-intersection-requires c κs = search needs
-
 returns : tie.Need-returns
 unfolding waited
 returns c =
@@ -29,10 +14,4 @@ returns c =
 pub waited-row-spec : {M : Type 1} → statement M
 waited-row-spec =
     tie.close
-    (tie.spec
-    row-requires
-    waited-for-requires
-    union-requires
-    fellows-requires
-    intersection-requires
-    returns)
+    (tie.spec (λ c κs. search needs) (λ c κs. search needs) (λ c κs. search needs) (λ c κs. search needs) (λ c κs. search needs) returns)

@@ -7,17 +7,9 @@ use Rattle.miner.proofs.MadeSets.{less, is-those}
 use Rattle.miner.proofs.steps.without_least.Statement.{statement}
 use Rattle.miner.proofs.steps.without_least.Tie as tie
 
-least-requires : tie.Need-least-requires
-least-requires c κs = search needs
-
-one-requires : tie.Need-one-requires
-one-requires c κs = search needs
-
-difference-requires : tie.Need-difference-requires
-difference-requires c κs = search needs
-
 returns : tie.Need-returns
 returns c = less _ _ _ _ _ (λ a l. refl) (is-those _ _ (c .before .one .ensures ∙ ap (λ (n : ℕ). those (λ b. eqb b n)) (c .before .before .least .ensures))) (c .difference .ensures)
 
 pub without-least-spec : {M : Type 1} → statement M
-without-least-spec = tie.close (tie.spec least-requires one-requires difference-requires returns)
+without-least-spec =
+    tie.close (tie.spec (λ c κs. search needs) (λ c κs. search needs) (λ c κs. search needs) returns)

@@ -3,18 +3,6 @@ use Rattle.miner.proofs.Walks.{union-seen}
 use Rattle.miner.proofs.tally.note_trace.Statement.{statement}
 use Rattle.miner.proofs.tally.note_trace.Tie as tie
 
-forward-requires : tie.Need-forward-requires
-forward-requires c κs = search needs
-
-alternate-requires : tie.Need-alternate-requires
-alternate-requires c κs = search needs
-
-backward-requires : tie.Need-backward-requires
-backward-requires c κs = search needs
-
-union-requires : tie.Need-union-requires
-union-requires c κs = search needs
-
 returns : tie.Need-returns
 returns c =
     let rest = c .before .backward .ensures in
@@ -26,5 +14,4 @@ returns c =
 
 pub note-trace-spec : {M : Type 1} → statement M
 note-trace-spec =
-    tie.close
-    (tie.spec forward-requires alternate-requires backward-requires union-requires returns)
+    tie.close (tie.spec (λ c κs. search needs) (λ c κs. search needs) (λ c κs. search needs) (λ c κs. search needs) returns)

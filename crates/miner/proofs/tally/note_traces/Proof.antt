@@ -91,29 +91,8 @@ abbrev μ-loop : tie.MeasureT-loop
 loop-holds : tie.Need-loop-holds Inv-loop μ-loop
 loop-holds c = start _ _ _ _ _ _ _ _ _
 
-trace-part-requires : tie.Need-trace-part-requires Inv-loop μ-loop
-trace-part-requires c κs = search needs
-
 add-end : tie.Need-add-end Inv-loop μ-loop
 add-end c = omega (arith, part-within _ _ _ (c .before .trace-part .ensures))
-
-sub-note-trace : tie.Need-sub-note-trace Inv-loop μ-loop
-sub-note-trace c = search needs
-
-part-note-trace-start : tie.Need-part-note-trace-start Inv-loop μ-loop
-part-note-trace-start c = search needs
-
-part-note-trace-end : tie.Need-part-note-trace-end Inv-loop μ-loop
-part-note-trace-end c = search (part-within, needs)
-
-note-trace-requires : tie.Need-note-trace-requires Inv-loop μ-loop
-note-trace-requires c κs = search needs
-
-add-k : tie.Need-add-k Inv-loop μ-loop
-add-k c = search needs
-
-loop-less : tie.Need-loop-less Inv-loop μ-loop
-loop-less c = search needs
 
 loop-again : tie.Need-loop-again Inv-loop μ-loop
 loop-again c =
@@ -151,17 +130,5 @@ returns c =
 pub note-traces-spec : {M : Type 1} → statement M
 note-traces-spec =
     tie.close
-    (tie.spec
-    Inv-loop
-    μ-loop
-    loop-holds
-    trace-part-requires
-    add-end
-    sub-note-trace
-    part-note-trace-start
-    part-note-trace-end
-    note-trace-requires
-    add-k
-    loop-less
-    loop-again
-    returns)
+    (tie.spec Inv-loop μ-loop loop-holds (λ c κs. search needs) add-end (λ c. search needs) (λ c. search needs)
+    (λ c. search (part-within, needs)) (λ c κs. search needs) (λ c. search needs) (λ c. search needs) loop-again returns)
