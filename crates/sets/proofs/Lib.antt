@@ -4,6 +4,7 @@ pub mod Bits
 pub mod Below
 pub mod Members
 pub mod RowLaws
+pub mod TableLaws
 pub mod Asking
 pub mod Order
 pub mod Files
