@@ -3,8 +3,12 @@ pub mod Tests
 pub mod Bits
 pub mod Below
 pub mod Members
+pub mod Tautologies
 pub mod RowLaws
 pub mod TableLaws
+pub mod MadeSets
+pub mod Passing
+pub mod Loops
 pub mod Asking
 pub mod Order
 pub mod Files
