@@ -17,10 +17,11 @@ use Rattle.sets.proofs.Below.{some-i, some-e}
 use Rattle.sets.proofs.Members.{those-ext, those-of}
 use Rattle.sets.proofs.RowLaws.{row-out}
 use Rattle.rules.specs.Traces.{_has_}
-use Rattle.miner.specs.Passes.{gained, forward, letIn}
-use Rattle.miner.proofs.Turns.{pastAt, past-next, seenIn, forward-next}
+use Rattle.tally.specs.Passes.{gained, gains, forward}
+use Rattle.miner.specs.Facts.{letIn}
+use Rattle.tally.proofs.Turns.{pastAt, past-next, seenIn, forward-next}
 use Rattle.miner.proofs.Gains.{gains-below}
-use Rattle.miner.proofs.MadeSets.{is-those, none}
+use Rattle.sets.proofs.MadeSets.{is-those, none}
 
 -- a row that has a member is one of the rows
 row-below : (rows : List ℕ) (s x : ℕ) → T (inRow rows s x) → s < width
@@ -75,12 +76,12 @@ module _ (unfollowed : List ℕ) where
         ∙ ap barredIn (sym (past-next σ i h))
 
     pub let-in-next : (after : Set) (all rows rows′ : List ℕ) → after ≡ seenIn (drop (i + 1) σ)
-        → forward (letIn unfollowed) rows (pastAt σ i) (drop i σ) ≡ all
+        → forward (gains (letIn unfollowed)) rows (pastAt σ i) (drop i σ) ≡ all
         → rows′ ≡ gained rows (getD σ i 0) (λ x. mem after x and mem barred x)
-        → forward (letIn unfollowed) rows′ (pastAt σ (i + 1)) (drop (i + 1) σ) ≡ all
+        → forward (gains (letIn unfollowed)) rows′ (pastAt σ (i + 1)) (drop (i + 1) σ) ≡ all
     unfolding letIn
     let-in-next after all rows rows′ ha inv hr =
-        forward-next (letIn unfollowed) σ all i rows rows′ h
+        forward-next (gains (letIn unfollowed)) σ all i rows rows′ h
         (gains-below (letIn unfollowed) rows (getD σ i 0) (pastAt σ i) (drop (i + 1) σ) (λ x. mem after x and mem barred x) rows′
         (λ l x k.
         ap₂ _and_ (is-those after (λ y. drop (i + 1) σ has y) ha x k) (is-those barred (barredAt (pastAt σ i)) hb x k))

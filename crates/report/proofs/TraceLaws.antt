@@ -11,8 +11,8 @@ use Rattle.engine.specs.Relations.{inRows}
 use Rattle.engine.specs.Replay.{replayFrom}
 use Rattle.calllog.specs.declared.trace.Part.{Part}
 use Rattle.calllog.specs.Logs.{partOf}
-use Rattle.miner.specs.Passes.{walked}
-use Rattle.miner.proofs.Walks.{partAt, part-cut, walked-next, walked-end, walked-start}
+use Rattle.tally.specs.Passes.{walked}
+use Rattle.tally.proofs.Walks.{partAt, part-cut, walked-next, walked-end, walked-start}
 use Rattle.report.specs.Listing.{traceLine, traceLines}
 use Rattle.report.specs.Puts.{Put}
 use Rattle.report.proofs.PutLaws.{Left, left-all, left-as, left-next, left-room, left-none}

@@ -26,8 +26,8 @@ use Rattle.rules.specs.Traces.{Traces}
 use Rattle.rules.specs.Mined.{minedGraph}
 use Rattle.rules.proofs.Acceptable.{acceptable}
 use Rattle.rules.proofs.FromFile.{file-accepted}
-use Rattle.miner.specs.Passes.{walked}
-use Rattle.miner.specs.Reading.{turned}
+use Rattle.tally.specs.Passes.{walked}
+use Rattle.sets.specs.Rows.{turned}
 use Rattle.miner.proofs.FromLog.{walk-all}
 use Rattle.report.specs.Lines.{lineEnd, line, refusedWord, C, R, I, E}
 use Rattle.report.specs.Pairs.{Pair, pairsOf, pairCount}

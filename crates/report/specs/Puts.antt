@@ -13,8 +13,8 @@ use Rattle.engine.specs.declared.graph.Graph.{Graph}
 use Rattle.engine.specs.Relations.{inRows}
 use Rattle.engine.specs.Replay.{replayFrom}
 use Rattle.calllog.specs.Logs.{logOf}
-use Rattle.miner.specs.Passes.{walked}
-use Rattle.miner.specs.Reading.{turned}
+use Rattle.tally.specs.Passes.{walked}
+use Rattle.sets.specs.Rows.{turned}
 use Rattle.report.specs.Lines.{space, lineEnd, decimal, eventsWord, tracesWord, C, R, I, E, T}
 use Rattle.report.specs.Pairs.{pairsOf, pairCount}
 use Rattle.report.specs.Listing.{pairLines, traceLines}

@@ -8,7 +8,6 @@ ghost use Rattle.report.specs.Listing.{pairLine, pairLines};
 ghost use Rattle.report.specs.Puts.{Put, relationsText};
 use crate::heading;
 use crate::text;
-use miner::without_least;
 use sets::Activity;
 use sets::Rows;
 use sets::Set;
@@ -33,7 +32,7 @@ fn put_row(out: &mut [u8], at: usize, letter: &[u8], s: u8, targets: Set) -> usi
     while !rest.is_empty() {
         let t = rest.least();
         next = put_pair(out, next, letter, s, t.0);
-        rest = without_least(rest);
+        rest = rest.without_least();
     }
     next
 }

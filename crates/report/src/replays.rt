@@ -5,7 +5,7 @@ ghost use lib.ListN.{length};
 ghost use Rattle.sets.specs.Members.{digit};
 ghost use Rattle.engine.specs.Relations.{inRows};
 ghost use Rattle.engine.specs.Replay.{replayFrom};
-ghost use Rattle.miner.specs.Passes.{walked};
+ghost use Rattle.tally.specs.Passes.{walked};
 ghost use Rattle.report.specs.Listing.{traceLine, traceLines};
 ghost use Rattle.report.specs.Puts.{Put, traceText};
 use crate::text;

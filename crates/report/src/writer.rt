@@ -13,6 +13,7 @@ use engine::Marking;
 use sets::Answer;
 use sets::Rows;
 use sets::Set;
+use sets::rows;
 
 // No listing has more bytes: a buffer of this size is always enough.
 pub const LONGEST: usize = 147506;
@@ -50,7 +51,7 @@ fn put_lines<'a>(
     ensures { λ r. ⌜ Put (now (out .entry)) 0 (linesText events opening (now (conditions .entry)) (now (responses .entry)) (now (includes .entry)) (now (excludes .entry)) (now (log .entry)) traces) (now (out .exit)) r ⌝ }
 {
     // from here on the conditions by source, as they are listed
-    let listed = miner::turned(conditions);
+    let listed = rows::turned(conditions);
     let at = heading::put_heading(
         out,
         0,

@@ -7,20 +7,21 @@ use native.Mathlib.Nat.{not-suc-le-zero, le-of-suc-le-suc}
 use native.Mathlib.Numerals.{add-one}
 use native.Mathlib.Omega.{arith}
 use borrow.Author.Tests.{lt-ltb, le-ltb, ltb-true, ltb-false, eqb-true, eqb-false, ne-eqb}
-use lib.Dec.{eqb, ltb, eqb-refl, lt→ltb, ltb→lt}
+use lib.Arith.{lt-of-le-ne}
+use lib.Dec.{eqb, ltb, eqb-refl, eqb→eq, lt→ltb, ltb→lt}
 use lib.ListN.{length, getD, set, take, drop, length-set, length-append, length-drop, length-replicate, getD-replicate, take-append-drop}
 use lib.ListN.{List·getD-eq-default}
 use lib.Seq.{ext-getD, length-take-le, drop-set-add, drop-set-lt, take-set-le, take-set-lt, drop-drop, drop-at, take-at, getD-take}
-use lib.Seq.{getD-drop, set-out}
+use lib.Seq.{getD-drop, set-out, take-all}
 use Rattle.sets.specs.Tests.{_and_, _or_, when_then_else_}
 use Rattle.sets.specs.Members.{width, mem, those, noSet}
 use Rattle.sets.specs.Rows.{Relation, noRows, rowAt, withRow, inRow, rowsOf}
 use Rattle.sets.specs.Tables.{noTables, tableAt, withRowIn, gainedIn, withRowsIn, withTable, tablesOf}
 use Rattle.sets.specs.declared.set.Set.{Set}
-use Rattle.sets.proofs.Tests.{T→true, F→false, T-ext, split, either, or-false, true-and, false-and}
+use Rattle.sets.proofs.Tests.{T→true, F→false, T-ext, eqb-of, split, either, or-false, true-and, false-and}
 use Rattle.sets.proofs.Members.{Whole, those-mem}
 use Rattle.sets.proofs.RowLaws.{row-in, row-out, put-in, put-out, length-rowsOf, row-rowsOf, rowsOf-ext, empty-rowsOf, put-rowsOf}
-use Rattle.sets.proofs.RowLaws.{gain-rowsOf, in-rowsOf}
+use Rattle.sets.proofs.RowLaws.{gain-rowsOf, in-rowsOf, row-put-same, row-put-other}
 
 -- ---- what the code reads and writes: place k * width + a, where there is one
 
@@ -113,9 +114,9 @@ pub ruleset placing = (table-row, table-row-above, table-row-past, table-put, ta
 
 -- a loop that puts row after row
 module _ (tables : List ℕ) (k : ℕ) (rows : List ℕ) where
-  pub rows-begin : tables ≡ withRowsIn tables k rows 0
+  pub rows-begin : (held : List ℕ) → held ≡ tables → held ≡ withRowsIn tables k rows 0
   unfolding withRowsIn
-  rows-begin = refl
+  rows-begin held h = h
 
   pub rows-next : (i : ℕ) (s : Set) (held out : List ℕ) → s ≡ rowAt rows i → held ≡ withRowsIn tables k rows i → out ≡ withRowIn held k i s
       → out ≡ withRowsIn tables k rows (i + 1)
@@ -135,6 +136,34 @@ module _ (tables : List ℕ) (k : ℕ) (rows : List ℕ) where
   rows-length i held h = ap length h ∙ length-rows-in i
 
 pub ruleset putting = (rows-begin, rows-next, rows-end, rows-length)
+
+-- ---- a relation's rows are one table
+
+pub table-rowsOf : (r : Relation) → tableAt (rowsOf r) 0 ≡ rowsOf r
+unfolding tableAt
+table-rowsOf r = take-all width (rowsOf r) (omega (arith, length-rowsOf r))
+
+one-table : (rows : List ℕ) (a : ℕ) (s : Set) → withRowIn rows 0 a s ≡ withRow rows a s
+unfolding withRowIn withRow
+one-table rows a s = let same : 0 * width + a ≡ a = omega arith in ap (λ (i : ℕ). when ltb a width then set rows i (s .bits) else rows) same
+
+-- rows that were put down row by row are there
+rows-there : (rows : List ℕ) (m : ℕ) → m ≤ width → (a : ℕ) → a < m → rowAt (withRowsIn noRows 0 rows m) a ≡ rowAt rows a
+unfolding withRowsIn
+rows-there rows zero l a h = absurd (not-suc-le-zero h)
+rows-there rows (suc m) l a h =
+    let held = withRowsIn noRows 0 rows m in
+    let long : length held ≡ width = length-rows-in noRows 0 rows m ∙ length-replicate {A = ℕ} width 0 in
+    ap (λ (x : List ℕ). rowAt x a) (one-table held m (rowAt rows m))
+    ∙ either (split (eqb a m))
+    (λ t.
+    let same : a ≡ m = eqb→eq a m t in
+    ap (rowAt (withRow held m (rowAt rows m))) same ∙ row-put-same held m (rowAt rows m) l long ∙ ap (rowAt rows) (sym same))
+    (λ f. row-put-other held m (rowAt rows m) a (λ q. f (eqb-of q))
+    ∙ rows-there rows m (omega arith) a (lt-of-le-ne (le-of-suc-le-suc h) (λ q. f (eqb-of q))))
+
+pub row-taken : (rows : List ℕ) (a : ℕ) → a < width → rowAt (withTable noRows 0 rows) a ≡ rowAt rows a
+row-taken rows a l = rows-there rows width (omega arith) a l
 
 -- ---- tables are known by their rows
 

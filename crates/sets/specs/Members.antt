@@ -1,7 +1,7 @@
 -- Sets of activities, said by their members (01, "Sizes": a set is 8 bytes, bit a for activity a).
 use mathlib.Core.Bool.{Bool, true, false}
 use Prim.Native.Nat.{ℕ, zero, suc, _+_, _*_, _/_, _%_, _^_}
-use lib.Dec.{eqb}
+use lib.Dec.{eqb, ltb}
 use Rattle.sets.specs.Tests.{_and_, _or_, non}
 use Rattle.sets.specs.declared.set.Set.{Set}
 
@@ -58,6 +58,10 @@ orNext false n = suc n
 unfoldable pub leastBelow : ℕ → (ℕ → Bool) → ℕ
 leastBelow zero p = 0
 leastBelow (suc w) p = orNext (p 0) (leastBelow w (λ a. p (suc a)))
+
+-- the least member above a, or the width where there is none
+unfoldable pub nextAbove : Set → ℕ → ℕ
+nextAbove s a = leastBelow width (λ b. mem s b and ltb a b)
 
 -- the set has no member
 unfoldable pub isEmpty : Set → Bool

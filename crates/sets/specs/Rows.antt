@@ -4,7 +4,7 @@ use mathlib.Core.List.{List, [], _∷_}
 use Prim.Native.Nat.{ℕ, zero, suc}
 use lib.Dec.{ltb}
 use lib.ListN.{getD, set, replicate}
-use Rattle.sets.specs.Tests.{when_then_else_}
+use Rattle.sets.specs.Tests.{_and_, when_then_else_}
 use Rattle.sets.specs.Members.{width, mem, those, noSet}
 use Rattle.sets.specs.declared.set.Set.{Set}
 
@@ -36,3 +36,11 @@ listFrom (suc n) i f = f i ∷ listFrom n (suc i) f
 -- the rows of a relation: row a is the set of the b that it has with a
 unfoldable pub rowsOf : Relation → List ℕ
 rowsOf r = listFrom width 0 (λ a. those (r a) .bits)
+
+-- the rows of a relation at the members of a set; the others are empty
+unfoldable pub rowsFor : Set → Relation → List ℕ
+rowsFor s r = rowsOf (λ a b. mem s a and r a b)
+
+-- from rows by target to pairs by source, and back
+unfoldable pub turned : List ℕ → Relation
+turned rows a b = inRow rows b a

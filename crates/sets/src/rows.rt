@@ -1,9 +1,9 @@
 // Rows of sets, one for each activity: how a relation is kept. Only these functions read or write the numbers, so a wider
 // set changes this file and set.rt alone.
 ghost use mathlib.Core.Path.{_≡_};
-ghost use Rattle.sets.specs.Tests.{_or_};
+ghost use Rattle.sets.specs.Tests.{_and_, _or_};
 ghost use Rattle.sets.specs.Members.{mem, those};
-ghost use Rattle.sets.specs.Rows.{noRows, rowAt, withRow};
+ghost use Rattle.sets.specs.Rows.{Relation, noRows, rowAt, withRow, rowsOf, turned};
 use crate::activity::Activity;
 use crate::activity::WIDTH;
 use crate::set::Set;
@@ -49,4 +49,29 @@ pub fn join(rows: &mut Rows, a: Activity, s: Set)
         let new = old.union(s);
         rows[i] = new.bits;
     }
+}
+
+// The row of every member gains a set.
+fn share(rows: &mut Rows, members: Set, gain: Set)
+    ensures { λ _. ⌜ ((r : Relation) → now (rows .entry) ≡ rowsOf r → now (rows .exit) ≡ rowsOf (λ a x. r a x or mem members a and mem gain x)) ⌝ }
+{
+    let mut rest = members;
+    while !rest.is_empty() {
+        join(rows, rest.least(), gain);
+        rest = rest.without_least();
+    }
+}
+
+// Rows by target from rows by source, and back.
+pub fn turned(rows: &Rows) -> Rows
+    ensures { λ r. ⌜ r ≡ rowsOf (turned (now (rows .entry))) ⌝ }
+{
+    let mut out = empty();
+    let mut x = 0;
+    while x < Activity::LIMIT {
+        let members = row(rows, Activity(x));
+        share(&mut out, members, Set::one(Activity(x)));
+        x += 1;
+    }
+    out
 }

@@ -1,7 +1,7 @@
 // Several relations kept in one array: the rows of table 0, then those of table 1, and so on. Rows past the end are empty, and
 // a put there changes nothing, so the length is no concern of a caller.
 ghost use mathlib.Core.Path.{_≡_};
-ghost use Rattle.sets.specs.Rows.{rowAt};
+ghost use Rattle.sets.specs.Rows.{noRows, rowAt};
 ghost use Rattle.sets.specs.Tables.{tableAt, withRowIn, gainedIn, withTable};
 use crate::activity::Activity;
 use crate::activity::WIDTH;
@@ -55,4 +55,18 @@ pub fn put_rows(tables: &mut [u64], table: u8, rows: &Rows)
         put(tables, table, a, rows::row(rows, a));
         i += 1;
     }
+}
+
+// The rows of a table by themselves.
+pub fn taken(tables: &[u64], table: u8) -> Rows
+    ensures { λ r. ⌜ r ≡ withTable noRows 0 (tableAt (now (tables .entry)) table) ⌝ }
+{
+    let mut out = rows::empty();
+    let mut i: u8 = 0;
+    while i < Activity::LIMIT {
+        let a = Activity(i);
+        put(&mut out, 0, a, row(tables, table, a));
+        i += 1;
+    }
+    out
 }

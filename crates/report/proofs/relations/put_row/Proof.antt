@@ -1,6 +1,6 @@
 use Rattle.sets.specs.Members.{width, mem, countBelow}
 use Rattle.report.proofs.LineLaws.{members}
-use Rattle.miner.proofs.Passing.{fewer-left}
+use Rattle.sets.proofs.Passing.{fewer-left}
 use Rattle.report.proofs.PutLaws.{Left}
 use Rattle.report.proofs.LineLaws.{rowText}
 use borrow.Author.Needs.{needs}

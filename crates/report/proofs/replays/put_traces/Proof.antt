@@ -3,7 +3,7 @@ use native.Mathlib.Omega.{arith}
 use Rattle.engine.specs.Relations.{inRows}
 use Rattle.engine.specs.Replay.{replayFrom}
 use Rattle.calllog.proofs.Traces.{part-within}
-use Rattle.miner.specs.Passes.{walked}
+use Rattle.tally.specs.Passes.{walked}
 use Rattle.report.specs.Listing.{traceLines}
 use borrow.Author.Needs.{needs}
 use Rattle.report.proofs.PutLaws.{Left}
