@@ -4,10 +4,10 @@ use mathlib.Core.List.{List, []}
 use Prim.Native.Nat.{ℕ}
 use Rattle.sets.specs.Members.{those}
 use Rattle.sets.specs.Rows.{noRows, rowsOf, rowsFor, turned}
-use Rattle.sets.specs.Tables.{noTables}
+use Rattle.sets.specs.Tables.{noTables, withTable}
 use Rattle.sets.specs.declared.set.Set.{Set}
 use Rattle.engine.specs.Markings.{openingOf}
-use Rattle.engine.specs.Relations.{graphOf}
+use Rattle.engine.specs.Relations.{relationCount, headOf, graphOf}
 use Rattle.engine.specs.declared.marking.Marking.{Marking}
 use Rattle.engine.specs.declared.graph.Graph.{Graph}
 use Rattle.rules.specs.Traces.{Traces, _has_, someTrace}
@@ -16,7 +16,8 @@ use Rattle.steps.specs.Rowwise.{reducedOf, waited}
 use Rattle.tally.specs.Passes.{gains, forward, through}
 use Rattle.tally.specs.Tallies.{tableCount, noted}
 use Rattle.miner.specs.Facts.{letIn, beforeFirst, missed}
-use Rattle.miner.specs.Stages.{conditionsOf, chainsOf, responsesOf, neverOf, fiveFrom, sevenFrom, sevenOf, includesFrom, includesOf, waitedOf, graphRead, graphFound}
+use Rattle.miner.specs.Stages.{conditionsOf, chainsOf, responsesOf, neverOf, fiveFrom, sevenFrom, sevenOf, includesFrom, includesOf}
+use Rattle.miner.specs.Stages.{waitedOf, fourTables, graphRead, graphFound}
 
 -- steps 3 and 6, of the includes
 pub includes-by : (L : Traces) (chains never three r : List ℕ) → three ≡ rowsOf (turned chains)
@@ -38,12 +39,22 @@ conditions-by L events eight includes excludes first₀ unmet₀ first unmet nin
     (hf ∙ ap (λ (x : List ℕ). through (λ r σ. forward (gains beforeFirst) r [] σ) x L) h₀)
     (hu ∙ ap (λ (x : List ℕ). through (λ r σ. forward (gains (missed events includes excludes)) r [] σ) x L) k₀))
 
+-- the tables, put in one after the other
+pub tables-by : (c r i x o₁ o₂ o₃ o₄ : List ℕ) → o₁ ≡ withTable (noTables relationCount) 0 c → o₂ ≡ withTable o₁ 1 r → o₃ ≡ withTable o₂ 2 i
+    → o₄ ≡ withTable o₃ 3 x → o₄ ≡ fourTables c r i x
+tables-by c r i x o₁ o₂ o₃ o₄ h₁ h₂ h₃ h₄ =
+    h₄
+    ∙ ap (λ (o : List ℕ). withTable o 3 x) (h₃ ∙ ap (λ (o : List ℕ). withTable o 2 i) (h₂ ∙ ap (λ (o : List ℕ). withTable o 1 r) h₁))
+
 -- the graph, from the tally, stage by stage
-module _ (A : ℕ) (L : Traces) (events : Set) (tally : List ℕ) (opening : Marking) (chains never five excludes includes two eight conditions answering responses : List ℕ)
+module _ (A : ℕ) (L : Traces) (events : Set) (tally : List ℕ) (opening : Marking)
+    (chains never five excludes includes two eight conditions answering responses found : List ℕ)
     (hc : chains ≡ chainsOf events tally) (hn : never ≡ neverOf events tally) (hf : five ≡ fiveFrom events tally chains)
     (hx : excludes ≡ sevenFrom events tally five never) (hi : includes ≡ includesFrom chains never L)
-    (hw : two ≡ conditionsOf events tally) (he : eight ≡ rowsFor events (reducedOf two)) (hd : conditions ≡ waitedOf events eight includes excludes L)
-    (ha : answering ≡ responsesOf events tally) (hr : responses ≡ rowsFor events (reducedOf answering)) (ho : opening ≡ openingOf events) where
+    (hw : two ≡ conditionsOf events tally) (he : eight ≡ rowsFor events (reducedOf two)) (hd : conditions
+    ≡ waitedOf events eight includes excludes L)
+    (ha : answering ≡ responsesOf events tally) (hr : responses ≡ rowsFor events (reducedOf answering))
+    (hq : found ≡ fourTables conditions responses includes excludes) (ho : opening ≡ openingOf events) where
   the-excludes : excludes ≡ sevenOf events tally
   the-excludes = hx ∙ (λ i. sevenFrom events tally ((hf ∙ ap (fiveFrom events tally) hc) i) (hn i))
 
@@ -53,10 +64,13 @@ module _ (A : ℕ) (L : Traces) (events : Set) (tally : List ℕ) (opening : Mar
   the-eight : eight ≡ rowsFor events (reducedOf (conditionsOf events tally))
   the-eight = he ∙ ap (λ (r : List ℕ). rowsFor events (reducedOf r)) hw
 
-  pub read-by : graphOf A events opening conditions responses includes excludes ≡ graphRead A L events tally
-  read-by i =
-      graphOf A events (ho i) ((hd ∙ (λ j. waitedOf events (the-eight j) (the-includes j) (the-excludes j) L)) i)
-      ((hr ∙ ap (λ (r : List ℕ). rowsFor events (reducedOf r)) ha) i) (the-includes i) (the-excludes i)
+  pub read-by : graphOf (headOf A events opening) found ≡ graphRead A L events tally
+  read-by =
+      (λ i. graphOf (headOf A events (ho i)) (hq i))
+      ∙ (λ i.
+      graphOf (headOf A events (openingOf events))
+      (fourTables ((hd ∙ (λ j. waitedOf events (the-eight j) (the-includes j) (the-excludes j) L)) i)
+      ((hr ∙ ap (λ (r : List ℕ). rowsFor events (reducedOf r)) ha) i) (the-includes i) (the-excludes i)))
 
 -- from the tally of the traces
 pub found-by : (A : ℕ) (L : Traces) (none tally : List ℕ) (events : Set) (r : Graph) → none ≡ noTables tableCount

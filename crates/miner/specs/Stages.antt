@@ -4,10 +4,10 @@ use mathlib.Core.List.{List, []}
 use Prim.Native.Nat.{ℕ}
 use Rattle.sets.specs.Members.{those}
 use Rattle.sets.specs.Rows.{noRows, rowsOf, rowsFor, turned}
-use Rattle.sets.specs.Tables.{tableAt}
+use Rattle.sets.specs.Tables.{noTables, tableAt, withTable}
 use Rattle.sets.specs.declared.set.Set.{Set}
 use Rattle.engine.specs.Markings.{openingOf}
-use Rattle.engine.specs.Relations.{graphOf}
+use Rattle.engine.specs.Relations.{relationCount, headOf, graphOf}
 use Rattle.engine.specs.declared.graph.Graph.{Graph}
 use Rattle.rules.specs.Traces.{Traces}
 use Rattle.rules.specs.Mining.{event}
@@ -57,14 +57,19 @@ waitedOf events eight includes excludes L =
     (waited events eight (through (λ r σ. forward (gains beforeFirst) r [] σ) noRows L)
     (through (λ r σ. forward (gains (missed events includes excludes)) r [] σ) noRows L))))
 
+-- four relations' rows, put into the tables of a graph
+abbrev pub fourTables : List ℕ → List ℕ → List ℕ → List ℕ → List ℕ
+fourTables c r i x = withTable (withTable (withTable (withTable (noTables relationCount) 0 c) 1 r) 2 i) 3 x
+
 -- the graph, from the events, the tally and the traces
 abbrev pub graphRead : ℕ → Traces → Set → List ℕ → Graph
 graphRead A L events tally =
-    graphOf A events (openingOf events)
+    graphOf (headOf A events (openingOf events))
+    (fourTables
     (waitedOf events (rowsFor events (reducedOf (conditionsOf events tally))) (includesOf events tally L) (sevenOf events tally) L)
     (rowsFor events (reducedOf (responsesOf events tally)))
     (includesOf events tally L)
-    (sevenOf events tally)
+    (sevenOf events tally))
 
 unfoldable pub graphFound : ℕ → Traces → Graph
 graphFound A L = graphRead A L (those (event L)) (tallied L)

@@ -1,16 +1,25 @@
 // The miner: from the bytes of a log to its graph.
 ghost use mathlib.Core.Path.{_≡_};
 ghost use Rattle.tally.specs.Passes.{walked};
-ghost use Rattle.miner.specs.Stages.{fiveFrom, sevenFrom, graphRead, graphFound};
+ghost use Rattle.miner.specs.Stages.{fiveFrom, sevenFrom, fourTables, graphRead, graphFound};
 ghost use Rattle.miner.specs.Mine.{minedOf};
 use crate::conditions;
 use crate::includes;
 use engine::Graph;
+use engine::Head;
 use engine::Marking;
+use engine::Relations;
+use engine::graph::CONDITIONS;
+use engine::graph::EXCLUDES;
+use engine::graph::INCLUDES;
+use engine::graph::KINDS;
+use engine::graph::RESPONSES;
 use sets::Answer;
 use sets::Rows;
 use sets::Set;
+use sets::activity::WIDTH;
 use sets::rows;
+use sets::tables;
 use steps::reduce;
 use steps::relations;
 use tally::Tally;
@@ -36,6 +45,23 @@ fn excludes_seven<'a>(events: Set, tally: &'a Tally, five: &'a Rows, never: &'a 
 {
     let six = relations::united(events, five, never);
     relations::not_redundant(events, &six, tally, log::UNALTERNATED)
+}
+
+// The tables of a graph, from the rows of its relations.
+fn relations_of<'a>(
+    conditions: &'a Rows,
+    responses: &'a Rows,
+    includes: &'a Rows,
+    excludes: &'a Rows,
+) -> Relations
+    ensures { λ r. ⌜ r ≡ fourTables (now (conditions .entry)) (now (responses .entry)) (now (includes .entry)) (now (excludes .entry)) ⌝ }
+{
+    let mut out: Relations = [0; KINDS as usize * WIDTH];
+    tables::put_rows(&mut out, CONDITIONS, conditions);
+    tables::put_rows(&mut out, RESPONSES, responses);
+    tables::put_rows(&mut out, INCLUDES, includes);
+    tables::put_rows(&mut out, EXCLUDES, excludes);
+    out
 }
 
 // The graph that a tally gives, with the traces that it is of: steps 6 and 9 ask them once more.
@@ -65,14 +91,14 @@ fn graph_read<'a>(
     );
     let answering = relations::unbroken(events, tally, log::UNANSWERED);
     let responses = reduce::reduced(events, &answering);
+    let found = relations_of(&conditions, &responses, &includes, &excludes);
     Graph {
-        activities,
-        events,
-        opening: Marking::opening(events),
-        conditions,
-        responses,
-        includes,
-        excludes,
+        head: Head {
+            activities,
+            events,
+            opening: Marking::opening(events),
+        },
+        relations: found,
     }
 }
 
