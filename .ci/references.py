@@ -6,7 +6,7 @@ import sys
 
 ROOT = os.path.join(os.path.dirname(os.path.abspath(__file__)), "..")
 FILE = re.compile(r"^(?!CRATE)[\w./+-]+/[\w./+-]+\.(antt|rt|edit)$")
-KINDS = r'(?:pub |pub\(crate\) |unfoldable |abbrev |extern "C" |record |data |ruleset |fn |const |struct |enum |type )*'
+KINDS = r'(?:pub |pub\(crate\) |unfoldable |abbrev |extern "C" |record |data |ruleset |fn |const |struct |enum |type |wrong: )*'
 
 
 def declared(name, text):

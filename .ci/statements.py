@@ -1,88 +1,157 @@
 #!/usr/bin/env python3
-"""Each public function of each library has a row in docs/STATEMENTS.md and a theorem in promises/proofs/Outcomes.antt, and neither has
-one for a function that is not there."""
+"""What each library lets others call, read from what the checker wrote of it (target/rlib, so run this after `rt check` or `rt ci`):
+no public function asks anything of its caller, each says something, each has a row in docs/STATEMENTS.md, and each has a theorem in
+promises/proofs/Outcomes.antt that starts from its own contract. Nor is there a row or a theorem for a function that is not there.
+The source is not read, so however a function came to be public, it is seen."""
+import json
 import os
 import re
 import sys
 
 ROOT = os.path.join(os.path.dirname(os.path.abspath(__file__)), "..")
-PROGRAMS = {"listing", "cases"}
+PROMISES = os.path.join("crates", "promises", "proofs")
+faults = []
 
 
 def read(*path):
-    return open(os.path.join(ROOT, *path), encoding="utf-8").read()
+    with open(os.path.join(ROOT, *path), encoding="utf-8") as file:
+        return file.read()
 
 
-def functions(text):
-    """The names of a file's public functions, with their type's name in an `impl`."""
-    of = None
-    for line in text.splitlines():
-        if re.match(r"impl\b", line):
-            of = re.match(r"impl(?:<[^>]*>)?\s+(\w+)", line).group(1)
-        elif line.startswith("}"):
-            of = None
-        found = re.match(r'\s*pub (?:extern "C" )?fn (\w+)', line)
-        if found:
-            yield f"{of}::{found.group(1)}" if of else found.group(1)
+def libraries():
+    names = [line.split(":")[0] for line in read("crates.txt").splitlines() if ":" in line and not line.startswith("#")]
+    return [name for name in names if os.path.exists(os.path.join(ROOT, "crates", name, "src", "lib.rt"))]
+
+
+# ---- what the checker wrote
+
+
+FACADE = os.path.join("facade", "proofs")
+
+
+def written(crate, side, module):
+    """A module of the crate's proofs, or of the facade: what others can name of them."""
+    return json.loads(read("target", "rlib", crate + ".rlib", "lang", "antt", side, *module.split(".")[:-1], module.split(".")[-1] + ".json"))
+
+
+def contract(crate, module):
+    """The contract behind a module of the facade, which stands for another, and that perhaps for one more."""
+    found = written(crate, FACADE, module)
+    while "StandsFor" in found:
+        module = found["StandsFor"]["source"].split("·proofs.proofs.", 1)[1]
+        found = written(crate, "proofs", module)
+    return found["Contract"]
 
 
 def public(crate):
-    """A crate's public functions: of its public modules, and those that it names of private ones."""
-    lib = read("crates", crate, "src", "lib.rt")
-    names = set(functions(lib))
-    for module in re.findall(r"(?m)^pub mod (\w+);", lib):
-        names |= set(functions(read("crates", crate, "src", module + ".rt")))
-    for module, item in re.findall(r"(?m)^pub use (\w+)::(\w+);", lib):
-        of = functions(read("crates", crate, "src", module + ".rt"))
-        names |= {name for name in of if name == item or name.startswith(item + "::")}
-    return names
+    """By symbol, the functions that others can call: the contract, and the names that its module has for others."""
+    top = os.path.join(ROOT, "target", "rlib", crate + ".rlib", "lang", "antt", FACADE)
+    found = {}
+    for folder, _, files in os.walk(top):
+        for file in files:
+            module = os.path.relpath(os.path.join(folder, file), top).removesuffix(".json").replace(os.sep, ".")
+            if "Statement" in written(crate, FACADE, module).get("StandsFor", {}).get("children", []):
+                said = contract(crate, module)
+                found.setdefault(said["function"]["symbol"], (said, set()))[1].add(f"Rattle.{crate}.proofs.{module}")
+    return found
 
 
-def stated():
-    """By crate, the last parts of the names in the first column of the tables."""
-    crate, rows = None, {}
+# ---- what is said of them
+
+
+def rows():
+    """By crate, the names in the first column of the tables."""
+    crate, names = None, {}
     for line in read("docs", "STATEMENTS.md").splitlines():
         if line.startswith("## "):
             crate = line[3:].split()[0].strip("`,")
         elif line.startswith("| `"):
-            for name in re.findall(r"`([^`]+)`", line.split("|")[1]):
-                rows.setdefault(crate, set()).add(name)
-    return rows
-
-
-def proved():
-    """By crate, the functions that the theorems of one outcome are called after."""
-    crate, names = None, {}
-    for line in read("crates", "promises", "proofs", "Outcomes.antt").splitlines():
-        if line.startswith("-- ---- "):
-            crate = re.match(r"\w+", line[8:]).group()
-        found = re.match(r"pub ([\w-]+)-once :", line)
-        if found:
-            names.setdefault(crate, set()).add(found.group(1))
+            names.setdefault(crate, []).extend(re.findall(r"`([^`]+)`", line.split("|")[1]))
     return names
 
 
-def theorem(crate, name):
-    """What the theorem of a function is called: calllog's `ask` is not the engine's."""
-    called = name.replace("::", "-").replace("_", "-")
-    return "log-ask" if (crate, name) == ("calllog", "ask") else called
+def theorems(text):
+    """By crate, the theorems of one outcome: what each is called after, its kind, and the contract that it starts from."""
+    crate, found = None, {}
+    for line in text.splitlines():
+        if line.startswith("-- ---- "):
+            crate = re.match(r"\w+", line[8:]).group()
+        named = re.match(r"pub ([\w-]+)-once : (\S+) (\S+)", line)
+        if named:
+            found.setdefault(crate, {})[named.group(1)] = (named.group(2), named.group(3))
+    return found
 
 
-rows, theorems = stated(), proved()
-bad = 0
-for crate in (line.split(":")[0] for line in read("crates.txt").splitlines() if ":" in line and not line.startswith("#")):
-    if crate in PROGRAMS or not os.path.exists(os.path.join(ROOT, "crates", crate, "src", "lib.rt")):
-        continue
-    names, said = public(crate), rows.get(crate, set())
-    last = {name.split("::")[-1] if name[0].islower() else name for name in said}
-    for name in sorted(names - last):
-        print(f"docs/STATEMENTS.md: {crate} has no row for {name}")
-        bad += 1
-    wanted = {theorem(crate, name) for name in names}
-    for name in sorted(wanted ^ theorems.get(crate, set())):
-        print(f"crates/promises/proofs/Outcomes.antt: {name}-once of {crate} is missing, or is of no public function")
-        bad += 1
-    for name in sorted(last - names):
-        print(f"docs/STATEMENTS.md: {crate} has a row for {name}, which is no public function")
-        bad += 1
-sys.exit(bad != 0)
+def imported(text):
+    """Modules by the name that a file has for them; a name given twice counts for neither."""
+    pairs = re.findall(r"(?m)^use (\S+) as (\S+)$", text)
+    return {name: module for module, name in pairs if [n for _, n in pairs].count(name) == 1}
+
+
+def walked(text):
+    """The contracts that Walked.antt makes of a function's own clauses: by their name, the name of the function's module there."""
+    return {f"{made}-Post": of for made, of in re.findall(r"abbrev ([\w-]+)-read : Read \(([\w-]+)\.clauses", text)}
+
+
+# ---- the two held together
+
+
+def rows_of(crate, functions, names):
+    for symbol in functions:
+        if sum(f"::{symbol}".endswith(f"::{name}") for name in names) != 1:
+            faults.append(f"docs/STATEMENTS.md: {crate} has not one row for {symbol}")
+    for name in names:
+        if sum(f"::{symbol}".endswith(f"::{name}") for symbol in functions) != 1:
+            faults.append(f"docs/STATEMENTS.md: {crate} has a row for {name}, which is not one public function")
+
+
+def called(crate, symbol):
+    """What a function's theorem is called after: calllog's `ask` is not the engine's."""
+    parts = symbol.split("::")
+    name = "-".join(parts[-2:] if parts[-2][0].isupper() else parts[-1:]).replace("_", "-")
+    return "log-ask" if symbol == "calllog::trace::ask" else name
+
+
+def outcome_of(symbol, said, modules, theorem):
+    """Whether the theorem starts from the function's own contract, and is of all that it leaves."""
+    kind, post = theorem
+    if post.endswith(".Post"):
+        own = OUTCOMES.get(post.removesuffix(".Post"), "") in {f"{module}.Reads" for module in modules}
+    else:
+        own = WALKED.get(WALKS.get(post)) in modules
+    if not own:
+        faults.append(f"{PROMISES}/Outcomes.antt: the theorem of {symbol} does not start from its own contract")
+    lent = any(param["ty"]["name"].endswith("RefMut") for param in said["function"]["params"])
+    gives = said["function"]["result"]["name"] != "unit"
+    if kind != {(True, True): "OnceLent", (True, False): "OnceLeft"}.get((lent, gives), "Once"):
+        faults.append(f"{PROMISES}/Outcomes.antt: the theorem of {symbol} is not of all that it gives and leaves")
+
+
+def check(crate):
+    functions = public(crate)
+    rows_of(crate, functions, ROWS.get(crate, []))
+    proved = THEOREMS.get(crate, {})
+    for symbol, (said, modules) in sorted(functions.items()):
+        if said["requires"]:
+            faults.append(f"{symbol} is public and has a requires")
+        if not said["ensures"]:
+            faults.append(f"{symbol} is public and has no ensures")
+        # the crate of the promises names its own functions from inside
+        inner = {module.replace("Rattle.promises.", "Rattle.promises.proofs.") for module in modules}
+        name = called(crate, symbol)
+        if name in proved:
+            outcome_of(symbol, said, modules | inner, proved[name])
+        else:
+            faults.append(f"{PROMISES}/Outcomes.antt: there is no theorem {name}-once of {symbol}")
+    for name in sorted(set(proved) - {called(crate, symbol) for symbol in functions}):
+        faults.append(f"{PROMISES}/Outcomes.antt: {name}-once is of no public function of {crate}")
+    return len(functions)
+
+
+TEXT, WALKS_TEXT = read(PROMISES, "Outcomes.antt"), read(PROMISES, "Walked.antt")
+ROWS, THEOREMS, OUTCOMES = rows(), theorems(TEXT), imported(TEXT)
+WALKED, WALKS = imported(WALKS_TEXT), walked(WALKS_TEXT)
+counts = {crate: check(crate) for crate in libraries()}
+print(*faults, sep="\n") if faults else None
+print(f"public functions: {sum(counts.values())} ({', '.join(f'{crate} {n}' for crate, n in counts.items())})")
+sys.exit(bool(faults))

@@ -10,7 +10,24 @@
 extern "C" {
 #endif
 
+/* What the numbers say; docs/FORMATS.md has a sentence for each. */
+enum {
+    SKELFORA_DONE = 0,
+    SKELFORA_TOO_SHORT = 1,
+    SKELFORA_WRONG_LETTERS = 2,
+    SKELFORA_ABOVE_LIMIT = 3,
+    SKELFORA_WRONG_OFFSET = 4,
+    SKELFORA_OUTSIDE = 5,
+    SKELFORA_BAD_ROW = 6,
+    SKELFORA_BUFFER_TOO_SMALL = 7,
+    SKELFORA_NO_EVENT = 8,
+    SKELFORA_NOT_INCLUDED = 9,
+    SKELFORA_WAITING = 10,
+    SKELFORA_NO_TRACE = 11
+};
+
 /* Room that is always enough, in bytes. */
+#define SKELFORA_LOG_ROOM 36871      /* a log read from a file: one byte more than the longest, so that a longer file is refused */
 #define SKELFORA_GRAPH_ROOM 2356     /* a graph file: 52, and 9 for each of 4 x 64 rows */
 #define SKELFORA_LISTING_ROOM 147506 /* a listing; skelfora_listing asks for no less */
 #define SKELFORA_MARKING_SIZE 24     /* a marking: executed, pending, included, 8 bytes each */
@@ -32,7 +49,7 @@ uint64_t skelfora_rewrite(const uint8_t *file, size_t file_len, uint8_t *out, si
 uint64_t skelfora_replay(const uint8_t *file, size_t file_len, const uint8_t *trace, size_t trace_len);
 
 /* One step of an activity on the graph of a file, at the marking in the first 24 lent bytes.
- * Gives the number. */
+ * Gives the number; the file is judged before the room for the marking. */
 uint64_t skelfora_step(const uint8_t *file, size_t file_len, uint8_t *marking, size_t marking_len, uint8_t activity);
 
 /* The parts of what the first four give. */

@@ -15,8 +15,9 @@ pub struct Door {
     pub replay: fn(&[u8], &[u8]) -> u64,
     /// graph file, graph file
     pub rewrite: Fill,
-    /// graph file, marking (executed, pending, included), activity -> number
-    pub step: fn(&[u8], &mut [u8; 24], u8) -> u64,
+    /// graph file, marking (executed, pending, included: 24 bytes, with fewer 7), activity
+    /// -> number
+    pub step: fn(&[u8], &mut [u8], u8) -> u64,
 }
 
 /// No listing is longer: four relations of 4,096 lines of 8 bytes, 1,024 lines of at

@@ -47,9 +47,9 @@ mod calls {
         unsafe { sys::skelfora_rewrite(file.as_ptr(), file.len(), out.as_mut_ptr(), out.len()) }
     }
 
-    pub fn step(file: &[u8], marking: &mut [u8; 24], activity: u8) -> u64 {
-        let lent = marking.as_mut_ptr();
-        unsafe { sys::skelfora_step(file.as_ptr(), file.len(), lent, 24, activity) }
+    pub fn step(file: &[u8], marking: &mut [u8], activity: u8) -> u64 {
+        let (lent, room) = (marking.as_mut_ptr(), marking.len());
+        unsafe { sys::skelfora_step(file.as_ptr(), file.len(), lent, room, activity) }
     }
 }
 

@@ -242,6 +242,24 @@ fn readings_10_and_11_graph_values() {
     }
 }
 
+/// A marking of too few bytes gives 7, after the file's own refusals and before 5.
+#[test]
+fn a_marking_too_short() {
+    let stray = marking_bytes(&marking(&[63], &[], &[]));
+    for door in doors() {
+        for (file, length, wanted) in [
+            (&g_file()[..51], 23, 1),
+            (&g_file(), 23, 7),
+            (&g_file(), 0, 7),
+            (&g_file(), 24, 5),
+        ] {
+            let mut lent = stray[..length].to_vec();
+            assert_eq!((door.step)(file, &mut lent, 0), wanted, "{}", door.name);
+            assert_eq!(lent, stray[..length], "{}", door.name);
+        }
+    }
+}
+
 /// The marking handed beside a graph: 5 after the graph's own, before 8; left as it was.
 #[test]
 fn a_marking_beside_the_graph() {

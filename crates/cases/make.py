@@ -78,10 +78,6 @@ def log_bad(name, file, number):
     case("log", name, "-", line + found(0, number, 0, 0) + found(GREATEST, number, 0, 0))
 
 
-def said(a, events):
-    return f" A {a} events" + "".join(f" {e}" for e in events)
-
-
 def same(length, contents):
     return f"; written: 0 length {length} contents {contents} same yes"
 
@@ -97,12 +93,20 @@ def graph_bad(name, file, number):
     case("graph", name, "-", f"graph {name}: {number}" + said(0, []))
 
 
-def ended(number, place, executed, pending, included, accepting):
-    def put(word, members):
-        return f" {word}" + "".join(f" {a}" for a in members)
+def listed(word, members):
+    return f" {word}" + "".join(f" {a}" for a in members)
 
-    sets = put("executed", executed) + put("pending", pending) + put("included", included)
-    return f": {number} place {place}" + sets + f" accepting {accepting}"
+
+def marked(executed, pending, included):
+    return listed("executed", executed) + listed("pending", pending) + listed("included", included)
+
+
+def ended(number, place, executed, pending, included, accepting):
+    return f": {number} place {place}" + marked(executed, pending, included) + f" accepting {accepting}"
+
+
+def said(a, events):
+    return f" A {a}" + listed("events", events)
 
 
 def replays(graph, log, a, *table):
@@ -291,6 +295,147 @@ for name, trace, end in (
 ):
     files[name] = bytes(trace)
     case("trace", "one.graph", name, f"trace one.graph {name}" + ended(*end))
+
+# ---- the log reader put together by hand: the number it remembers, what it gives, the number it remembers then
+
+
+def asked(next, number, start, length, then):
+    return f"; next {next}: {number} start {start} length {length} then {then}"
+
+
+def next_good(name, t, *known):
+    """An accepted log: the first trace and the last. At T, and at the greatest number, 11, and the number stays."""
+    line = f"next {name}: T {t}" + "".join(asked(k, 0, start, length, k + 1) for k, start, length in known)
+    case("next", name, "-", line + "".join(asked(k, 11, 0, 0, k) for k in (t, GREATEST)))
+
+
+def next_bad(name, number):
+    """A refused log: its number comes before 11, and the number remembered stays too."""
+    case("next", name, "-", f"next {name}: T 0" + "".join(asked(k, number, 0, 0, k) for k in (0, GREATEST)))
+
+
+next_good("sample.log", 2, (0, 14, 3), (1, 17, 2))
+next_good("length-512.log", 1, (0, 10, 512))
+next_good("bytes-6.log", 0)
+next_good("total-32768-t-1024.log", 1024, (0, 4102, 32), (1023, 36838, 32))
+for name, number in (("bytes-5.log", 1), ("letter-first.log", 2), ("a-65.log", 3), ("offset-more.log", 4), ("byte-is-a.log", 5)):
+    next_bad(name, number)
+
+# ---- one step at a marking that is handed over: accepting, enabled, execute
+
+
+def one_step(accepting, number, marking):
+    """The marking handed over is accepting or not, with the number where it or the graph is refused. Enabled and the step have
+    the same number; then the marking that the step leaves."""
+    judged = number if number in (3, 5) else 0
+    return f": accepting {judged} {accepting}; enabled {number}; step {number}" + marked(*marking)
+
+
+def step(graph, name, marking, accepting, activity, number, after=None):
+    """Where the step is refused the marking is as it was."""
+    files[name] = b"".join(map(eight, marking)) + bytes([activity])
+    case("step", graph, name, f"step {graph} {name}" + one_step(accepting, number, after or marking))
+
+
+# on G, at its opening marking: 0 is done, and lets 1 in again, excludes itself, asks for 2; 1 and 2 wait for 0; the rest are no events
+OPEN = ([], [], [0, 1, 2])
+step("sample.graph", "open-0.step", OPEN, "yes", 0, 0, ([0], [2], [1, 2]))
+step("sample.graph", "open-1.step", OPEN, "yes", 1, 10)
+step("sample.graph", "open-2.step", OPEN, "yes", 2, 10)
+step("sample.graph", "open-3.step", OPEN, "yes", 3, 8)
+step("sample.graph", "open-64.step", OPEN, "yes", 64, 8)
+step("sample.graph", "open-255.step", OPEN, "yes", 255, 8)
+# after 0: 0 is out, 2 is pending and included; 2 is done, excludes 1 and itself, and is pending no more
+BEGUN = ([0], [2], [1, 2])
+step("sample.graph", "begun-0.step", BEGUN, "no", 0, 9)
+step("sample.graph", "begun-2.step", BEGUN, "no", 2, 0, ([0, 2], [], []))
+# a condition's source that is not included bars nothing; what is pending and not included leaves a marking accepting
+step("sample.graph", "source-out.step", ([], [], [1]), "yes", 1, 0, ([1], [2], []))
+step("sample.graph", "pending-out.step", ([0], [2], [1]), "yes", 2, 9)
+# a marking outside the events: 5, before 8
+for name, marking in (
+    ("executed-out.step", ([3], [], [0, 1, 2])),
+    ("pending-3.step", ([], [3], [0, 1, 2])),
+    ("included-3.step", ([], [], [0, 1, 2, 3])),
+    ("included-63.step", ([], [], [63])),
+):
+    step("sample.graph", name, marking, "no", 255, 5)
+
+# 9 comes before 10: in the paper's graph 1 is not included, and its source 0 is included and not executed
+step("paper.graph", "paper-1.step", ([], [0], [0, 2, 3]), "no", 1, 9)
+
+# the paper's Table 3: event 4 has response 2, include 2, exclude 7
+TABLE_3 = ([0], [1, 4], [1, 4, 7])
+files["table-3.graph"] = graph_file(8, range(8), *TABLE_3, [], [(4, [2])], [(4, [2])], [(4, [7])])
+step("table-3.graph", "table-3.step", TABLE_3, "no", 4, 0, ([0, 4], [1, 2], [1, 2, 4]))
+
+# a response to itself stays pending; an include wins over an exclude
+files["self.graph"] = graph_file(2, [0, 1], [], [], [0, 1], [], [(0, [0])], [(0, [0])], [(0, [0, 1])])
+step("self.graph", "self.step", ([], [0], [0, 1]), "no", 0, 0, ([0], [0], [0]))
+
+# ---- a graph as a value, put together by hand: at its opening marking the step of its row's key; then its write into a buffer of
+# `size` bytes, which are 170 each. Whether the buffer then holds the graph file named, and the rest of it what it held.
+
+
+def value(file, name, size, stepped, written, a=3, events=(0, 1, 2), opening=OPEN, row=(0, 1, [0])):
+    """The row: relation, key and members. `stepped`: accepting, number, the marking then; `written`: number, length."""
+    relation, key, members = row
+    name += ".value"
+    files[name] = bytes([size, a, relation, key]) + eight(members) + eight(events) + b"".join(map(eight, opening))
+    number, length = written
+    holds = "no" if number else "yes"
+    line = f"value {file} {name}" + one_step(*stepped)
+    case("value", file, name, line + f"; written: {number} length {length} file {holds} rest as it was yes")
+
+
+def value_bad(name, number, size=61, **changes):
+    """Refused with 3 or 5 by all four: the marking is as it was, and so is every byte of the buffer."""
+    value("row-c.graph", name, size, ("no", number, changes.get("opening", OPEN)), (number, 0), **changes)
+
+
+# one row in each relation, from 1 to 0: 52 + 9 bytes
+ROW = [(1, [0])]
+files["row-c.graph"] = graph_file(3, [0, 1, 2], *OPEN, ROW, [], [], [])
+files["row-r.graph"] = graph_file(3, [0, 1, 2], *OPEN, [], ROW, [], [])
+files["row-i.graph"] = graph_file(3, [0, 1, 2], [], [], [1, 2], [], [], ROW, [])
+files["row-e.graph"] = graph_file(3, [0, 1, 2], *OPEN, [], [], [], ROW)
+WAITS = ("yes", 10, OPEN)
+value("row-c.graph", "row-c", 255, WAITS, (0, 61))
+value("row-r.graph", "row-r", 61, ("yes", 0, ([1], [0], [0, 1, 2])), (0, 61), row=(1, 1, [0]))
+value("row-i.graph", "row-i", 62, ("yes", 0, ([1], [], [0, 1, 2])), (0, 61), row=(2, 1, [0]), opening=([], [], [1, 2]))
+value("row-e.graph", "row-e", 61, ("yes", 0, ([1], [], [1, 2])), (0, 61), row=(3, 1, [0]))
+
+# 7, and no byte changes
+value("row-c.graph", "size-60", 60, WAITS, (7, 0))
+value("row-c.graph", "size-0", 0, WAITS, (7, 0))
+
+# A 64 and 65, and the greatest byte
+files["a-64-row.graph"] = graph_file(64, [63], [], [], [63], [], [], [], [(63, [63])])
+LAST = {"events": [63], "opening": ([], [], [63]), "row": (3, 63, [63])}
+value("a-64-row.graph", "a-64", 61, ("yes", 0, ([63], [], [])), (0, 61), a=64, **LAST)
+value_bad("a-65", 3, a=65)
+value_bad("a-255", 3, a=255)
+
+# 5: an event that is A; the opening marking outside the events; a row at a number that is no event; a row's set outside the events
+value_bad("event-is-a", 5, a=2)
+value_bad("event-63", 5, a=63, **LAST)
+value_bad("executed-outside", 5, opening=([3], [], [0, 1, 2]))
+value_bad("pending-outside", 5, opening=([], [3], [0, 1, 2]))
+value_bad("included-outside", 5, opening=([], [], [0, 1, 2, 3]))
+for relation in range(4):
+    value_bad(f"key-no-event-{relation}", 5, row=(relation, 3, [0]))
+    value_bad(f"set-outside-{relation}", 5, row=(relation, 1, [0, 3]))
+value_bad("key-63", 5, a=64, row=(0, 63, [0]))
+
+# an empty row is no fault anywhere, and no row of the file: at 3, which is no event, and where there is no activity at all
+files["no-row.graph"] = graph_file(3, [0, 1, 2], *OPEN, [], [], [], [])
+value("no-row.graph", "empty-at-3", 52, ("yes", 8, OPEN), (0, 52), row=(0, 3, []))
+value("bytes-52.graph", "empty", 52, ("yes", 8, ([], [], [])), (0, 52), a=0, events=[], opening=([], [], []), row=(0, 0, []))
+
+# two faults in one value: 3, then 5, then 7
+value_bad("a-then-event", 3, a=65, opening=([3], [], [0, 1, 2]))
+value_bad("a-then-buffer", 3, size=60, a=65)
+value_bad("event-then-buffer", 5, size=60, a=2)
 
 # ---- docs/CLASSROOM.md
 

@@ -111,25 +111,25 @@ impl Comparison {
         }
     }
 
-    pub fn step(&mut self, file: &[u8], marking: [u8; 24], activity: u8) {
-        let mut after = marking;
+    pub fn step(&mut self, file: &[u8], marking: &[u8], activity: u8) {
+        let mut after = marking.to_vec();
         let wanted = (JUDGE.step)(file, &mut after, activity);
         self.saw("step", wanted as u8);
         self.record.keep(&Call {
             function: Function::Step,
             input: file,
-            beside: &marking,
+            beside: marking,
             room: marking.len(),
             activity,
             result: wanted,
             after: &after,
         });
         for other in self.others.clone() {
-            let mut lent = marking;
+            let mut lent = marking.to_vec();
             let result = (other.step)(file, &mut lent, activity);
             if result != wanted || lent != after {
                 self.differ("step", other.name, || {
-                    let (file, from) = (decimal(file), decimal(&marking));
+                    let (file, from) = (decimal(file), decimal(marking));
                     let (judge, theirs) = (decimal(&after), decimal(&lent));
                     format!(
                         "file {file}\nmarking {from}\nactivity {activity}\n\

@@ -106,10 +106,14 @@ fn on_graph_file(comparison: &mut Comparison, prng: &mut Prng, kind: &'static st
     let trace = graphs::trace(prng, a);
     comparison.replay(file, &trace);
     for _ in 0..2 {
-        let marking = graphs::any_marking(prng, events);
+        let marking = graphs::marking_bytes(&graphs::any_marking(prng, events));
         let activity = graphs::activity(prng, a);
-        comparison.step(file, graphs::marking_bytes(&marking), activity);
+        comparison.step(file, &marking, activity);
     }
+    // too few bytes for a marking, and more than it needs
+    let mut marking = graphs::marking_bytes(&graphs::any_marking(prng, events)).to_vec();
+    marking.resize(prng.one_of(&[0, 8, 23, 25, 40]), 0);
+    comparison.step(file, &marking, graphs::activity(prng, a));
 }
 
 fn on_random_graph(comparison: &mut Comparison, prng: &mut Prng) {

@@ -39,11 +39,14 @@ fn rewrite(file: &[u8], out: &mut [u8]) -> u64 {
     written(graph_file::read(file).and_then(|graph| graph_file::write(&graph, out)))
 }
 
-fn step(file: &[u8], lent: &mut [u8; 24], activity: u8) -> u64 {
+fn step(file: &[u8], lent: &mut [u8], activity: u8) -> u64 {
     let graph = match graph_file::read(file) {
         Err(number) => return u64::from(number),
         Ok(graph) => graph,
     };
+    if lent.len() < 24 {
+        return 7;
+    }
     let mut marking = read_marking(lent);
     if let Err(number) = execute(&graph, &mut marking, activity) {
         return u64::from(number);

@@ -39,10 +39,13 @@ fn rewrite(file: &[u8], out: &mut [u8]) -> u64 {
     written(read_into(file, &mut graph).and_then(|()| write_judged(&graph, out)))
 }
 
-fn step(file: &[u8], lent: &mut [u8; 24], activity: u8) -> u64 {
+fn step(file: &[u8], lent: &mut [u8], activity: u8) -> u64 {
     let mut graph = GraphValue::EMPTY;
     if let Err(number) = read_into(file, &mut graph) {
         return u64::from(number);
+    }
+    if lent.len() < 24 {
+        return 7;
     }
     let mut m = marking_at(lent, 0);
     if (m.executed | m.pending | m.included) & !graph.events != 0 {
@@ -54,6 +57,6 @@ fn step(file: &[u8], lent: &mut [u8; 24], activity: u8) -> u64 {
     }
     lent[..8].copy_from_slice(&m.executed.to_le_bytes());
     lent[8..16].copy_from_slice(&m.pending.to_le_bytes());
-    lent[16..].copy_from_slice(&m.included.to_le_bytes());
+    lent[16..24].copy_from_slice(&m.included.to_le_bytes());
     0
 }

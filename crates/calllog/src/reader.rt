@@ -1,9 +1,10 @@
 // A log reader: it stays over the caller's bytes and remembers which trace comes next (01, "Log"). Its functions take it apart and leave
 // the work to `trace::ask`, which whoever has the bytes and the number may call as well.
 ghost use mathlib.Core.Path.{_≡_};
-ghost use Rattle.calllog.specs.Logs.{foundOf};
+ghost use Rattle.calllog.specs.Logs.{foundOf, askedOf};
 ghost use Rattle.calllog.specs.Reader.{opened, readerAfter};
 use crate::trace;
+use crate::trace::Asked;
 use crate::trace::Found;
 
 pub struct LogReader<'a> {
@@ -41,4 +42,16 @@ pub fn read_trace(log: &[u8], k: usize) -> Found
 {
     let mut r = open(log);
     trace(&mut r, k)
+}
+
+// The trace that comes next, by a reader put together by hand with that number; and the number that it remembers then.
+pub fn read_next(log: &[u8], next: usize) -> Asked
+    ensures { λ r. ⌜ r ≡ askedOf (now (log .entry)) next next ⌝ }
+{
+    let mut r = LogReader { log, next };
+    let found = next_trace(&mut r);
+    Asked {
+        found,
+        next: r.next,
+    }
 }

@@ -1,7 +1,13 @@
-// Cases of graph files: read, written again, written into a buffer of a certain size, mined.
+// Cases of graph files: read, written again, written into a buffer of a certain size, mined; and of graphs that no file can hold.
 use crate::files;
+use crate::steps;
 use crate::text;
 use engine::Graph;
+use engine::Marking;
+use sets::Activity;
+use sets::Rows;
+use sets::Set;
+use sets::rows;
 
 // Room for the greatest graph file: 52 bytes, and 9 for each of 64 rows in 4 relations.
 const ROOM: usize = 2356;
@@ -67,10 +73,8 @@ pub fn mine<'a>(log: &'a [u8], file: &'a [u8]) {
     text::line(b"");
 }
 
-// Writes the graph of a file into a buffer.
-fn write_into<'a>(file: &'a [u8], before: &'a [u8], out: &mut [u8]) {
-    let r = graphfile::read(file);
-    let g = r.graph;
+// Writes a graph into a buffer that held other bytes before.
+fn write_into<'a>(g: Graph, file: &'a [u8], before: &'a [u8], out: &mut [u8]) {
     let w = graphfile::write(g, out);
     let answer = w.answer;
     let length = w.length;
@@ -95,5 +99,61 @@ pub fn lend(file: &[u8], i: u32) {
     let mut out = [0u8; ROOM];
     let n = files::load(i as usize + 2, &mut before);
     let k = files::load(i as usize + 2, &mut out);
-    write_into(file, &before[..n], &mut out[..k]);
+    let r = graphfile::read(file);
+    write_into(r.graph, file, &before[..n], &mut out[..k]);
+}
+
+// A graph put together by hand: nothing judges it, so it may be one that no file can hold. It has one row, in the relation of that
+// number, in the file's order.
+fn graph_of(activities: u8, events: Set, opening: Marking, relation: u8, row: Rows) -> Graph {
+    let mut g = Graph::empty();
+    g.activities = activities;
+    g.events = events;
+    g.opening = opening;
+    match relation {
+        0 => g.conditions = row,
+        1 => g.responses = row,
+        2 => g.includes = row,
+        _ => g.excludes = row,
+    }
+    g
+}
+
+// The set in the first 8 bytes: a marking's executed activities stand first.
+fn set_of(bytes: &[u8]) -> Set {
+    let m = graphfile::marking::read_marking(bytes);
+    m.executed
+}
+
+// A value's bytes: how large a buffer is lent to its write; A; relation, key and set of its row; events; opening marking.
+const VALUE: usize = 44;
+
+fn value_of(bytes: &[u8]) -> Graph {
+    if bytes.len() < VALUE {
+        return Graph::empty();
+    }
+    let mut row = rows::empty();
+    rows::put(&mut row, Activity(bytes[3]), set_of(&bytes[4..]));
+    let opening = graphfile::marking::read_marking(&bytes[20..]);
+    graph_of(bytes[1], set_of(&bytes[12..]), opening, bytes[2], row)
+}
+
+// Writes a graph into the first bytes of a buffer.
+fn write_first<'a>(g: Graph, file: &'a [u8], before: &'a [u8], out: &mut [u8], first: u8) {
+    let size = first as usize;
+    if size <= before.len() && size <= out.len() {
+        write_into(g, file, &before[0..size], &mut out[0..size]);
+    }
+}
+
+// The value at its opening marking, with the key of its row as the activity; then its write, and whether that is the file at hand.
+pub fn value<'a>(file: &'a [u8], bytes: &'a [u8]) {
+    if bytes.len() == VALUE {
+        let before = [170u8; 256];
+        let mut out = [170u8; 256];
+        let g = value_of(bytes);
+        steps::say_step(g, g.opening, Activity(bytes[3]));
+        text::say(b"; written");
+        write_first(g, file, &before, &mut out, bytes[0]);
+    }
 }

@@ -4,6 +4,7 @@ mod files;
 mod graphs;
 mod logs;
 mod replays;
+mod steps;
 mod text;
 
 // Far more words than any list of cases has.
@@ -21,6 +22,8 @@ fn run_pair(kind: u8, first: &[u8], i: u32) {
         b'm' => graphs::mine(first, &buf[..n]),
         b'r' => replays::replay_all(first, &buf[..n], i),
         b't' => replays::replay_whole(first, &buf[..n]),
+        b's' => steps::step(first, &buf[..n]),
+        b'v' => graphs::value(first, &buf[..n]),
         _ => text::line(b": no such case"),
     }
 }
@@ -39,6 +42,7 @@ fn run(i: u32) {
         b'l' => logs::judge(&buf[..n]),
         b'g' => graphs::rewrite(&buf[..n]),
         b'w' => graphs::lend(&buf[..n], i),
+        b'n' => logs::ask(&buf[..n]),
         _ => run_pair(kind, &buf[..n], i),
     }
 }

@@ -7,12 +7,9 @@ use engine::Replayed;
 // Where a replay ended.
 fn say_replayed(r: Replayed) {
     let answer = r.answer;
-    let m = r.marking;
     text::answer(b": ", answer);
     text::number(b" place ", r.place.0 as u64);
-    text::members(b" executed", m.executed);
-    text::members(b" pending", m.pending);
-    text::members(b" included", m.included);
+    text::marking(r.marking);
     text::yes_or_no(b" accepting", r.accepting);
     text::line(b"");
 }

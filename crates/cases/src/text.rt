@@ -1,4 +1,5 @@
 // Text on standard output.
+use engine::Marking;
 use libc::STDOUT_FILENO;
 use sets::Activity;
 use sets::Answer;
@@ -47,4 +48,10 @@ pub fn members(name: &[u8], s: Set) {
         member(s, a);
         a += 1;
     }
+}
+
+pub fn marking(m: Marking) {
+    members(b" executed", m.executed);
+    members(b" pending", m.pending);
+    members(b" included", m.included);
 }

@@ -1,12 +1,13 @@
 -- What the port's calls ensure, put together. Assumes nothing.
-use mathlib.Core.Path.{_≡_, sym, ap, ap₂, _∙_}
+use mathlib.Core.Path.{_≡_, refl, sym, ap, ap₂, _∙_}
 use mathlib.Core.Bool.{Bool, true, false, not}
 use mathlib.Core.List.{List}
 use Prim.Native.Nat.{ℕ, _+_, _*_, _%_, _^_, _≤_, _<_}
 use native.Mathlib.Omega.{arith}
 use borrow.Author.Tests.{not-true, not-false, lt-ltb, le-ltb}
+use lib.Dec.{ltb}
 use lib.ListN.{length}
-use Rattle.sets.specs.Tests.{when_then_else_}
+use Rattle.sets.specs.Tests.{non, when_then_else_}
 use Rattle.sets.specs.Answers.{numberOf, isDone}
 use Rattle.sets.specs.declared.answer.Answer.{Answer}
 use Rattle.sets.specs.declared.answer.Answer.the-variants.{Done, AboveLimit, BufferTooSmall}
@@ -152,30 +153,33 @@ pub ruleset replaying = (replay-refused, replay-too-long)
 -- ---- a step
 
 module _ (file bytes : List ℕ) (a : ℕ) where
-  abbrev judgedStep : Bool → Stepped
-  judgedStep t = when t then steppedOf (readOf file .graph) (markingFrom bytes) a else refusedStep (readOf file .answer)
+  -- what it gives where the file is refused or not, and where the marking is short or not
+  abbrev chosen : Bool → Bool → Stepped
+  chosen d short =
+      when non d then refusedStep (readOf file .answer)
+      else when short then refusedStep BufferTooSmall
+      else steppedOf (readOf file .graph) (markingFrom bytes) a
 
-  long : 24 ≤ length bytes → stepOf file bytes a ≡ judgedStep (isDone (readOf file .answer))
-  unfolding stepOf
-  long h = ap (λ (t : Bool). when t then refusedStep BufferTooSmall else judgedStep (isDone (readOf file .answer))) (le-ltb (length bytes) 24 h)
-
-  pub step-short : length bytes < 24 → refusedStep BufferTooSmall ≡ stepOf file bytes a
-  unfolding stepOf
-  step-short h = sym (ap (λ (t : Bool). when t then refusedStep BufferTooSmall else judgedStep (isDone (readOf file .answer))) (lt-ltb (length bytes) 24 h))
-
-  module _ (r : Reading) (d : Bool) (hr : r ≡ readOf file) (hd : d ≡ isDone (r .answer)) (h : 24 ≤ length bytes) where
-    file-is : (t : Bool) → d ≡ t → isDone (readOf file .answer) ≡ t
-    file-is t e = sym (ap (λ (x : Reading). isDone (x .answer)) hr) ∙ sym hd ∙ e
+  module _ (r : Reading) (d : Bool) (hr : r ≡ readOf file) (hd : d ≡ isDone (r .answer)) where
+    choice : (t short : Bool) → d ≡ t → ltb (length bytes) 24 ≡ short → chosen t short ≡ stepOf file bytes a
+    unfolding stepOf
+    choice t short e l =
+        sym (ap₂ chosen (ap (λ (x : Reading). isDone (x .answer)) (sym hr) ∙ sym hd ∙ e) l)
 
     pub step-refused : not d ≡ true → refusedStep (r .answer) ≡ stepOf file bytes a
-    step-refused n = ap (λ (x : Reading). refusedStep (x .answer)) hr ∙ sym (ap judgedStep (file-is false (not-true d n))) ∙ sym (long h)
+    unfolding non
+    step-refused n = ap (λ (x : Reading). refusedStep (x .answer)) hr ∙ choice false _ (not-true d n) refl
 
-    pub step-taken : (m : Marking) (s : Stepped) → not d ≡ false → m ≡ markingFrom bytes → s ≡ steppedOf (r .graph) m a → s ≡ stepOf file bytes a
-    step-taken m s n hm hs =
+    pub step-short : not d ≡ false → length bytes < 24 → refusedStep BufferTooSmall ≡ stepOf file bytes a
+    unfolding non
+    step-short n l = choice true true (not-false d n) (lt-ltb (length bytes) 24 l)
+
+    pub step-taken : (m : Marking) (s : Stepped) → not d ≡ false → 24 ≤ length bytes → m ≡ markingFrom bytes → s ≡ steppedOf (r .graph) m a → s ≡ stepOf file bytes a
+    unfolding non
+    step-taken m s n l hm hs =
         hs
         ∙ ap₂ (λ (x : Reading) (y : Marking). steppedOf (x .graph) y a) hr hm
-        ∙ sym (ap judgedStep (file-is true (not-false d n)))
-        ∙ sym (long h)
+        ∙ choice true false (not-false d n) (le-ltb (length bytes) 24 l)
 
   -- the lent bytes after it
   module _ (s : Stepped) (d : Bool) (hs : s ≡ stepOf file bytes a) (hd : d ≡ isDone (s .answer)) where

@@ -3,7 +3,7 @@ use mathlib.Core.List.{List}
 use Prim.Native.Nat.{ℕ, _+_, _*_, _%_, _^_}
 use lib.Dec.{ltb}
 use lib.ListN.{length}
-use Rattle.sets.specs.Tests.{when_then_else_}
+use Rattle.sets.specs.Tests.{non, when_then_else_}
 use Rattle.sets.specs.Answers.{numberOf, isDone}
 use Rattle.sets.specs.declared.answer.Answer.{Answer}
 use Rattle.sets.specs.declared.answer.Answer.the-variants.{BufferTooSmall}
@@ -57,12 +57,12 @@ replayNumber file trace =
 abbrev pub refusedStep : Answer → Stepped
 refusedStep a = record { answer = a; marking = emptyMarking }
 
--- skelfora_step: 7 where the marking has too few bytes, then the file's refusals, then what the step gives
+-- skelfora_step: the file's refusals, then 7 where the marking has too few bytes, then what the step gives
 unfoldable pub stepOf : List ℕ → List ℕ → ℕ → Stepped
 stepOf file bytes a =
-    when ltb (length bytes) 24 then refusedStep BufferTooSmall
-    else when isDone (readOf file .answer) then steppedOf (readOf file .graph) (markingFrom bytes) a
-    else refusedStep (readOf file .answer)
+    when non (isDone (readOf file .answer)) then refusedStep (readOf file .answer)
+    else when ltb (length bytes) 24 then refusedStep BufferTooSmall
+    else steppedOf (readOf file .graph) (markingFrom bytes) a
 
 -- the marking's bytes after it: as they were where refused
 unfoldable pub stepBytes : List ℕ → List ℕ → ℕ → List ℕ

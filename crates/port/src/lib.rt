@@ -95,16 +95,10 @@ pub extern "C" fn skelfora_replay(file: &[u8], trace: &[u8]) -> u64
     low
 }
 
-// A step on the graph of a file: 7 where the marking has too few bytes, then the file's refusals, then the step's.
+// A step on the graph of a file: the file's refusals, then 7 where the marking has too few bytes, then the step's.
 fn stepped<'a>(file: &'a [u8], marking: &'a [u8], a: Activity) -> Stepped
     ensures { λ r. ⌜ r ≡ stepOf (now (file .entry)) (now (marking .entry)) (a .0) ⌝ }
 {
-    if marking.len() < graphfile::marking::LENGTH {
-        return Stepped {
-            answer: Answer::BufferTooSmall,
-            marking: Marking::EMPTY,
-        };
-    }
     let r = graphfile::read(file);
     let answer = r.answer;
     if !answer.is_done() {
@@ -113,9 +107,15 @@ fn stepped<'a>(file: &'a [u8], marking: &'a [u8], a: Activity) -> Stepped
             marking: Marking::EMPTY,
         };
     }
+    if marking.len() < graphfile::marking::LENGTH {
+        return Stepped {
+            answer: Answer::BufferTooSmall,
+            marking: Marking::EMPTY,
+        };
+    }
     let g = r.graph;
     let m = graphfile::marking::read_marking(marking);
-    engine::step::step(g, m, a)
+    engine::execute::executed(g, m, a)
 }
 
 // One step at a marking of 24 lent bytes, executed, pending, included; they stay as they were where it is refused.

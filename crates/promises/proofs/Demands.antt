@@ -1,23 +1,25 @@
 -- THE THREE DEMANDS, as theorems about the public functions. Begin here. Assumes nothing.
 --
--- How to read it. A function's statement is one equation, `r ≡ definition of what was passed`. So "for every r with r ≡ minedOf bytes" is
--- "for every result that `mine` can give for these bytes". The definitions are in the words of 01, in specs/ of their crates.
+-- How to read it. `mine-gives bytes r` says that the function `mine` may give r for these bytes, by its own contract (Contracts); so a theorem
+-- that starts from it fails where the contract says less. `numberOf` gives 01's number of an answer, and `numbers` below is the whole table.
+-- The definitions are in the words of 01, in specs/ of their crates.
 --
--- Beside this file: Outcomes, the public functions with what each gives, and that it is one outcome; StandIns, in which functions that 01 does
--- not want are shut out; and rules/proofs/Cases, the (P) cases of 01 in one table under one theorem.
+-- Beside this file: Outcomes, that each public function has one outcome; StandIns and Counts, in which functions that 01 does not want are shut
+-- out; and rules/proofs/Cases, the (P) cases of 01 in one table under one theorem.
 use mathlib.Core.Path.{_≡_, refl, sym, ap, subst, _∙_}
 use mathlib.Core.Bool.{Bool, true, false}
 use mathlib.Core.Logic.{_⊎_}
-use mathlib.Core.List.{List, [], _++_}
+use mathlib.Core.List.{List, [], _∷_, _++_, map}
 use Prim.Native.Nat.{ℕ, _+_, _≤_, _<_}
-use lib.Dec.{ltb}
+use lib.Dec.{eqb, ltb}
 use lib.ListN.{length, take, drop}
 use Rattle.sets.specs.Tests.{_and_, when_then_else_}
-use Rattle.sets.specs.Answers.{isDone, thenAsk}
+use Rattle.sets.specs.Answers.{numberOf, isDone, thenAsk}
 use Rattle.sets.specs.declared.answer.Answer.{Answer}
-use Rattle.sets.specs.declared.answer.Answer.the-variants.{Done, AboveLimit, Outside, BufferTooSmall, NoTrace}
+use Rattle.sets.specs.declared.answer.Answer.the-variants.{Done, TooShort, WrongLetters, AboveLimit, WrongOffset, Outside, BadRow, BufferTooSmall, NoEvent, NotIncluded, Waiting, NoTrace}
 use Rattle.sets.proofs.Members.{mem-those}
-use Rattle.engine.specs.Markings.{emptyMarking, openingOf}
+use Rattle.sets.proofs.Asking.{done-is}
+use Rattle.engine.specs.Markings.{noSet, emptyMarking, openingOf}
 use Rattle.engine.specs.Relations.{emptyGraph, relationsOf}
 use Rattle.engine.specs.Steps.{enabled, after, accepting}
 use Rattle.engine.specs.Judged.{judgedFor, judged, judgedWith}
@@ -30,7 +32,7 @@ use Rattle.engine.specs.declared.replay.Replayed.{Replayed}
 use Rattle.engine.proofs.Acceptable.{judged-for}
 use Rattle.calllog.specs.Layout.{tracesIn, lengthAt}
 use Rattle.calllog.specs.Judged.{judgedLog}
-use Rattle.calllog.specs.Logs.{logOf, judgedOf, startAt, noPart, foundAs, findingOf, foundOf, askedOf}
+use Rattle.calllog.specs.Logs.{logOf, startAt, noPart, foundAs, findingOf, foundOf, askedOf}
 use Rattle.calllog.specs.declared.judge.Judged.{Judged}
 use Rattle.calllog.specs.declared.trace.Found.{Found}
 use Rattle.calllog.specs.declared.trace.Asked.{Asked}
@@ -45,61 +47,102 @@ use Rattle.graphfile.specs.declared.writer.Written.{Written}
 use Rattle.graphfile.proofs.Codec.{Bytes}
 use Rattle.graphfile.proofs.GraphFile.{Machine}
 use Rattle.graphfile.proofs.RoundTrips.{written-then-read, read-then-written}
-use Rattle.rules.proofs.Demand3.{Through}
 use Rattle.rules.proofs.FromFile.{file-accepted}
-use Rattle.miner.specs.Mine.{minedOf}
 use Rattle.miner.specs.declared.mining.Mined.{Mined}
-use Rattle.promises.specs.Promised.{traceOf}
-use Rattle.promises.specs.Demanded.{Refused, PairForPair, Stepping, InTurn, StopsAt, GoesThrough}
-use Rattle.promises.proofs.Own.{mined-answer, mined-graph, mined-nothing, mined-judged, own-through, none-through}
+use Rattle.promises.specs.Promised.{traceOf, judgedCopy, graphBack, fileBack, fileCopied}
+use Rattle.promises.specs.Demanded.{Refused, PairForPair, Stepping, InTurn, StopsAt, GoesThrough, Settles}
+use Rattle.promises.proofs.Contracts.{number-gives, number-said, judge-log-gives, judge-log-said, mine-gives, mine-said, find-trace-gives, find-trace-said, ask-gives, ask-said, enabled-gives, enabled-said, step-gives, step-said, execute-gives, execute-said, accepting-gives, accepting-said, replay-gives, replay-said, write-gives, write-said, read-gives, read-said, graph-back-gives, graph-back-said, file-back-gives, file-back-said, replay-own-gives, replay-own-said, replay-none-gives, replay-none-said}
+use Rattle.promises.proofs.Own.{mined-answer, mined-graph, mined-nothing, mined-judged, own-through, none-through, finds}
 use Rattle.promises.proofs.Pairs.{pairs}
 use Rattle.promises.proofs.StepForStep.{stops-at, goes-through}
 use Rattle.promises.proofs.Early.{replay-runs, early-nothing}
+
+-- ================ THE NUMBERS
+
+-- 01's table, "Numbers given back": the cases of an answer, and the number of each
+pub numbers :
+    map numberOf
+    (Done ∷ TooShort ∷ WrongLetters ∷ AboveLimit ∷ WrongOffset ∷ Outside ∷ BadRow ∷ BufferTooSmall ∷ NoEvent ∷ NotIncluded ∷ Waiting ∷ NoTrace ∷ [])
+    ≡ 0 ∷ 1 ∷ 2 ∷ 3 ∷ 4 ∷ 5 ∷ 6 ∷ 7 ∷ 8 ∷ 9 ∷ 10 ∷ 11 ∷ []
+numbers = refl
+
+-- that is the number which the function `number` gives
+pub number-given : (a : Answer) (n : ℕ) → number-gives a n → n ≡ numberOf a
+number-given = number-said
+
+-- 0 is the number of done alone
+done-by : (a : Answer) → numberOf a ≡ 0 → a ≡ Done
+done-by a h = done-is a (ap (λ (n : ℕ). eqb n 0) h)
 
 -- ================ DEMAND 1
 
 -- Every input gets a result, with no fault and no trust in the caller: each function that Outcomes lists is proved, and none has
 -- a `requires`.
 
--- ---- refusals exactly where 01 lists them: the number is the judgement of what was passed, in 01's order
+-- ---- refusals exactly where 01 lists them: the number is that of the judgement of what was passed, in 01's order
 
 module _ (bytes : List ℕ) where
-  pub log-number : (r : Judged) → r ≡ judgedOf bytes → r .answer ≡ judgedLog bytes
-  log-number r h = ap (λ (x : Judged). x .answer) h ∙ log-answer bytes
+  the-log : (r : Judged) → judge-log-gives bytes r → r .answer ≡ judgedLog bytes
+  the-log r c = ap (λ (x : Judged). x .answer) (judge-log-said bytes r c) ∙ log-answer bytes
 
-  pub mine-number : (r : Mined) → r ≡ minedOf bytes → r .answer ≡ judgedLog bytes
-  mine-number r h = ap (λ (x : Mined). x .answer) h ∙ mined-answer bytes
+  pub log-number : (r : Judged) → judge-log-gives bytes r → numberOf (r .answer) ≡ numberOf (judgedLog bytes)
+  log-number r c = ap numberOf (the-log r c)
 
-  pub trace-number : (k : ℕ) (r : Found) → r ≡ foundOf bytes k → r .answer ≡ thenAsk (judgedLog bytes) (when ltb k (tracesIn bytes) then Done else NoTrace)
+  the-mined : (r : Mined) → mine-gives bytes r → r .answer ≡ judgedLog bytes
+  the-mined r c = ap (λ (x : Mined). x .answer) (mine-said bytes r c) ∙ mined-answer bytes
+
+  pub mine-number : (r : Mined) → mine-gives bytes r → numberOf (r .answer) ≡ numberOf (judgedLog bytes)
+  mine-number r c = ap numberOf (the-mined r c)
+
+  pub trace-number : (k : ℕ) (r : Found) → find-trace-gives bytes k r
+      → numberOf (r .answer) ≡ numberOf (thenAsk (judgedLog bytes) (when ltb k (tracesIn bytes) then Done else NoTrace))
   unfolding findingOf
-  trace-number k r h = ap (λ (x : Found). x .answer) h ∙ found-answer bytes k
+  trace-number k r c = ap (λ (x : Found). numberOf (x .answer)) (find-trace-said bytes k r c) ∙ ap numberOf (found-answer bytes k)
 
-  pub read-number : (r : Reading) → r ≡ readOf bytes → r .answer ≡ judgedFile bytes
+  the-read : (r : Reading) → read-gives bytes r → r .answer ≡ judgedFile bytes
   unfolding readOf
-  read-number r h = ap (λ (x : Reading). x .answer) h
+  the-read r c = ap (λ (x : Reading). x .answer) (read-said bytes r c)
+
+  pub read-number : (r : Reading) → read-gives bytes r → numberOf (r .answer) ≡ numberOf (judgedFile bytes)
+  read-number r c = ap numberOf (the-read r c)
 
 module _ (g : Graph) where
-  pub write-number : (before : List ℕ) (r : Written) → r ≡ writtenOf g (length before)
-      → r .answer ≡ thenAsk (judged g) (when ltb (length before) (length (bytesOf g)) then BufferTooSmall else Done)
+  pub write-number : (before : List ℕ) (w : Written) (after : List ℕ) → write-gives g before w after
+      → numberOf (w .answer) ≡ numberOf (thenAsk (judged g) (when ltb (length before) (length (bytesOf g)) then BufferTooSmall else Done))
   unfolding writtenOf judgedWrite
-  write-number before r h = ap (λ (x : Written). x .answer) h
+  write-number before w after c = ap (λ (x : Written). numberOf (x .answer)) (write-said g before w after c .0)
 
-  pub enabled-number : (m : Marking) (e : ℕ) (a : Answer) → a ≡ enabledOf g m e → a ≡ thenAsk (judgedWith g m) (enabled (g .events) (relationsOf g) m e)
-  unfolding enabledOf
-  enabled-number m e a h = h
+  module _ (m : Marking) where
+    abbrev asked : ℕ → Answer
+    asked e = thenAsk (judgedWith g m) (enabled (g .events) (relationsOf g) m e)
 
-  pub step-number : (m : Marking) (e : ℕ) (r : Stepped) → r ≡ steppedOf g m e → r .answer ≡ enabledOf g m e
-  unfolding steppedOf
-  step-number m e r h = ap (λ (x : Stepped). x .answer) h
+    pub enabled-number : (e : ℕ) (a : Answer) → enabled-gives g m e a → numberOf a ≡ numberOf (asked e)
+    unfolding enabledOf
+    enabled-number e a c = ap numberOf (enabled-said g m e a c)
 
-  pub accepting-number : (m : Marking) (r : Verdict) → r ≡ acceptingOf g m → r .answer ≡ judgedWith g m
-  unfolding acceptingOf
-  accepting-number m r h = ap (λ (x : Verdict). x .answer) h
+    the-step : (e : ℕ) (r : Stepped) → step-gives g m e r → r .answer ≡ asked e
+    unfolding enabledOf steppedOf
+    the-step e r c = ap (λ (x : Stepped). x .answer) (step-said g m e r c)
 
-  pub replay-number : (σ : List ℕ) (r : Replayed) → r ≡ replayOf g σ
-      → r .answer ≡ thenAsk (judgedFor g (length σ)) (replayFrom (g .events) (relationsOf g) (g .opening) 0 σ .answer)
+    pub step-number : (e : ℕ) (r : Stepped) → step-gives g m e r → numberOf (r .answer) ≡ numberOf (asked e)
+    step-number e r c = ap numberOf (the-step e r c)
+
+    -- the step on a lent marking answers as the step by value does
+    pub execute-number : (e : ℕ) (a : Answer) (n : Marking) → execute-gives g m e a n → numberOf a ≡ numberOf (asked e)
+    unfolding enabledOf steppedOf
+    execute-number e a n c = ap (λ (x : Stepped). numberOf (x .answer)) (execute-said g m e a n c)
+
+    the-verdict : (r : Verdict) → accepting-gives g m r → r .answer ≡ judgedWith g m
+    unfolding acceptingOf
+    the-verdict r c = ap (λ (x : Verdict). x .answer) (accepting-said g m r c)
+
+    pub accepting-number : (r : Verdict) → accepting-gives g m r → numberOf (r .answer) ≡ numberOf (judgedWith g m)
+    accepting-number r c = ap numberOf (the-verdict r c)
+
+  pub replay-number : (σ : List ℕ) (r : Replayed) → replay-gives g σ r
+      → numberOf (r .answer) ≡ numberOf (thenAsk (judgedFor g (length σ)) (replayFrom (g .events) (relationsOf g) (g .opening) 0 σ .answer))
   unfolding replayOf
-  replay-number σ r h = ap (λ (x : Replayed). x .answer) h ∙ within (isDone (judgedFor g (length σ)))
+  replay-number σ r c = ap (λ (x : Replayed). numberOf (x .answer)) (replay-said g σ r c) ∙ ap numberOf (within (isDone (judgedFor g (length σ))))
     where
       within : (t : Bool)
           → (when t then replayFrom (g .events) (relationsOf g) (g .opening) 0 σ else ending (judgedFor g (length σ)) 0 emptyMarking false) .answer
@@ -110,131 +153,202 @@ module _ (g : Graph) where
 -- ---- what a refusal leaves: nothing beside the number, and what was lent as it was
 
 module _ (bytes : List ℕ) where
-  pub log-nothing : (r : Judged) → r ≡ judgedOf bytes → Refused (r .answer) → (r .activities ≡ 0) × (r .traces ≡ 0)
-  log-nothing r h n =
-      let e = h ∙ judged-refused bytes (ap isDone (sym (log-number bytes r h)) ∙ n) in
+  pub log-nothing : (r : Judged) → judge-log-gives bytes r → Refused (r .answer) → (r .activities ≡ 0) × (r .traces ≡ 0)
+  log-nothing r c n =
+      let e = judge-log-said bytes r c ∙ judged-refused bytes (ap isDone (sym (the-log bytes r c)) ∙ n) in
       (ap (λ (x : Judged). x .activities) e, ap (λ (x : Judged). x .traces) e)
 
-  pub mine-nothing : (r : Mined) → r ≡ minedOf bytes → Refused (r .answer) → r .graph ≡ emptyGraph
-  mine-nothing r h n = ap (λ (x : Mined). x .graph) h ∙ mined-nothing bytes (ap isDone (sym (mine-number bytes r h)) ∙ n)
+  pub mine-nothing : (r : Mined) → mine-gives bytes r → Refused (r .answer) → r .graph ≡ emptyGraph
+  mine-nothing r c n = ap (λ (x : Mined). x .graph) (mine-said bytes r c) ∙ mined-nothing bytes (ap isDone (sym (the-mined bytes r c)) ∙ n)
 
-  pub read-nothing : (r : Reading) → r ≡ readOf bytes → Refused (r .answer) → r .graph ≡ emptyGraph
+  pub read-nothing : (r : Reading) → read-gives bytes r → Refused (r .answer) → r .graph ≡ emptyGraph
   unfolding readOf
-  read-nothing r h n =
-      ap (λ (x : Reading). x .graph) h ∙ ap (λ (t : Bool). when t then graphIn bytes else emptyGraph) (ap isDone (sym (read-number bytes r h)) ∙ n)
+  read-nothing r c n =
+      ap (λ (x : Reading). x .graph) (read-said bytes r c)
+      ∙ ap (λ (t : Bool). when t then graphIn bytes else emptyGraph) (ap isDone (sym (the-read bytes r c)) ∙ n)
 
   module _ (k : ℕ) where
-    pub trace-nothing : (r : Found) → r ≡ foundOf bytes k → Refused (r .answer) → (r .start ≡ 0) × (r .length ≡ 0)
+    pub trace-nothing : (r : Found) → find-trace-gives bytes k r → Refused (r .answer) → (r .start ≡ 0) × (r .length ≡ 0)
     unfolding foundOf
-    trace-nothing r h n =
+    trace-nothing r c n =
+        let h = find-trace-said bytes k r c in
         let refused = ap isDone (sym (found-answer bytes k)) ∙ ap (λ (x : Found). isDone (x .answer)) (sym h) ∙ n in
-        let e = h
-        ∙ ap (λ (t : Bool). when t then foundAs Done (record { start = startAt bytes k; length = lengthAt bytes k }) else foundAs (findingOf bytes k) noPart) refused in
+        let there : Found = foundAs Done (record { start = startAt bytes k; length = lengthAt bytes k }) in
+        let e = h ∙ ap (λ (t : Bool). when t then there else foundAs (findingOf bytes k) noPart) refused in
         (ap (λ (x : Found). x .start) e, ap (λ (x : Found). x .length) e)
 
     -- a reader's next trace stays the same
-    pub next-stays : (next : ℕ) (r : Asked) → r ≡ askedOf bytes next k → Refused (r .found .answer) → r .next ≡ next
+    pub next-stays : (next : ℕ) (r : Asked) → ask-gives bytes k next r → Refused (r .found .answer) → r .next ≡ next
     unfolding askedOf
-    next-stays next r h n =
+    next-stays next r c n =
+        let h = ask-said bytes k next r c in
         ap (λ (x : Asked). x .next) h
         ∙ ap (λ (t : Bool). when t then k + 1 else next)
         (ap isDone (sym (found-answer bytes k)) ∙ ap (λ (x : Asked). isDone (x .found .answer)) (sym h) ∙ n)
 
 module _ (g : Graph) (m : Marking) where
-  -- the marking is as it was
-  pub step-stays : (e : ℕ) (r : Stepped) → r ≡ steppedOf g m e → Refused (r .answer) → r .marking ≡ m
+  stays : (e : ℕ) (r : Stepped) → r ≡ steppedOf g m e → Refused (r .answer) → r .marking ≡ m
   unfolding steppedOf
-  step-stays e r h n =
-      ap (λ (x : Stepped). x .marking) h ∙ ap (λ (t : Bool). when t then after (relationsOf g) m e else m) (ap isDone (sym (step-number g m e r h)) ∙ n)
+  stays e r h n =
+      ap (λ (x : Stepped). x .marking) h
+      ∙ ap (λ (t : Bool). when t then after (relationsOf g) m e else m) (ap (λ (x : Stepped). isDone (x .answer)) (sym h) ∙ n)
 
-  pub accepting-no : (r : Verdict) → r ≡ acceptingOf g m → Refused (r .answer) → r .accepting ≡ false
+  -- the marking is as it was
+  pub step-stays : (e : ℕ) (r : Stepped) → step-gives g m e r → Refused (r .answer) → r .marking ≡ m
+  step-stays e r c n = stays e r (step-said g m e r c) n
+
+  -- and so is the one that is lent
+  pub execute-stays : (e : ℕ) (a : Answer) (n : Marking) → execute-gives g m e a n → Refused a → n ≡ m
+  execute-stays e a n c x = stays e (record { answer = a; marking = n }) (execute-said g m e a n c) x
+
+  pub accepting-no : (r : Verdict) → accepting-gives g m r → Refused (r .answer) → r .accepting ≡ false
   unfolding acceptingOf _and_
-  accepting-no r h n = ap (λ (x : Verdict). x .accepting) h ∙ ap (λ (t : Bool). t and accepting m) (ap isDone (sym (accepting-number g m r h)) ∙ n)
+  accepting-no r c n =
+      ap (λ (x : Verdict). x .accepting) (accepting-said g m r c)
+      ∙ ap (λ (t : Bool). t and accepting m) (ap isDone (sym (the-verdict g m r c)) ∙ n)
 
 module _ (g : Graph) where
   -- no byte of the buffer is changed
-  pub write-stays : (before after : List ℕ) (r : Written) → r ≡ writtenOf g (length before) → after ≡ fileAfter g before → Refused (r .answer)
-      → (r .length ≡ 0) × (after ≡ before)
+  pub write-stays : (before after : List ℕ) (w : Written) → write-gives g before w after → Refused (w .answer) → (w .length ≡ 0) × (after ≡ before)
   unfolding writtenOf fileAfter
-  write-stays before after r h k n =
-      let refused : isDone (judgedWrite g (length before)) ≡ false = ap (λ (x : Written). isDone (x .answer)) (sym h) ∙ n in (
-        ap (λ (x : Written). x .length) h ∙ ap (λ (t : Bool). when t then length (bytesOf g) else 0) refused,
-        k ∙ ap (λ (t : Bool). when t then bytesOf g ++ drop (length (bytesOf g)) before else before) refused,
+  write-stays before after w c n =
+      let h = write-said g before w after c in
+      let refused : isDone (judgedWrite g (length before)) ≡ false = ap (λ (x : Written). isDone (x .answer)) (sym (h .0)) ∙ n in (
+        ap (λ (x : Written). x .length) (h .0) ∙ ap (λ (t : Bool). when t then length (bytesOf g) else 0) refused,
+        h .1 ∙ ap (λ (t : Bool). when t then bytesOf g ++ drop (length (bytesOf g)) before else before) refused,
       )
 
   -- refused with 3 or 5, a replay gives place 0, the empty marking, and no for accepting
-  pub replay-nothing : (σ : List ℕ) (r : Replayed) → r ≡ replayOf g σ → (r .answer ≡ AboveLimit) ⊎ (r .answer ≡ Outside) → r ≡ ending (r .answer) 0 emptyMarking false
-  replay-nothing σ r h x = early-nothing g σ r h x
+  pub replay-nothing : (σ : List ℕ) (r : Replayed) → replay-gives g σ r → (numberOf (r .answer) ≡ 3) ⊎ (numberOf (r .answer) ≡ 5)
+      → r ≡ ending (r .answer) 0 emptyMarking false
+  replay-nothing σ r c x = early-nothing g σ r (replay-said g σ r c) x
 
 -- ================ DEMAND 2
 
 -- ---- the mined graph is, pair for pair, the one that the rules give
 
-pub mine-pairs : (bytes : List ℕ) (r : Mined) → r ≡ minedOf bytes → r .answer ≡ Done → PairForPair (logOf bytes .activities) (logOf bytes .traces) (r .graph)
-mine-pairs bytes r h d =
+pub mine-pairs : (bytes : List ℕ) (r : Mined) → mine-gives bytes r → numberOf (r .answer) ≡ 0
+    → PairForPair (logOf bytes .activities) (logOf bytes .traces) (r .graph)
+mine-pairs bytes r c d =
     subst (PairForPair (logOf bytes .activities) (logOf bytes .traces))
-    (sym (ap (λ (x : Mined). x .graph) h ∙ mined-graph bytes (sym (mine-number bytes r h) ∙ d)))
+    (sym (ap (λ (x : Mined). x .graph) (mine-said bytes r c) ∙ mined-graph bytes (sym (the-mined bytes r c) ∙ done-by _ d)))
     (pairs (logOf bytes .activities) (logOf bytes .traces) (file-accepted bytes))
 
 -- ---- the bit-set engine answers as the set rules do, for a graph and a marking that are not refused
 
-module _ (g : Graph) (m : Marking) (ok : judgedWith g m ≡ Done) where
-  pub enabled-rules : (e : ℕ) (a : Answer) → a ≡ enabledOf g m e → a ≡ enabled (g .events) (relationsOf g) m e
-  enabled-rules e a h = enabled-number g m e a h ∙ ap (λ (x : Answer). thenAsk x (enabled (g .events) (relationsOf g) m e)) ok
+module _ (g : Graph) (m : Marking) (ok : numberOf (judgedWith g m) ≡ 0) where
+  pub enabled-rules : (e : ℕ) (a : Answer) → enabled-gives g m e a → numberOf a ≡ numberOf (enabled (g .events) (relationsOf g) m e)
+  enabled-rules e a c =
+      enabled-number g m e a c ∙ ap (λ (x : Answer). numberOf (thenAsk x (enabled (g .events) (relationsOf g) m e))) (done-by (judgedWith g m) ok)
 
-  pub accepting-rules : (r : Verdict) → r ≡ acceptingOf g m → r .accepting ≡ accepting m
+  pub accepting-rules : (r : Verdict) → accepting-gives g m r → r .accepting ≡ accepting m
   unfolding acceptingOf _and_
-  accepting-rules r h = ap (λ (x : Verdict). x .accepting) h ∙ ap (λ (x : Answer). isDone x and accepting m) ok
+  accepting-rules r c = ap (λ (x : Verdict). x .accepting) (accepting-said g m r c) ∙ ap (λ (x : Answer). isDone x and accepting m) (done-by (judgedWith g m) ok)
 
--- a step that is done
-pub step-rules : (g : Graph) (m : Marking) (e : ℕ) (r : Stepped) → r ≡ steppedOf g m e → r .answer ≡ Done → Stepping (relationsOf g) m e (r .marking)
-unfolding steppedOf after
-step-rules g m e r h d =
-    subst (Stepping (relationsOf g) m e)
-    (sym (ap (λ (x : Stepped). x .marking) h ∙ ap (λ (x : Answer). when isDone x then after (relationsOf g) m e else m) (sym (step-number g m e r h) ∙ d)))
-    (record { executed = λ a l. mem-those _ a l; pending = λ a l. mem-those _ a l; included = λ a l. mem-those _ a l })
+module _ (g : Graph) (m : Marking) (e : ℕ) where
+  moves : (r : Stepped) → r ≡ steppedOf g m e → numberOf (r .answer) ≡ 0 → Stepping (relationsOf g) m e (r .marking)
+  unfolding steppedOf after
+  moves r h d =
+      let done : isDone (steppedOf g m e .answer) ≡ true = ap (λ (x : Stepped). isDone (x .answer)) (sym h) ∙ ap (λ (n : ℕ). eqb n 0) d in
+      subst (Stepping (relationsOf g) m e)
+      (sym (ap (λ (x : Stepped). x .marking) h ∙ ap (λ (t : Bool). when t then after (relationsOf g) m e else m) done))
+      (record { executed = λ a l. mem-those _ a l; pending = λ a l. mem-those _ a l; included = λ a l. mem-those _ a l })
+
+  -- a step that is done
+  pub step-rules : (r : Stepped) → step-gives g m e r → numberOf (r .answer) ≡ 0 → Stepping (relationsOf g) m e (r .marking)
+  step-rules r c d = moves r (step-said g m e r c) d
+
+  -- and one on a lent marking
+  pub execute-rules : (a : Answer) (n : Marking) → execute-gives g m e a n → numberOf a ≡ 0 → Stepping (relationsOf g) m e n
+  execute-rules a n c d = moves (record { answer = a; marking = n }) (execute-said g m e a n c) d
 
 -- and it replays step for step: to the first refusal, or through
-module _ (g : Graph) (σ : List ℕ) (ok : judgedFor g (length σ) ≡ Done) (r : Replayed) (h : r ≡ replayOf g σ) where
+module _ (g : Graph) (σ : List ℕ) (ok : numberOf (judgedFor g (length σ)) ≡ 0) (r : Replayed) (c : replay-gives g σ r) where
   pub replay-stops : Refused (r .answer) → StopsAt (g .events) (relationsOf g) (g .opening) σ r
-  replay-stops = stops-at (g .events) (relationsOf g) (g .opening) σ r (replay-runs g σ r h ok)
+  replay-stops = stops-at (g .events) (relationsOf g) (g .opening) σ r (replay-runs g σ r (replay-said g σ r c) (done-by _ ok))
 
-  pub replay-through : r .answer ≡ Done → GoesThrough (g .events) (relationsOf g) (g .opening) σ r
-  replay-through = goes-through (g .events) (relationsOf g) (g .opening) σ r (replay-runs g σ r h ok)
+  pub replay-through : numberOf (r .answer) ≡ 0 → GoesThrough (g .events) (relationsOf g) (g .opening) σ r
+  replay-through d = goes-through (g .events) (relationsOf g) (g .opening) σ r (replay-runs g σ r (replay-said g σ r c) (done-by _ ok)) (done-by _ d)
 
--- ---- files and graphs go round without a change. On the code: `graph_back` and `file_back` (src/returned.rt), which write and read, and read
--- and write, and whose statements say that the graph and the file come back. Of the statements of `read` and `write` alone
--- (`Machine` and `Bytes` say that numbers fit their places in memory, which the two functions show of what they are passed):
+-- ---- files and graphs go round without a change
 
+-- a graph written and read again is that graph; and the buffer is the write's
+pub graph-returns : (g : Graph) (before : List ℕ) (r : Reading) (after : List ℕ) → graph-back-gives g before r after → numberOf (r .answer) ≡ 0
+    → (r .graph ≡ g) × (after ≡ fileAfter g before)
+unfolding graphBack
+graph-returns g before r after c d =
+    let h = graph-back-said g before r after c in
+    let done : isDone (judgedWrite g (length before)) ≡ true = ap (λ (x : Reading). isDone (x .answer)) (sym (h .0)) ∙ ap (λ (n : ℕ). eqb n 0) d in
+    (ap (λ (x : Reading). x .graph) (h .0) ∙ ap (λ (t : Bool). when t then g else emptyGraph) done, h .1)
+
+-- an accepted file read and written again is that file, then what was there
+pub file-returns : (file before : List ℕ) (w : Written) (after : List ℕ) → file-back-gives file before w after → numberOf (w .answer) ≡ 0
+    → (w .length ≡ length file) × (after ≡ file ++ drop (length file) before)
+unfolding fileBack fileCopied
+file-returns file before w after c d =
+    let h = file-back-said file before w after c in
+    let done : isDone (judgedCopy file (length before)) ≡ true = ap (λ (x : Written). isDone (x .answer)) (sym (h .0)) ∙ ap (λ (n : ℕ). eqb n 0) d in (
+      ap (λ (x : Written). x .length) (h .0) ∙ ap (λ (t : Bool). when t then length file else 0) done,
+      h .1 ∙ ap (λ (t : Bool). when t then file ++ drop (length file) before else before) done,
+    )
+
+-- the same of `read` and `write` themselves (`Machine` and `Bytes` say that numbers fit their places in memory, which the functions
+-- above show of what they are passed)
 pub graph-round : (g : Graph) (before after : List ℕ) (w : Written) (r : Reading)
     → Machine g → judged g ≡ Done → length (bytesOf g) ≤ length before
-    → w ≡ writtenOf g (length before) → after ≡ fileAfter g before → r ≡ readOf (take (w .length) after)
+    → write-gives g before w after → read-gives (take (w .length) after) r
     → r ≡ record { answer = Done; graph = g }
-graph-round = written-then-read
+graph-round g before after w r fits ok room cw cr =
+    let h = write-said g before w after cw in written-then-read g before after w r fits ok room (h .0) (h .1) (read-said _ r cr)
 
 pub file-round : (bytes before after : List ℕ) (r : Reading) (w : Written)
-    → Bytes bytes → r ≡ readOf bytes → r .answer ≡ Done → length bytes ≤ length before
-    → w ≡ writtenOf (r .graph) (length before) → after ≡ fileAfter (r .graph) before
+    → Bytes bytes → read-gives bytes r → numberOf (r .answer) ≡ 0 → length bytes ≤ length before
+    → write-gives (r .graph) before w after
     → (w ≡ record { answer = Done; length = length bytes }) × (after ≡ bytes ++ drop (length bytes) before)
-file-round = read-then-written
+file-round bytes before after r w fits cr d room cw =
+    let h = write-said (r .graph) before w after cw in
+    read-then-written bytes before after r w fits (read-said bytes r cr) (done-by _ d) room (h .0) (h .1)
 
 -- ================ DEMAND 3
 
 -- Every trace of an accepted log, and the empty one, replays on its mined graph: done, at its length, with no step pending at all, and
--- accepting. On the code: `replay_own` and `replay_none` (src/replayed.rt), which mine, find the trace and replay it, and whose statements say so.
+-- accepting. (A refused log has no trace.)
 
--- (a refused log has no trace)
-pub own-traces : (bytes : List ℕ) (k : ℕ) (m : Mined) (r : Replayed) → m ≡ minedOf bytes → k < length (logOf bytes .traces)
-    → r ≡ replayOf (m .graph) (traceOf bytes k) → Through (length (traceOf bytes k)) r
-own-traces = own-through
+module _ (bytes : List ℕ) (k : ℕ) (l : k < length (logOf bytes .traces)) where
+  -- `mine`, then `replay`
+  module _ (m : Mined) (r : Replayed) (cm : mine-gives bytes m) (cr : replay-gives (m .graph) (traceOf bytes k) r) where
+    pub own-traces : Settles (length (traceOf bytes k)) r
+    own-traces =
+        let t = own-through bytes k m r (mine-said bytes m cm) l (replay-said _ _ r cr) in
+        record { done = ap numberOf (t .done); whole = t .whole; settled = t .settled; accepted = t .accepted }
 
--- with every event enabled in its turn
-pub own-turns : (bytes : List ℕ) (k : ℕ) (m : Mined) (r : Replayed) → m ≡ minedOf bytes → k < length (logOf bytes .traces)
-    → r ≡ replayOf (m .graph) (traceOf bytes k) → InTurn (m .graph .events) (relationsOf (m .graph)) (m .graph .opening) (traceOf bytes k)
-own-turns bytes k m r hm l hr =
-    let ok = judged-for (m .graph) (ap (λ (x : Mined). judged (x .graph)) hm ∙ mined-judged bytes) (length (traceOf bytes k)) (read-within bytes .lengths k l) in
-    replay-through (m .graph) (traceOf bytes k) ok r hr (own-through bytes k m r hm l hr .done) .in-turn
+    -- with every event enabled in its turn
+    pub own-turns : InTurn (m .graph .events) (relationsOf (m .graph)) (m .graph .opening) (traceOf bytes k)
+    own-turns =
+        let ok : judged (m .graph) ≡ Done = ap (λ (x : Mined). judged (x .graph)) (mine-said bytes m cm) ∙ mined-judged bytes in
+        let long = judged-for (m .graph) ok (length (traceOf bytes k)) (read-within bytes .lengths k l) in
+        replay-through (m .graph) (traceOf bytes k) (ap numberOf long) r cr (own-traces .done) .in-turn
 
-pub own-empty : (bytes : List ℕ) (m : Mined) (r : Replayed) → m ≡ minedOf bytes → r ≡ replayOf (m .graph) []
-    → r ≡ ending Done 0 (openingOf (minedOf bytes .graph .events)) true
-own-empty = none-through
+  -- `replay_own`, which does all of it
+  pub own-replay : (r : Replayed) → replay-own-gives bytes k r → Settles (length (traceOf bytes k)) r
+  own-replay r c =
+      let h = replay-own-said bytes k r c in
+      let found = finds bytes k l in
+      record { done = ap numberOf (h .1 .0 ∙ found); whole = h .1 .1 .0; settled = h .1 .1 .1 .0; accepted = h .1 .1 .1 .1 ∙ ap isDone found }
+
+-- the empty trace, on the graph of any bytes: the opening marking is accepting
+module _ (bytes : List ℕ) where
+  none-settles : (r : Replayed) (events : _) → r ≡ ending Done 0 (openingOf events) true → Settles 0 r
+  none-settles r events h =
+      record {
+        done = ap (λ (x : Replayed). numberOf (x .answer)) h;
+        whole = ap (λ (x : Replayed). x .place .0) h;
+        settled = ap (λ (x : Replayed). x .marking .pending) h;
+        accepted = ap (λ (x : Replayed). x .accepting) h;
+      }
+
+  pub own-empty : (m : Mined) (r : Replayed) → mine-gives bytes m → replay-gives (m .graph) [] r → Settles 0 r
+  own-empty m r cm cr = none-settles r _ (none-through bytes m r (mine-said bytes m cm) (replay-said _ _ r cr))
+
+  pub own-none : (r : Replayed) → replay-none-gives bytes r → Settles 0 r
+  own-none r c = none-settles r _ (replay-none-said bytes r c)

@@ -11,7 +11,7 @@ use Rattle.sets.specs.Members.{mem}
 use Rattle.sets.specs.Answers.{numberOf, isDone}
 use Rattle.sets.specs.declared.set.Set.{Set}
 use Rattle.sets.specs.declared.answer.Answer.{Answer}
-use Rattle.sets.specs.declared.answer.Answer.the-variants.{Done, AboveLimit, Outside, NoEvent, NotIncluded, Waiting}
+use Rattle.sets.specs.declared.answer.Answer.the-variants.{Done, NoEvent, NotIncluded, Waiting}
 use Rattle.sets.proofs.Tests.{T→true, F→false, split, either, true→T, false→F}
 use Rattle.sets.proofs.Asking.{done-is}
 use Rattle.engine.specs.Markings.{emptyMarking}
@@ -62,11 +62,13 @@ module _ (g : Graph) (σ : List ℕ) (r : Replayed) (h : r ≡ replayOf g σ) wh
       let s = stops-at (g .events) (relationsOf g) (g .opening) σ r (replay-runs d) (F→false _ n) in
       ap early (sym (s .refusal)) ∙ enabled-late (g .events) (relationsOf g) (r .marking) _)
 
-  pub early-nothing : (r .answer ≡ AboveLimit) ⊎ (r .answer ≡ Outside) → r ≡ ending (r .answer) 0 emptyMarking false
+  pub early-nothing : (numberOf (r .answer) ≡ 3) ⊎ (numberOf (r .answer) ≡ 5) → r ≡ ending (r .answer) 0 emptyMarking false
   unfolding early _or_
   early-nothing x =
       either (split (isDone (judgedFor g (length σ))))
-      (λ y. absurd (false→F (runs-late (done-is _ (T→true _ y))) (either x (λ e. true→T (ap early e)) (λ e. true→T (ap early e)))))
+      (λ y.
+      let yes : ℕ → Bool = λ n. eqb n 3 or eqb n 5 in
+      absurd (false→F (runs-late (done-is _ (T→true _ y))) (either x (λ e. true→T (ap yes e)) (λ e. true→T (ap yes e)))))
       (λ n.
       let e = replay-not (F→false _ n) in
       e ∙ ap (λ (a : Answer). ending a 0 emptyMarking false) (sym (ap (λ (q : Replayed). q .answer) e)))

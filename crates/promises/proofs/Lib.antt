@@ -5,5 +5,8 @@ pub mod Pairs
 pub mod StepForStep
 pub mod Early
 pub mod Outcomes
+pub mod Walked
+pub mod Contracts
 pub mod Demands
 pub mod StandIns
+pub mod Counts

@@ -1,262 +1,287 @@
--- One outcome: for every public function the theorem that two outcomes which its statement allows are equal. Assumes nothing.
+-- One outcome: for every public function the theorem that two outcomes which its contract allows are equal. Assumes nothing.
 --
--- No public function has a `requires`. A statement is the equation `r ≡ definition of what was passed`: `Once`. Where something is lent by
--- `&mut` there is another, `what is left ≡ definition of what was passed and what was there`: `OnceLent`; where nothing else is given, `Once`
--- speaks of what is left. Each theorem is called after its function.
+-- `Post κ a r s` is a function's own contract, as the checker reads it off the source: what the result r, and at exit the arguments s, must
+-- meet when it is called with a. (κ are the lifetimes of what is lent.) No definition is repeated here, so a contract that says less, or
+-- nothing, is refused at its theorem. No public function has a `requires`. Each theorem is called after its function.
 use mathlib.Core.Path.{_≡_, sym, ap, _∙_}
-use mathlib.Core.Bool.{true}
-use mathlib.Core.List.{List}
-use Prim.Native.Nat.{ℕ}
-use denote.Ref.{RefT, now}
-use lib.Dec.{eqb, ltb}
-use lib.ListN.{length}
-use Rattle.sets.specs.Tests.{_and_, _or_, non}
-use Rattle.sets.specs.Members.{width, mem, those, within, isEmpty, leastBelow, countBelow}
-use Rattle.sets.specs.Rows.{noRows, rowAt, withRow, rowsOf}
-use Rattle.sets.specs.Answers.{numberOf, isDone}
-use Rattle.sets.specs.Files.{opensWith}
-use Rattle.sets.specs.declared.set.Set.{Set}
+use denote.Ref.{now}
 use Rattle.sets.specs.declared.activity.Activity.{Activity}
-use Rattle.sets.specs.declared.answer.Answer.{Answer}
-use Rattle.sets.specs.declared.answer.Answer.the-variants.{Done}
-use Rattle.engine.specs.Markings.{markingOf, openingOf}
-use Rattle.engine.specs.Relations.{graphOf, emptyGraph, inRows}
-use Rattle.engine.specs.Judged.{markingWithin, rowsWithin, judgedFor, judged, judgedWith}
-use Rattle.engine.specs.Steps as rules
-use Rattle.engine.specs.Replay.{enabledOf, steppedOf, acceptingOf, ending, replayFrom, replayOf}
-use Rattle.engine.specs.declared.marking.Marking.{Marking}
-use Rattle.engine.specs.declared.graph.Graph.{Graph}
-use Rattle.calllog.specs.Logs.{judgedOf, partOf, foundOf, askedOf}
-use Rattle.calllog.specs.Reader.{opened, readerAfter}
-use Rattle.calllog.specs.declared.reader.LogReader.{LogReader}
-use Rattle.graphfile.specs.Held.{readOf}
-use Rattle.graphfile.specs.Writing.{writtenOf, fileAfter}
-use Rattle.graphfile.specs.Markings.{markingFrom, markingInto}
-use Rattle.miner.specs.Mine.{minedOf}
-use Rattle.miner.specs.Reading.{turned as turnedRows}
-use Rattle.report.specs.Listing.{listedOf, listingAfter}
-use Rattle.port.specs.Port.{mineNumber, mineBuffer, rewriteNumber, rewriteBuffer, replayNumber, listingNumber, stepOf, stepBytes}
-use Rattle.promises.specs.Promised.{ownReplay, graphBack, fileBack, fileCopied}
+use Rattle.sets.proofs.answer.Answer.number.Reads as Answer-number
+use Rattle.sets.proofs.answer.Answer.is_done.Reads as Answer-is-done
+use Rattle.sets.proofs.set.Set.one.Reads as Set-one
+use Rattle.sets.proofs.set.Set.below.Reads as Set-below
+use Rattle.sets.proofs.set.Set.has.Reads as Set-has
+use Rattle.sets.proofs.set.Set.union.Reads as Set-union
+use Rattle.sets.proofs.set.Set.intersection.Reads as Set-intersection
+use Rattle.sets.proofs.set.Set.difference.Reads as Set-difference
+use Rattle.sets.proofs.set.Set.complement.Reads as Set-complement
+use Rattle.sets.proofs.set.Set.is_empty.Reads as Set-is-empty
+use Rattle.sets.proofs.set.Set.is_within.Reads as Set-is-within
+use Rattle.sets.proofs.set.Set.count.Reads as Set-count
+use Rattle.sets.proofs.set.Set.least.Reads as Set-least
+use Rattle.sets.proofs.rows.empty.Reads as empty
+use Rattle.sets.proofs.rows.row.Reads as row
+use Rattle.sets.proofs.rows.put.Reads as put
+use Rattle.sets.proofs.rows.join.Reads as join
+use Rattle.sets.proofs.rows.keep.Reads as keep
+use Rattle.sets.proofs.opening.opens_with.Reads as opens-with
+use Rattle.engine.proofs.marking.Marking.of.Reads as Marking-of
+use Rattle.engine.proofs.marking.Marking.opening.Reads as Marking-opening
+use Rattle.engine.proofs.graph.Graph.empty.Reads as Graph-empty
+use Rattle.engine.proofs.judge.marking_within.Reads as marking-within
+use Rattle.engine.proofs.judge.rows_within.Reads as rows-within
+use Rattle.engine.proofs.judge.judge_for.Reads as judge-for
+use Rattle.engine.proofs.judge.judge_beside.Reads as judge-beside
+use Rattle.engine.proofs.judge.judge.Reads as judge
+use Rattle.engine.proofs.judge.judge_with.Reads as judge-with
+use Rattle.engine.proofs.step.ask.Reads as ask
+use Rattle.engine.proofs.step.next.Reads as next
+use Rattle.engine.proofs.step.is_accepting.Reads as is-accepting
+use Rattle.engine.proofs.step.enabled.Reads as enabled
+use Rattle.engine.proofs.step.step.Reads as step
+use Rattle.engine.proofs.step.accepting.Reads as accepting
+use Rattle.engine.proofs.replay.run.Reads as run
+use Rattle.engine.proofs.replay.replay.Reads as replay
+use Rattle.calllog.proofs.judge.judge_log.Reads as judge-log
+use Rattle.calllog.proofs.trace.trace_part.Reads as trace-part
+use Rattle.calllog.proofs.trace.find_trace.Reads as find-trace
+use Rattle.calllog.proofs.trace.ask.Reads as log-ask
+use Rattle.graphfile.proofs.reader.read.Reads as read
+use Rattle.graphfile.proofs.writer.write.Reads as write
+use Rattle.graphfile.proofs.marking.read_marking.Reads as read-marking
+use Rattle.graphfile.proofs.marking.write_marking.Reads as write-marking
+use Rattle.miner.proofs.mining.mine.Reads as mine
+use Rattle.report.proofs.writer.write_listing.Reads as write-listing
+use Rattle.port.proofs.skelfora_mine.Reads as skelfora-mine
+use Rattle.port.proofs.skelfora_listing.Reads as skelfora-listing
+use Rattle.port.proofs.skelfora_rewrite.Reads as skelfora-rewrite
+use Rattle.port.proofs.skelfora_replay.Reads as skelfora-replay
+use Rattle.port.proofs.skelfora_step.Reads as skelfora-step
+use Rattle.promises.proofs.replayed.replay_own.Reads as replay-own
+use Rattle.promises.proofs.replayed.replay_none.Reads as replay-none
+use Rattle.promises.proofs.returned.graph_back.Reads as graph-back
+use Rattle.promises.proofs.returned.file_back.Reads as file-back
+use Rattle.promises.proofs.Walked.{execute-Post, executed-Post, open-Post, trace-Post, next-trace-Post, read-trace-Post, read-next-Post}
 
--- two results that a statement allows are equal
-abbrev Once : {A : Type 0} → A → Type 0
-Once {A} given = (r r′ : A) → r ≡ given → r′ ≡ given → r ≡ r′
+module _ {K : Type 0} {A : K → Type 0} {R : K → Type 0} {E : K → Type 0} (Post : (κ : K) → A κ → R κ → E κ → Type 0) where
+  -- two calls with the same arguments give the same
+  abbrev Once : Type 0
+  Once = (κ : K) (a : A κ) (r r′ : R κ) (s s′ : E κ) → Post κ a r s → Post κ a r′ s′ → r ≡ r′
 
-pub one-outcome : {A : Type 0} {given : A} → Once given
-one-outcome r r′ h h′ = h ∙ sym h′
+  module _ {X : Type 0} (left : (κ : K) → E κ → X) where
+    -- where something is lent by `&mut` and nothing is given: they leave the same
+    abbrev OnceLeft : Type 0
+    OnceLeft = (κ : K) (a : A κ) (r r′ : R κ) (s s′ : E κ) → Post κ a r s → Post κ a r′ s′ → left κ s ≡ left κ s′
 
--- where something is lent: two results, and what they leave
-abbrev OnceLent : {A B : Type 0} → A → B → Type 0
-OnceLent {A} {B} given left = (r r′ : A) (b b′ : B) → (r ≡ given) × (b ≡ left) → (r′ ≡ given) × (b′ ≡ left) → (r ≡ r′) × (b ≡ b′)
-
-pub one-outcome-lent : {A B : Type 0} {given : A} {left : B} → OnceLent given left
-one-outcome-lent r r′ b b′ h h′ = (one-outcome r r′ (h .0) (h′ .0), one-outcome b b′ (h .1) (h′ .1))
+    -- and both
+    abbrev OnceLent : Type 0
+    OnceLent = (κ : K) (a : A κ) (r r′ : R κ) (s s′ : E κ) → Post κ a r s → Post κ a r′ s′ → (r ≡ r′) × (left κ s ≡ left κ s′)
 
 -- ---- sets: answers
 
-pub Answer-number-once : (a : Answer) → Once (numberOf a)
-Answer-number-once a = one-outcome
+pub Answer-number-once : Once Answer-number.Post
+Answer-number-once κ a r r′ s s′ h h′ = h ∙ sym h′
 
-pub Answer-is-done-once : (a : Answer) → Once (isDone a)
-Answer-is-done-once a = one-outcome
+pub Answer-is-done-once : Once Answer-is-done.Post
+Answer-is-done-once κ a r r′ s s′ h h′ = h ∙ sym h′
 
 -- ---- sets: sets, by their members
 
-pub Set-one-once : (n : ℕ) → Once (those (λ b. eqb b n))
-Set-one-once n = one-outcome
+pub Set-one-once : Once Set-one.Post
+Set-one-once κ a r r′ s s′ h h′ = h ∙ sym h′
 
-pub Set-below-once : (n : ℕ) → Once (those (λ a. ltb a n))
-Set-below-once n = one-outcome
+pub Set-below-once : Once Set-below.Post
+Set-below-once κ a r r′ s s′ h h′ = h ∙ sym h′
 
-pub Set-has-once : (s : Set) (n : ℕ) → Once (mem s n)
-Set-has-once s n = one-outcome
+pub Set-has-once : Once Set-has.Post
+Set-has-once κ a r r′ s s′ h h′ = h ∙ sym h′
 
-pub Set-union-once : (s t : Set) → Once (those (λ a. mem s a or mem t a))
-Set-union-once s t = one-outcome
+pub Set-union-once : Once Set-union.Post
+Set-union-once κ a r r′ s s′ h h′ = h ∙ sym h′
 
-pub Set-intersection-once : (s t : Set) → Once (those (λ a. mem s a and mem t a))
-Set-intersection-once s t = one-outcome
+pub Set-intersection-once : Once Set-intersection.Post
+Set-intersection-once κ a r r′ s s′ h h′ = h ∙ sym h′
 
-pub Set-difference-once : (s t : Set) → Once (those (λ a. mem s a and non (mem t a)))
-Set-difference-once s t = one-outcome
+pub Set-difference-once : Once Set-difference.Post
+Set-difference-once κ a r r′ s s′ h h′ = h ∙ sym h′
 
-pub Set-complement-once : (s : Set) → Once (those (λ a. non (mem s a)))
-Set-complement-once s = one-outcome
+pub Set-complement-once : Once Set-complement.Post
+Set-complement-once κ a r r′ s s′ h h′ = h ∙ sym h′
 
-pub Set-is-empty-once : (s : Set) → Once (isEmpty s)
-Set-is-empty-once s = one-outcome
+pub Set-is-empty-once : Once Set-is-empty.Post
+Set-is-empty-once κ a r r′ s s′ h h′ = h ∙ sym h′
 
-pub Set-is-within-once : (s t : Set) → Once (within s t)
-Set-is-within-once s t = one-outcome
+pub Set-is-within-once : Once Set-is-within.Post
+Set-is-within-once κ a r r′ s s′ h h′ = h ∙ sym h′
 
-pub Set-count-once : (s : Set) → Once (countBelow width (mem s))
-Set-count-once s = one-outcome
+pub Set-count-once : Once Set-count.Post
+Set-count-once κ a r r′ s s′ h h′ = h ∙ sym h′
 
 -- an activity is its number
-pub Set-least-once : (s : Set) (r r′ : Activity) → r .0 ≡ leastBelow width (mem s) → r′ .0 ≡ leastBelow width (mem s) → r ≡ r′
-Set-least-once s r r′ h h′ = ap {B = Activity} (λ n. record { 0 = n }) (h ∙ sym h′)
+pub Set-least-once : Once Set-least.Post
+Set-least-once κ a r r′ s s′ h h′ = ap {B = Activity} (λ n. record { 0 = n }) (h ∙ sym h′)
 
--- ---- sets: rows; put, join and keep leave the lent rows
+-- ---- sets: rows
 
-pub empty-once : Once noRows
-empty-once = one-outcome
+pub empty-once : Once empty.Post
+empty-once κ a r r′ s s′ h h′ = h ∙ sym h′
 
-pub row-once : (rows : List ℕ) (n : ℕ) → Once (rowAt rows n)
-row-once rows n = one-outcome
+pub row-once : Once row.Post
+row-once κ a r r′ s s′ h h′ = h ∙ sym h′
 
-pub put-once : (rows : List ℕ) (n : ℕ) (s : Set) → Once (withRow rows n s)
-put-once rows n s = one-outcome
+pub put-once : OnceLeft put.Post (λ κ s. now (s .0))
+put-once κ a r r′ s s′ h h′ = h ∙ sym h′
 
-pub join-once : (rows : List ℕ) (n : ℕ) (s : Set) → Once (withRow rows n (those (λ b. mem (rowAt rows n) b or mem s b)))
-join-once rows n s = one-outcome
+pub join-once : OnceLeft join.Post (λ κ s. now (s .0))
+join-once κ a r r′ s s′ h h′ = h ∙ sym h′
 
-pub keep-once : (rows : List ℕ) (n : ℕ) (s : Set) → Once (withRow rows n (those (λ b. mem (rowAt rows n) b and mem s b)))
-keep-once rows n s = one-outcome
+pub keep-once : OnceLeft keep.Post (λ κ s. now (s .0))
+keep-once κ a r r′ s s′ h h′ = h ∙ sym h′
 
 -- ---- sets: what files open with
 
-pub opens-with-once : (mark bytes : List ℕ) → Once (opensWith mark bytes)
-opens-with-once mark bytes = one-outcome
+pub opens-with-once : Once opens-with.Post
+opens-with-once κ a r r′ s s′ h h′ = h ∙ sym h′
 
 -- ---- engine
 
-pub Marking-of-once : (e p i : Set) → Once (markingOf e p i)
-Marking-of-once e p i = one-outcome
+pub Marking-of-once : Once Marking-of.Post
+Marking-of-once κ a r r′ s s′ h h′ = h ∙ sym h′
 
-pub Marking-opening-once : (events : Set) → Once (openingOf events)
-Marking-opening-once events = one-outcome
+pub Marking-opening-once : Once Marking-opening.Post
+Marking-opening-once κ a r r′ s s′ h h′ = h ∙ sym h′
 
-pub Graph-empty-once : Once emptyGraph
-Graph-empty-once = one-outcome
+pub Graph-empty-once : Once Graph-empty.Post
+Graph-empty-once κ a r r′ s s′ h h′ = h ∙ sym h′
 
-pub marking-within-once : (events : Set) (m : Marking) → Once (markingWithin events m)
-marking-within-once events m = one-outcome
+pub marking-within-once : Once marking-within.Post
+marking-within-once κ a r r′ s s′ h h′ = h ∙ sym h′
 
-pub rows-within-once : (events : Set) (rows : List ℕ) → Once (rowsWithin events rows)
-rows-within-once events rows = one-outcome
+pub rows-within-once : Once rows-within.Post
+rows-within-once κ a r r′ s s′ h h′ = h ∙ sym h′
 
-pub judge-for-once : (a : ℕ) (events : Set) (m : Marking) (c r i x : List ℕ) (n : ℕ) → Once (judgedFor (graphOf a events m c r i x) n)
-judge-for-once a events m c r i x n = one-outcome
+pub judge-for-once : Once judge-for.Post
+judge-for-once κ a r r′ s s′ h h′ = h ∙ sym h′
 
-pub judge-beside-once : (a : ℕ) (events : Set) (m : Marking) (c r i x : List ℕ) (n : Marking) → Once (judgedWith (graphOf a events m c r i x) n)
-judge-beside-once a events m c r i x n = one-outcome
+pub judge-beside-once : Once judge-beside.Post
+judge-beside-once κ a r r′ s s′ h h′ = h ∙ sym h′
 
-pub judge-once : (g : Graph) → Once (judged g)
-judge-once g = one-outcome
+pub judge-once : Once judge.Post
+judge-once κ a r r′ s s′ h h′ = h ∙ sym h′
 
-pub judge-with-once : (g : Graph) (m : Marking) → Once (judgedWith g m)
-judge-with-once g m = one-outcome
+pub judge-with-once : Once judge-with.Post
+judge-with-once κ a r r′ s s′ h h′ = h ∙ sym h′
 
-pub ask-once : (events : Set) (c : List ℕ) (m : Marking) (n : ℕ) → Once (rules.enabled events (inRows c noRows noRows noRows) m n)
-ask-once events c m n = one-outcome
+pub ask-once : Once ask.Post
+ask-once κ a r r′ s s′ h h′ = h ∙ sym h′
 
-pub next-once : (r i x : List ℕ) (m : Marking) (n : ℕ) → Once (rules.after (inRows noRows r i x) m n)
-next-once r i x m n = one-outcome
+pub next-once : Once next.Post
+next-once κ a r r′ s s′ h h′ = h ∙ sym h′
 
-pub is-accepting-once : (m : Marking) → Once (rules.accepting m)
-is-accepting-once m = one-outcome
+pub is-accepting-once : Once is-accepting.Post
+is-accepting-once κ a r r′ s s′ h h′ = h ∙ sym h′
 
-pub enabled-once : (g : Graph) (m : Marking) (n : ℕ) → Once (enabledOf g m n)
-enabled-once g m n = one-outcome
+pub enabled-once : Once enabled.Post
+enabled-once κ a r r′ s s′ h h′ = h ∙ sym h′
 
-pub step-once : (g : Graph) (m : Marking) (n : ℕ) → Once (steppedOf g m n)
-step-once g m n = one-outcome
+pub step-once : Once step.Post
+step-once κ a r r′ s s′ h h′ = h ∙ sym h′
 
-pub accepting-once : (g : Graph) (m : Marking) → Once (acceptingOf g m)
-accepting-once g m = one-outcome
+pub accepting-once : Once accepting.Post
+accepting-once κ a r r′ s s′ h h′ = h ∙ sym h′
 
-pub execute-once : (g : Graph) (m : Marking) (n : ℕ) → OnceLent (steppedOf g m n .answer) (steppedOf g m n .marking)
-execute-once g m n = one-outcome-lent
+pub execute-once : OnceLent execute-Post (λ κ s. now (s .1 .0))
+execute-once κ a r r′ s s′ h h′ = (h .0 ∙ sym (h′ .0), h .1 ∙ sym (h′ .1))
 
-pub run-once : (events : Set) (c r i x : List ℕ) (m : Marking) (trace : List ℕ) → Once (replayFrom events (inRows c r i x) m 0 trace)
-run-once events c r i x m trace = one-outcome
+pub executed-once : Once executed-Post
+executed-once κ a r r′ s s′ h h′ = h ∙ sym h′
 
-pub replay-once : (g : Graph) (trace : List ℕ) → Once (replayOf g trace)
-replay-once g trace = one-outcome
+pub run-once : Once run.Post
+run-once κ a r r′ s s′ h h′ = h ∙ sym h′
+
+pub replay-once : Once replay.Post
+replay-once κ a r r′ s s′ h h′ = h ∙ sym h′
 
 -- ---- calllog
 
-pub judge-log-once : (bytes : List ℕ) → Once (judgedOf bytes)
-judge-log-once bytes = one-outcome
+pub judge-log-once : Once judge-log.Post
+judge-log-once κ a r r′ s s′ h h′ = h ∙ sym h′
 
-pub trace-part-once : (bytes : List ℕ) (k : ℕ) → Once (partOf bytes k)
-trace-part-once bytes k = one-outcome
+pub trace-part-once : Once trace-part.Post
+trace-part-once κ a r r′ s s′ h h′ = h ∙ sym h′
 
-pub find-trace-once : (bytes : List ℕ) (k : ℕ) → Once (foundOf bytes k)
-find-trace-once bytes k = one-outcome
+pub find-trace-once : Once find-trace.Post
+find-trace-once κ a r r′ s s′ h h′ = h ∙ sym h′
 
-pub log-ask-once : (bytes : List ℕ) (next k : ℕ) → Once (askedOf bytes next k)
-log-ask-once bytes next k = one-outcome
+pub log-ask-once : Once log-ask.Post
+log-ask-once κ a r r′ s s′ h h′ = h ∙ sym h′
 
-pub open-once : (log : RefT (List ℕ)) → Once (opened log)
-open-once log = one-outcome
+pub open-once : Once open-Post
+open-once κ a r r′ s s′ h h′ = h ∙ sym h′
 
-pub trace-once : (r : LogReader) (k : ℕ) → OnceLent (foundOf (now (r .log)) k) (readerAfter r k)
-trace-once r k = one-outcome-lent
+pub trace-once : OnceLent trace-Post (λ κ s. now (s .0))
+trace-once κ a r r′ s s′ h h′ = (h .0 ∙ sym (h′ .0), h .1 ∙ sym (h′ .1))
 
-pub next-trace-once : (r : LogReader) → OnceLent (foundOf (now (r .log)) (r .next)) (readerAfter r (r .next))
-next-trace-once r = one-outcome-lent
+pub next-trace-once : OnceLent next-trace-Post (λ κ s. now (s .0))
+next-trace-once κ a r r′ s s′ h h′ = (h .0 ∙ sym (h′ .0), h .1 ∙ sym (h′ .1))
 
-pub read-trace-once : (log : List ℕ) (k : ℕ) → Once (foundOf log k)
-read-trace-once log k = one-outcome
+pub read-trace-once : Once read-trace-Post
+read-trace-once κ a r r′ s s′ h h′ = h ∙ sym h′
+
+pub read-next-once : Once read-next-Post
+read-next-once κ a r r′ s s′ h h′ = h ∙ sym h′
 
 -- ---- graphfile
 
-pub read-once : (bytes : List ℕ) → Once (readOf bytes)
-read-once bytes = one-outcome
+pub read-once : Once read.Post
+read-once κ a r r′ s s′ h h′ = h ∙ sym h′
 
-pub write-once : (g : Graph) (out : List ℕ) → OnceLent (writtenOf g (length out)) (fileAfter g out)
-write-once g out = one-outcome-lent
+pub write-once : OnceLent write.Post (λ κ s. now (s .1 .0))
+write-once κ a r r′ s s′ h h′ = (h .0 ∙ sym (h′ .0), h .1 ∙ sym (h′ .1))
 
-pub read-marking-once : (bytes : List ℕ) → Once (markingFrom bytes)
-read-marking-once bytes = one-outcome
+pub read-marking-once : Once read-marking.Post
+read-marking-once κ a r r′ s s′ h h′ = h ∙ sym h′
 
-pub write-marking-once : (m : Marking) (out : List ℕ) → Once (markingInto m out)
-write-marking-once m out = one-outcome
+pub write-marking-once : OnceLeft write-marking.Post (λ κ s. now (s .1 .0))
+write-marking-once κ a r r′ s s′ h h′ = h ∙ sym h′
 
 -- ---- miner
 
-pub mine-once : (log : List ℕ) → Once (minedOf log)
-mine-once log = one-outcome
-
-pub turned-once : (rows : List ℕ) → Once (rowsOf (turnedRows rows))
-turned-once rows = one-outcome
-
-pub without-least-once : (s : Set) → Once (those (λ x. mem s x and non (eqb x (leastBelow width (mem s)))))
-without-least-once s = one-outcome
+pub mine-once : Once mine.Post
+mine-once κ a r r′ s s′ h h′ = h ∙ sym h′
 
 -- ---- report
 
-pub write-listing-once : (log out : List ℕ) → OnceLent (listedOf log (length out)) (listingAfter log out)
-write-listing-once log out = one-outcome-lent
+pub write-listing-once : OnceLent write-listing.Post (λ κ s. now (s .1 .0))
+write-listing-once κ a r r′ s s′ h h′ = (h .0 ∙ sym (h′ .0), h .1 ∙ sym (h′ .1))
 
 -- ---- port
 
-pub skelfora-mine-once : (log file : List ℕ) → OnceLent (mineNumber log (length file)) (mineBuffer log file)
-skelfora-mine-once log file = one-outcome-lent
+pub skelfora-mine-once : OnceLent skelfora-mine.Post (λ κ s. now (s .1 .0))
+skelfora-mine-once κ a r r′ s s′ h h′ = (h .0 ∙ sym (h′ .0), h .1 ∙ sym (h′ .1))
 
-pub skelfora-listing-once : (log out : List ℕ) → OnceLent (listingNumber log (length out)) (listingAfter log out)
-skelfora-listing-once log out = one-outcome-lent
+pub skelfora-listing-once : OnceLent skelfora-listing.Post (λ κ s. now (s .1 .0))
+skelfora-listing-once κ a r r′ s s′ h h′ = (h .0 ∙ sym (h′ .0), h .1 ∙ sym (h′ .1))
 
-pub skelfora-rewrite-once : (file out : List ℕ) → OnceLent (rewriteNumber file (length out)) (rewriteBuffer file out)
-skelfora-rewrite-once file out = one-outcome-lent
+pub skelfora-rewrite-once : OnceLent skelfora-rewrite.Post (λ κ s. now (s .1 .0))
+skelfora-rewrite-once κ a r r′ s s′ h h′ = (h .0 ∙ sym (h′ .0), h .1 ∙ sym (h′ .1))
 
-pub skelfora-replay-once : (file trace : List ℕ) → Once (replayNumber file trace)
-skelfora-replay-once file trace = one-outcome
+pub skelfora-replay-once : Once skelfora-replay.Post
+skelfora-replay-once κ a r r′ s s′ h h′ = h ∙ sym h′
 
-pub skelfora-step-once : (file marking : List ℕ) (activity : ℕ) → OnceLent (numberOf (stepOf file marking activity .answer)) (stepBytes file marking activity)
-skelfora-step-once file marking activity = one-outcome-lent
+pub skelfora-step-once : OnceLent skelfora-step.Post (λ κ s. now (s .1 .0))
+skelfora-step-once κ a r r′ s s′ h h′ = (h .0 ∙ sym (h′ .0), h .1 ∙ sym (h′ .1))
 
 -- ---- promises; of replay_own's five equations the first fixes the result
 
-pub replay-own-once : (log : List ℕ) (k : ℕ) → Once (ownReplay log k)
-replay-own-once log k = one-outcome
+pub replay-own-once : Once replay-own.Post
+replay-own-once κ a r r′ s s′ h h′ = h .0 ∙ sym (h′ .0)
 
-pub replay-none-once : (log : List ℕ) → Once (ending Done 0 (openingOf (minedOf log .graph .events)) true)
-replay-none-once log = one-outcome
+pub replay-none-once : Once replay-none.Post
+replay-none-once κ a r r′ s s′ h h′ = h ∙ sym h′
 
-pub graph-back-once : (g : Graph) (out : List ℕ) → OnceLent (graphBack g (length out)) (fileAfter g out)
-graph-back-once g out = one-outcome-lent
+pub graph-back-once : OnceLent graph-back.Post (λ κ s. now (s .1 .0))
+graph-back-once κ a r r′ s s′ h h′ = (h .0 ∙ sym (h′ .0), h .1 ∙ sym (h′ .1))
 
-pub file-back-once : (file out : List ℕ) → OnceLent (fileBack file (length out)) (fileCopied file out)
-file-back-once file out = one-outcome-lent
+pub file-back-once : OnceLent file-back.Post (λ κ s. now (s .1 .0))
+file-back-once κ a r r′ s s′ h h′ = (h .0 ∙ sym (h′ .0), h .1 ∙ sym (h′ .1))

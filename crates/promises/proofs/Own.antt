@@ -37,7 +37,7 @@ use Rattle.rules.proofs.Demand3.{Through}
 use Rattle.rules.proofs.FromFile.{file-accepted, demand3-file}
 use Rattle.miner.specs.Mine.{minedOf}
 use Rattle.miner.specs.declared.mining.Mined.{Mined}
-use Rattle.promises.specs.Promised.{traceOf, ownReplay}
+use Rattle.promises.specs.Promised.{traceOf, ownReplay, OwnReplayed}
 
 -- ---- what the miner gives
 
@@ -105,19 +105,11 @@ own-through bytes k m r hm l hr =
 
 -- ---- `replay_own`: its statement
 
-abbrev Kept : List ℕ → ℕ → Replayed → Type 0
-Kept log k r =
-    (r ≡ ownReplay log k)
-    × ((r .answer ≡ findingOf log k)
-    × ((r .place .0 ≡ length (traceOf log k))
-    × ((r .marking .pending ≡ noSet)
-    × (r .accepting ≡ isDone (findingOf log k)))))
-
 module _ (log : List ℕ) (k : ℕ) (f : Found) (t : Bool) (hf : f ≡ foundOf log k) (ht : t ≡ isDone (f .answer)) where
   the-answer : f .answer ≡ findingOf log k
   the-answer = ap (λ (x : Found). x .answer) hf ∙ found-answer log k
 
-  pub own-refused : not t ≡ true → Kept log k (ending (f .answer) 0 emptyMarking false)
+  pub own-refused : not t ≡ true → OwnReplayed log k (ending (f .answer) 0 emptyMarking false)
   unfolding ownReplay
   own-refused n =
       let refused : isDone (findingOf log k) ≡ false = ap isDone (sym the-answer) ∙ sym ht ∙ not-true t n in (
@@ -133,7 +125,7 @@ module _ (log : List ℕ) (k : ℕ) (f : Found) (t : Bool) (hf : f ≡ foundOf l
     pub own-within : f .start + f .length ≤ length log
     own-within = found-trace log k f hf found .0
 
-    pub own-done : (m : Mined) (r : Replayed) → m ≡ minedOf log → r ≡ replayOf (m .graph) (take (f .start + f .length - f .start) (drop (f .start) log)) → Kept log k r
+    pub own-done : (m : Mined) (r : Replayed) → m ≡ minedOf log → r ≡ replayOf (m .graph) (take (f .start + f .length - f .start) (drop (f .start) log)) → OwnReplayed log k r
     unfolding ownReplay
     own-done m r hm hr =
         let n : f .start + f .length - f .start ≡ f .length = omega arith in

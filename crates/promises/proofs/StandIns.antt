@@ -1,20 +1,21 @@
--- The stand-ins that 01 names, each shut out by the statement of the function that it stands in for ("How much each statement says"): no
--- function that behaves so gives what the statement says for every input. Log L and its graph G are those of 01. Assumes nothing.
+-- The stand-ins that 01 names, each shut out by the contract of the function that it stands in for ("How much each statement says"): no
+-- function that behaves so keeps the contract for every input. Log L and its graph G are those of 01. The fifth, a listing with invented
+-- counts, is in Counts. Assumes nothing.
 use mathlib.Core.Path.{_≡_, refl, sym, ap, _∙_}
 use mathlib.Core.Bool.{Bool, true, false}
 use mathlib.Core.List.{List, [], _∷_}
 use Prim.Native.Nat.{ℕ, _+_}
 use native.Mathlib.Nat.{add-zero}
-use lib.Dec.{eqb}
-use lib.ListN.{length, getD}
+use lib.ListN.{length}
 use Rattle.sets.specs.Tests.{_and_, _or_, non, when_then_else_}
-use Rattle.sets.specs.Members.{bit, bitsOf, someBelow, everyBelow, isEmpty, within, mem, those}
-use Rattle.sets.specs.Rows.{noRows, rowAt, inRow, listFrom, rowsOf}
+use Rattle.sets.specs.Members.{mem, those, bit, bitsOf, someBelow, everyBelow, isEmpty, within}
+use Rattle.sets.specs.Rows.{rowAt, inRow, listFrom, rowsOf}
 use Rattle.sets.specs.Answers.{isDone}
 use Rattle.sets.specs.declared.answer.Answer.the-variants.{Done, NotIncluded}
 use Rattle.sets.proofs.Tests.{true→T, false→F}
 use Rattle.sets.proofs.Asking.{done-is}
-use Rattle.engine.specs.Relations.{emptyGraph}
+use Rattle.sets.specs.declared.answer.Answer.{Answer}
+use Rattle.engine.specs.Relations.{emptyGraph, relationsOf}
 use Rattle.engine.specs.Steps.{waits, enabled, after, accepting}
 use Rattle.engine.specs.Judged.{markingWithin, rowWithin, rowsWithin, relationsWithin, graphWithin, judgedFor}
 use Rattle.engine.specs.Replay.{steppedOf, ending, replayFrom, replayOf}
@@ -30,10 +31,9 @@ use Rattle.rules.specs.Mining.{noPair, noRelations, smallestSource, _without_, 
 use Rattle.rules.specs.Mined.{graphFrom, minedGraph}
 use Rattle.rules.proofs.Cases.{G}
 use Rattle.miner.specs.Mine.{minedOf}
-use Rattle.report.specs.Listing.{listingOf}
-use Rattle.report.proofs.Examples.{file, conditions-counted}
 use Rattle.miner.specs.declared.mining.Mined.{Mined}
 use Rattle.promises.specs.Demanded.{Refused}
+use Rattle.promises.proofs.Contracts.{mine-gives, mine-said, execute-gives, execute-said, replay-gives, replay-said}
 
 -- ---- what the statement of `mine` says of log L
 
@@ -46,37 +46,40 @@ unfolding tracesL G
     afterFive afterSeven afterEight mined graphFrom minedGraph
 graph-L = refl
 
-pub mine-L : (r : Mined) → r ≡ minedOf logL → r ≡ record { answer = Done; graph = G }
+pub mine-L : (r : Mined) → mine-gives logL r → r ≡ record { answer = Done; graph = G }
 unfolding minedOf
-mine-L r h =
-    h
+mine-L r c =
+    mine-said logL r c
     ∙ ap {B = Mined} (λ (l : Log). record { answer = l .answer; graph = when isDone (l .answer) then minedGraph (l .activities) (l .traces) else emptyGraph }) reads-L
     ∙ ap {B = Mined} (λ (g : Graph). record { answer = Done; graph = g }) graph-L
 
 -- ---- 1. a miner that refuses all
 
-pub refuses-all : (f : List ℕ → Mined) → ((bytes : List ℕ) → Refused (f bytes .answer)) → ((bytes : List ℕ) → f bytes ≡ minedOf bytes) → ⊥
+pub refuses-all : (f : List ℕ → Mined) → ((bytes : List ℕ) → Refused (f bytes .answer)) → ((bytes : List ℕ) → mine-gives bytes (f bytes)) → ⊥
 refuses-all f refuses meets =
     false→F (refuses logL) (true→T (ap (λ (r : Mined). isDone (r .answer)) (mine-L (f logL) (meets logL))))
 
--- ---- 2. a miner that gives a graph without relations
+-- ---- 2. a miner that gives a graph without relations: G has the condition 0 to 1
 
-pub no-relations : (f : List ℕ → Mined)
-    → ((bytes : List ℕ) → (f bytes .graph .conditions ≡ noRows) × (f bytes .graph .responses ≡ noRows) × (f bytes .graph .includes ≡ noRows) × (f bytes .graph .excludes ≡ noRows))
-    → ((bytes : List ℕ) → f bytes ≡ minedOf bytes) → ⊥
-unfolding G listFrom
+waits-in-G : relationsOf G .conditions 0 1 ≡ true
+unfolding G listFrom inRow rowAt bit
+waits-in-G = refl
+
+pub no-relations : (f : List ℕ → Mined) → ((bytes : List ℕ) (s t : ℕ) → relationsOf (f bytes .graph) .conditions s t ≡ false)
+    → ((bytes : List ℕ) → mine-gives bytes (f bytes)) → ⊥
 no-relations f none meets =
-    let first : List ℕ → Bool = λ rows. eqb (getD rows 1 0) 0 in
-    false→F (ap (λ (r : Mined). first (r .graph .conditions)) (mine-L (f logL) (meets logL))) (true→T (ap first (none logL .0)))
+    false→F (none logL 0 1) (true→T (ap (λ (r : Mined). relationsOf (r .graph) .conditions 0 1) (mine-L (f logL) (meets logL)) ∙ waits-in-G))
 
--- ---- 3. an execute that changes nothing: Table 3 of the source paper has a step that is done
+-- ---- 3. an execute that changes nothing: Table 3 of the source paper has a step that is done, of event 4
 
-pub changes-nothing : (f : Graph → Marking → ℕ → Stepped) → ((g : Graph) (m : Marking) (e : ℕ) → f g m e .marking ≡ m)
-    → ((g : Graph) (m : Marking) (e : ℕ) → f g m e ≡ steppedOf g m e) → ⊥
-changes-nothing f same meets =
-    let lacks-4 : Marking → Bool = λ m. eqb (m .executed .bits) 1 in
-    false→F (ap (λ (r : Stepped). lacks-4 (r .marking)) (meets table3 table3-before 4 ∙ examples .0))
-    (true→T (ap lacks-4 (same table3 table3-before 4)))
+table-steps : (mem (table3-before .executed) 4 ≡ false) × (mem (steppedOf table3 table3-before 4 .marking .executed) 4 ≡ true)
+unfolding bit
+table-steps = (refl, ap (λ (r : Stepped). mem (r .marking .executed) 4) (examples .0))
+
+pub changes-nothing : (f : Graph → Marking → ℕ → Answer) → ((g : Graph) (m : Marking) (e : ℕ) → execute-gives g m e (f g m e) m) → ⊥
+changes-nothing f meets =
+    let same = execute-said table3 table3-before 4 _ table3-before (meets table3 table3-before 4) in
+    false→F (table-steps .0) (true→T (ap (λ (r : Stepped). mem (r .marking .executed) 4) same ∙ table-steps .1))
 
 -- ---- 4. a replay that works at the first event and then only moves on: to the end of the trace, with the marking as it is
 
@@ -105,15 +108,10 @@ unfolding G listFrom
     waits enabled after accepting markingWithin rowWithin rowsWithin relationsWithin graphWithin judgedFor replayFrom replayOf
 on-G = (refl, refl)
 
-pub only-moves-on : ((g : Graph) (σ : List ℕ) → movesOn g σ ≡ replayOf g σ) → ⊥
+pub only-moves-on : ((g : Graph) (σ : List ℕ) → replay-gives g σ (movesOn g σ)) → ⊥
 unfolding movesOn onward
 only-moves-on meets =
+    let first : Replayed = replayOf G (0 ∷ []) in
     let still : isDone (movesOn G (0 ∷ 0 ∷ []) .answer) ≡ true =
-    ap (λ (t : Bool). isDone ((when t then ending Done (replayOf G (0 ∷ []) .place .0 + 1) (replayOf G (0 ∷ []) .marking) (replayOf G (0 ∷ []) .accepting) else replayOf G (0 ∷ [])) .answer)) (ap isDone (on-G .0)) in
-    false→F (ap (λ (r : Replayed). isDone (r .answer)) (meets G (0 ∷ 0 ∷ [])) ∙ ap isDone (on-G .1)) (true→T still)
-
--- ---- 5. a listing with invented pair counts
-
--- whatever lists as the definition does prints 2 where L's first line has the number of conditions (report/proofs/Examples.antt)
-pub invents-counts : (f : List ℕ → List ℕ) → ((bytes : List ℕ) → f bytes ≡ listingOf bytes) → getD (f file) 11 0 ≡ 50
-invents-counts f meets = ap (λ (text : List ℕ). getD text 11 0) (meets file) ∙ conditions-counted
+    ap (λ (t : Bool). isDone ((when t then ending Done (first .place .0 + 1) (first .marking) (first .accepting) else first) .answer)) (ap isDone (on-G .0)) in
+    false→F (ap (λ (r : Replayed). isDone (r .answer)) (replay-said G _ _ (meets G (0 ∷ 0 ∷ []))) ∙ ap isDone (on-G .1)) (true→T still)

@@ -1,17 +1,17 @@
 -- What the demands say, where it takes more than a line. The theorems are in proofs/Demands.antt.
 use mathlib.Core.Path.{_≡_}
-use mathlib.Core.Bool.{false}
+use mathlib.Core.Bool.{true, false}
 use mathlib.Core.List.{List}
 use Prim.Native.Nat.{ℕ, _<_}
 use lib.Dec.{eqb}
 use lib.ListN.{length, getD, take}
 use Rattle.sets.specs.Tests.{_and_, _or_, non}
 use Rattle.sets.specs.Members.{width, mem}
-use Rattle.sets.specs.Answers.{isDone}
+use Rattle.sets.specs.Answers.{numberOf, isDone}
 use Rattle.sets.specs.declared.set.Set.{Set}
 use Rattle.sets.specs.declared.answer.Answer.{Answer}
 use Rattle.sets.specs.declared.answer.Answer.the-variants.{Done}
-use Rattle.engine.specs.Markings.{openingOf}
+use Rattle.engine.specs.Markings.{noSet, openingOf}
 use Rattle.engine.specs.Relations.{Relations, relationsOf}
 use Rattle.engine.specs.Steps.{enabled, accepting}
 use Rattle.engine.specs.Replay.{replayFrom}
@@ -67,3 +67,10 @@ module _ (events : Set) (r : Relations) (opening : Marking) (trace : List ℕ) w
     pub at-end : end .place .0 ≡ length trace
     pub in-turn : InTurn
     pub accepting-then : end .accepting ≡ accepting (end .marking)
+
+-- DEMAND 3, a replay that settles: it is done, it got to the trace's length, no step is pending at all, and it is accepting
+pub record Settles (n : ℕ) (end : Replayed) : Type 0 where
+  pub done : numberOf (end .answer) ≡ 0
+  pub whole : end .place .0 ≡ n
+  pub settled : end .marking .pending ≡ noSet
+  pub accepted : end .accepting ≡ true

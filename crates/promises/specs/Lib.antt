@@ -1,2 +1,3 @@
 pub mod Promised
 pub mod Demanded
+pub mod Counted

@@ -1,4 +1,5 @@
 -- What the functions of src/ give: promises that join several functions of the project.
+use mathlib.Core.Path.{_≡_}
 use mathlib.Core.Bool.{false}
 use mathlib.Core.List.{List, [], _++_}
 use Prim.Native.Nat.{ℕ}
@@ -8,7 +9,7 @@ use Rattle.sets.specs.Tests.{when_then_else_}
 use Rattle.sets.specs.Answers.{isDone, thenAsk}
 use Rattle.sets.specs.declared.answer.Answer.{Answer}
 use Rattle.sets.specs.declared.answer.Answer.the-variants.{Done, BufferTooSmall}
-use Rattle.engine.specs.Markings.{emptyMarking}
+use Rattle.engine.specs.Markings.{noSet, emptyMarking}
 use Rattle.engine.specs.Relations.{emptyGraph}
 use Rattle.engine.specs.Replay.{ending, replayOf}
 use Rattle.engine.specs.declared.graph.Graph.{Graph}
@@ -29,6 +30,16 @@ unfoldable pub ownReplay : List ℕ → ℕ → Replayed
 ownReplay log k =
     when isDone (findingOf log k) then replayOf (minedOf log .graph) (traceOf log k)
     else ending (findingOf log k) 0 emptyMarking false
+
+-- what `replay_own` says of its result: the whole of it, and in plain words what follows. It is refused only where the log is, or where it has
+-- no trace k; it gets to the trace's length; nothing is left pending; and it is accepting unless refused
+abbrev pub OwnReplayed : List ℕ → ℕ → Replayed → Type 0
+OwnReplayed log k r =
+    (r ≡ ownReplay log k)
+    × ((r .answer ≡ findingOf log k)
+    × ((r .place .0 ≡ length (traceOf log k))
+    × ((r .marking .pending ≡ noSet)
+    × (r .accepting ≡ isDone (findingOf log k)))))
 
 -- a graph that was written into so many bytes and read again: the graph itself, or the refusals of the write
 unfoldable pub graphBack : Graph → ℕ → Reading

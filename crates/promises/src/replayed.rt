@@ -1,15 +1,11 @@
 // Demand 3 on the code: a log is mined, and its own traces are replayed on the graph.
 ghost use mathlib.Core.Path.{_≡_};
 ghost use mathlib.Core.Bool.{true};
-ghost use lib.ListN.{length};
-ghost use Rattle.sets.specs.Answers.{isDone};
 ghost use Rattle.sets.specs.declared.answer.Answer.the-variants.{Done};
 ghost use Rattle.engine.specs.Markings.{openingOf};
-ghost use Rattle.sets.specs.Members.{noSet};
 ghost use Rattle.engine.specs.Replay.{ending};
-ghost use Rattle.calllog.specs.Logs.{findingOf};
 ghost use Rattle.miner.specs.Mine.{minedOf};
-ghost use Rattle.promises.specs.Promised.{traceOf, ownReplay};
+ghost use Rattle.promises.specs.Promised.{OwnReplayed};
 use calllog::trace::find_trace;
 use engine::Marking;
 use engine::Replayed;
@@ -20,11 +16,7 @@ use sets::Place;
 // Trace k of a log, replayed on the graph that is mined of that log. It is refused only where the log is, or where it has no trace k: no
 // event of its own is ever refused, the replay gets to the trace's length, no step is left pending, and the marking is accepting.
 pub fn replay_own(log: &[u8], k: usize) -> Replayed
-    ensures { λ r. ⌜ r ≡ ownReplay (now (log .entry)) k ⌝ }
-    ensures { λ r. ⌜ r .answer ≡ findingOf (now (log .entry)) k ⌝ }
-    ensures { λ r. ⌜ r .place .0 ≡ length (traceOf (now (log .entry)) k) ⌝ }
-    ensures { λ r. ⌜ r .marking .pending ≡ noSet ⌝ }
-    ensures { λ r. ⌜ r .accepting ≡ isDone (findingOf (now (log .entry)) k) ⌝ }
+    ensures { λ r. ⌜ OwnReplayed (now (log .entry)) k r ⌝ }
 {
     let mined = mine(log);
     let graph = mined.graph;

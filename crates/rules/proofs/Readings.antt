@@ -1,5 +1,5 @@
 -- Where the words of 01 allow more than one reading: logs on which the readings differ, and the pairs that the chosen reading gives. Those
--- of steps 3 to 5 are told apart only before step 6. One table, computed by antt.
+-- of steps 3 to 5 are told apart only before step 6, so they have a table and a theorem of their own. Both are computed by antt.
 use mathlib.Core.Path.{_≡_, refl}
 use mathlib.Core.List.{List, [], _∷_, map}
 use Prim.Native.Nat.{ℕ}
@@ -23,8 +23,9 @@ conditionsOf A L = pairs A (mined L .conditions)
 abbrev excludesBeforeSix : ℕ → Traces → List Pair
 excludesBeforeSix A L = pairs A (afterFive L .excludes)
 
-pub readings : List Claim
-readings =
+-- steps 3 to 5
+pub readingsBeforeSix : List Claim
+readingsBeforeSix =
     -- step 4: the smallest source is taken among the step's own pairs; 0 excludes 0 already, and 1 excludes 0 all the same
     excludesBeforeSix 2 ((0 ∷ []) ∷ (1 ∷ []) ∷ []) are (0 to 0 ∷ 0 to 1 ∷ 1 to 0 ∷ 1 to 1 ∷ [])
     -- each target keeps one source: of 1 and 2 for 0, of 0 and 2 for 1, of 0 and 1 for 2
@@ -35,8 +36,20 @@ readings =
     ∷ excludesBeforeSix 3 ((0 ∷ []) ∷ (1 ∷ 1 ∷ 2 ∷ []) ∷ []) are (0 to 0 ∷ 0 to 1 ∷ 0 to 2 ∷ 1 to 0 ∷ 2 to 1 ∷ 2 to 2 ∷ [])
     -- step 5: what excludes itself by step 3, here 2, is left out as well
     ∷ excludesBeforeSix 5 ((1 ∷ 2 ∷ 1 ∷ 2 ∷ 4 ∷ []) ∷ (4 ∷ []) ∷ []) are (2 to 2 ∷ 4 to 1 ∷ 4 to 4 ∷ [])
+    ∷ []
+
+-- THE THEOREM of steps 3 to 5
+pub as-read-before-six : map found readingsBeforeSix ≡ map meant readingsBeforeSix
+unfolding readingsBeforeSix _and_ _or_ non someBelow listFrom _has_ _beginsWith_ atEachFrom atSomeFrom everyTrace someTrace
+    noPair noRelations smallestSource event someEvent _with_ atMostOnce precedes answers chained together before
+    step1 step2 directlyBefore step3 neverTogether step4 closes step5 afterFive
+as-read-before-six = refl
+
+-- the later steps
+pub readings : List Claim
+readings =
     -- step 6: what stands between may be the source itself (0 to 2) or the target (2 to 2), and the target is any later one (3 to 2)
-    ∷ includesOf 3 ((0 ∷ 0 ∷ 1 ∷ 2 ∷ []) ∷ []) are (0 to 1 ∷ 0 to 2 ∷ 1 to 2 ∷ [])
+    includesOf 3 ((0 ∷ 0 ∷ 1 ∷ 2 ∷ []) ∷ []) are (0 to 1 ∷ 0 to 2 ∷ 1 to 2 ∷ [])
     ∷ includesOf 3 ((0 ∷ 1 ∷ 2 ∷ 2 ∷ []) ∷ []) are (0 to 1 ∷ 1 to 2 ∷ 2 to 2 ∷ [])
     ∷ includesOf 4 ((0 ∷ 1 ∷ 2 ∷ 3 ∷ 2 ∷ []) ∷ (2 ∷ 2 ∷ []) ∷ []) are (0 to 1 ∷ 1 to 2 ∷ 1 to 3 ∷ 2 to 2 ∷ 2 to 3 ∷ 3 to 2 ∷ [])
     -- step 7: what excludes the target may be the target itself: 0 to 1 goes
@@ -53,7 +66,7 @@ readings =
     ∷ conditionsOf 3 ((1 ∷ 0 ∷ 2 ∷ []) ∷ []) are (0 to 2 ∷ 1 to 0 ∷ [])
     ∷ []
 
--- THE THEOREM
+-- THE THEOREM of the later steps
 pub as-read : map found readings ≡ map meant readings
 unfolding readings _and_ _or_ non someBelow listFrom _has_ _beginsWith_ atEachFrom atSomeFrom everyTrace someTrace
     noPair noRelations smallestSource _without_ event someEvent _with_ atMostOnce precedes answers chained together before followed between alternates beforeFirst

@@ -1,0 +1,204 @@
+-- What the public functions may give, by their own contracts: the one place where the demands meet the code. `X-gives` says that some call of X, on
+-- memory that holds what is named, keeps the contract of X with this result (and leaves this). `X-said` is what the contract then says. The
+-- promises start from `X-gives`, so they fail where a contract says less. Assumes nothing.
+use mathlib.Core.Path.{_≡_, sym, ap, subst, _∙_}
+use mathlib.Core.Bool.{true}
+use mathlib.Core.List.{List}
+use Prim.Native.Nat.{ℕ}
+use denote.Ref.{RefT, now}
+use lib.ListN.{length}
+use Rattle.sets.specs.Answers.{numberOf}
+use Rattle.sets.specs.declared.answer.Answer.{Answer}
+use Rattle.sets.specs.declared.answer.Answer.the-variants.{Done}
+use Rattle.engine.specs.Markings.{openingOf}
+use Rattle.engine.specs.Replay.{enabledOf, steppedOf, acceptingOf, ending, replayOf}
+use Rattle.engine.specs.declared.marking.Marking.{Marking}
+use Rattle.engine.specs.declared.graph.Graph.{Graph}
+use Rattle.engine.specs.declared.step.Stepped.{Stepped}
+use Rattle.engine.specs.declared.step.Verdict.{Verdict}
+use Rattle.engine.specs.declared.replay.Replayed.{Replayed}
+use Rattle.calllog.specs.Logs.{judgedOf, foundOf, askedOf}
+use Rattle.calllog.specs.declared.judge.Judged.{Judged}
+use Rattle.calllog.specs.declared.trace.Found.{Found}
+use Rattle.calllog.specs.declared.trace.Asked.{Asked}
+use Rattle.graphfile.specs.Held.{readOf}
+use Rattle.graphfile.specs.Writing.{writtenOf, fileAfter}
+use Rattle.graphfile.specs.declared.reader.Reading.{Reading}
+use Rattle.graphfile.specs.declared.writer.Written.{Written}
+use Rattle.miner.specs.Mine.{minedOf}
+use Rattle.miner.specs.declared.mining.Mined.{Mined}
+use Rattle.report.specs.Listing.{listedOf, listingAfter}
+use Rattle.report.specs.declared.writer.Listed.{Listed}
+use Rattle.sets.proofs.answer.Answer.number.Reads as number
+use Rattle.engine.proofs.step.enabled.Reads as enabled
+use Rattle.engine.proofs.step.step.Reads as step
+use Rattle.engine.proofs.step.accepting.Reads as accepting
+use Rattle.engine.proofs.replay.replay.Reads as replay
+use Rattle.calllog.proofs.judge.judge_log.Reads as judge-log
+use Rattle.calllog.proofs.trace.find_trace.Reads as find-trace
+use Rattle.calllog.proofs.trace.ask.Reads as ask
+use Rattle.graphfile.proofs.reader.read.Reads as read
+use Rattle.graphfile.proofs.writer.write.Reads as write
+use Rattle.miner.proofs.mining.mine.Reads as mine
+use Rattle.report.proofs.writer.write_listing.Reads as write-listing
+use Rattle.promises.specs.Promised.{OwnReplayed, graphBack, fileBack, fileCopied}
+use Rattle.promises.proofs.replayed.replay_own.Reads as replay-own
+use Rattle.promises.proofs.replayed.replay_none.Reads as replay-none
+use Rattle.promises.proofs.returned.graph_back.Reads as graph-back
+use Rattle.promises.proofs.returned.file_back.Reads as file-back
+use Rattle.promises.proofs.Walked.{execute-Post}
+
+module _ {K : Type 0} {A : K → Type 0} {R : K → Type 0} {E : K → Type 0} (Post : (κ : K) → A κ → R κ → E κ → Type 0) where
+  -- some call with these arguments keeps the contract and gives r
+  abbrev Gives : ((κ : K) → A κ) → ((κ : K) → R κ) → Type 0
+  Gives a r = (κ : K) × (s : E κ) × Post κ (a κ) (r κ) s
+
+  -- and leaves x in what was lent
+  abbrev Leaves : {X : Type 0} → ((κ : K) → E κ → X) → ((κ : K) → A κ) → ((κ : K) → R κ) → X → Type 0
+  Leaves left a r x = (κ : K) × (s : E κ) × (left κ s ≡ x) × Post κ (a κ) (r κ) s
+
+-- memory that holds x
+abbrev Holding : {X : Type 0} → X → (RefT X → Type 0) → Type 0
+Holding {X} x P = (m : RefT X) × (now m ≡ x) × P m
+
+-- ---- answers
+
+abbrev pub number-gives : Answer → ℕ → Type 0
+number-gives a n = Gives number.Post (λ κ. (a, tt)) (λ κ. n)
+
+pub number-said : (a : Answer) (n : ℕ) → number-gives a n → n ≡ numberOf a
+number-said a n c = c .2
+
+-- ---- logs
+
+module _ (bytes : List ℕ) where
+  abbrev pub judge-log-gives : Judged → Type 0
+  judge-log-gives r = Holding bytes (λ log. Gives judge-log.Post (λ κ. (log, tt)) (λ κ. r))
+
+  pub judge-log-said : (r : Judged) → judge-log-gives r → r ≡ judgedOf bytes
+  judge-log-said r c = c .2 .2 ∙ ap judgedOf (c .1)
+
+  abbrev pub mine-gives : Mined → Type 0
+  mine-gives r = Holding bytes (λ log. Gives mine.Post (λ κ. (log, tt)) (λ κ. r))
+
+  pub mine-said : (r : Mined) → mine-gives r → r ≡ minedOf bytes
+  mine-said r c = c .2 .2 ∙ ap minedOf (c .1)
+
+  module _ (k : ℕ) where
+    abbrev pub find-trace-gives : Found → Type 0
+    find-trace-gives r = Holding bytes (λ log. Gives find-trace.Post (λ κ. (log, (k, tt))) (λ κ. r))
+
+    pub find-trace-said : (r : Found) → find-trace-gives r → r ≡ foundOf bytes k
+    find-trace-said r c = c .2 .2 ∙ ap (λ (b : List ℕ). foundOf b k) (c .1)
+
+    -- asked by a reader that remembers `next`
+    abbrev pub ask-gives : ℕ → Asked → Type 0
+    ask-gives next r = Holding bytes (λ log. Gives ask.Post (λ κ. (log, (next, (k, tt)))) (λ κ. r))
+
+    pub ask-said : (next : ℕ) (r : Asked) → ask-gives next r → r ≡ askedOf bytes next k
+    ask-said next r c = c .2 .2 ∙ ap (λ (b : List ℕ). askedOf b next k) (c .1)
+
+  -- trace k, and the empty trace, replayed on the graph that is mined of these bytes
+  abbrev pub replay-own-gives : ℕ → Replayed → Type 0
+  replay-own-gives k r = Holding bytes (λ log. Gives replay-own.Post (λ κ. (log, (k, tt))) (λ κ. r))
+
+  pub replay-own-said : (k : ℕ) (r : Replayed) → replay-own-gives k r → OwnReplayed bytes k r
+  replay-own-said k r c = subst (λ (b : List ℕ). OwnReplayed b k r) (c .1) (c .2 .2)
+
+  abbrev pub replay-none-gives : Replayed → Type 0
+  replay-none-gives r = Holding bytes (λ log. Gives replay-none.Post (λ κ. (log, tt)) (λ κ. r))
+
+  pub replay-none-said : (r : Replayed) → replay-none-gives r → r ≡ ending Done 0 (openingOf (minedOf bytes .graph .events)) true
+  replay-none-said r c = c .2 .2 ∙ ap (λ (b : List ℕ). ending Done 0 (openingOf (minedOf b .graph .events)) true) (c .1)
+
+  -- the listing, into a buffer
+  abbrev pub write-listing-gives : List ℕ → Listed → List ℕ → Type 0
+  write-listing-gives before r after =
+      Holding bytes (λ log. Holding before (λ out. Leaves write-listing.Post (λ κ s. now (s .1 .0)) (λ κ. (log, (out, tt))) (λ κ. r) after))
+
+  pub write-listing-said : (before : List ℕ) (r : Listed) (after : List ℕ) → write-listing-gives before r after
+      → (r ≡ listedOf bytes (length before)) × (after ≡ listingAfter bytes before)
+  write-listing-said before r after c =
+      let d = c .2 .2 in (
+        d .3 .0 ∙ (λ i. listedOf (c .1 i) (length (c .2 .1 i))),
+        sym (d .2) ∙ d .3 .1 ∙ (λ i. listingAfter (c .1 i) (c .2 .1 i)),
+      )
+
+-- ---- graphs and markings
+
+module _ (g : Graph) where
+  module _ (m : Marking) where
+    abbrev pub enabled-gives : ℕ → Answer → Type 0
+    enabled-gives e a = Gives enabled.Post (λ κ. (g, (m, (record { 0 = e }, tt)))) (λ κ. a)
+
+    pub enabled-said : (e : ℕ) (a : Answer) → enabled-gives e a → a ≡ enabledOf g m e
+    enabled-said e a c = c .2
+
+    abbrev pub step-gives : ℕ → Stepped → Type 0
+    step-gives e r = Gives step.Post (λ κ. (g, (m, (record { 0 = e }, tt)))) (λ κ. r)
+
+    pub step-said : (e : ℕ) (r : Stepped) → step-gives e r → r ≡ steppedOf g m e
+    step-said e r c = c .2
+
+    -- the marking is lent, and is n afterwards
+    abbrev pub execute-gives : ℕ → Answer → Marking → Type 0
+    execute-gives e a n = Holding m (λ lent. Leaves execute-Post (λ κ s. now (s .1 .0)) (λ κ. (g, (lent, (record { 0 = e }, tt)))) (λ κ. a) n)
+
+    pub execute-said : (e : ℕ) (a : Answer) (n : Marking) → execute-gives e a n → _≡_ {A = Stepped} (record { answer = a; marking = n }) (steppedOf g m e)
+    execute-said e a n c =
+        let d = c .2 in
+        (λ i. record { answer = d .3 .0 i; marking = (sym (d .2) ∙ d .3 .1) i }) ∙ ap (λ (x : Marking). steppedOf g x e) (c .1)
+
+    abbrev pub accepting-gives : Verdict → Type 0
+    accepting-gives r = Gives accepting.Post (λ κ. (g, (m, tt))) (λ κ. r)
+
+    pub accepting-said : (r : Verdict) → accepting-gives r → r ≡ acceptingOf g m
+    accepting-said r c = c .2
+
+  abbrev pub replay-gives : List ℕ → Replayed → Type 0
+  replay-gives σ r = Holding σ (λ trace. Gives replay.Post (λ κ. (g, (trace, tt))) (λ κ. r))
+
+  pub replay-said : (σ : List ℕ) (r : Replayed) → replay-gives σ r → r ≡ replayOf g σ
+  replay-said σ r c = c .2 .2 ∙ ap (replayOf g) (c .1)
+
+  -- into a buffer
+  abbrev pub write-gives : List ℕ → Written → List ℕ → Type 0
+  write-gives before w after = Holding before (λ out. Leaves write.Post (λ κ s. now (s .1 .0)) (λ κ. (g, (out, tt))) (λ κ. w) after)
+
+  pub write-said : (before : List ℕ) (w : Written) (after : List ℕ) → write-gives before w after
+      → (w ≡ writtenOf g (length before)) × (after ≡ fileAfter g before)
+  write-said before w after c =
+      let d = c .2 in
+      (d .3 .0 ∙ ap (λ (b : List ℕ). writtenOf g (length b)) (c .1), sym (d .2) ∙ d .3 .1 ∙ ap (fileAfter g) (c .1))
+
+  -- written and read again
+  abbrev pub graph-back-gives : List ℕ → Reading → List ℕ → Type 0
+  graph-back-gives before r after = Holding before (λ out. Leaves graph-back.Post (λ κ s. now (s .1 .0)) (λ κ. (g, (out, tt))) (λ κ. r) after)
+
+  pub graph-back-said : (before : List ℕ) (r : Reading) (after : List ℕ) → graph-back-gives before r after
+      → (r ≡ graphBack g (length before)) × (after ≡ fileAfter g before)
+  graph-back-said before r after c =
+      let d = c .2 in
+      (d .3 .0 ∙ ap (λ (b : List ℕ). graphBack g (length b)) (c .1), sym (d .2) ∙ d .3 .1 ∙ ap (fileAfter g) (c .1))
+
+-- ---- graph files
+
+module _ (file : List ℕ) where
+  abbrev pub read-gives : Reading → Type 0
+  read-gives r = Holding file (λ bytes. Gives read.Post (λ κ. (bytes, tt)) (λ κ. r))
+
+  pub read-said : (r : Reading) → read-gives r → r ≡ readOf file
+  read-said r c = c .2 .2 ∙ ap readOf (c .1)
+
+  -- read and written again
+  abbrev pub file-back-gives : List ℕ → Written → List ℕ → Type 0
+  file-back-gives before w after =
+      Holding file (λ bytes. Holding before (λ out. Leaves file-back.Post (λ κ s. now (s .1 .0)) (λ κ. (bytes, (out, tt))) (λ κ. w) after))
+
+  pub file-back-said : (before : List ℕ) (w : Written) (after : List ℕ) → file-back-gives before w after
+      → (w ≡ fileBack file (length before)) × (after ≡ fileCopied file before)
+  file-back-said before w after c =
+      let d = c .2 .2 in (
+        d .3 .0 ∙ (λ i. fileBack (c .1 i) (length (c .2 .1 i))),
+        sym (d .2) ∙ d .3 .1 ∙ (λ i. fileCopied (c .1 i) (c .2 .1 i)),
+      )
