@@ -143,10 +143,10 @@ module _ (log : List ℕ) (k : ℕ) (f : Found) (t : Bool) (hf : f ≡ foundOf l
 -- ---- `replay_none`: the empty trace
 
 abbrev Opens : Graph → Type 0
-Opens g = replayOf g [] ≡ ending Done 0 (openingOf (g .events)) true
+Opens g = replayOf g [] ≡ ending Done 0 (openingOf (g .head .events)) true
 
 -- a graph that is taken, with its opening marking accepting
-opens : (g : Graph) → judged g ≡ Done → g .opening ≡ openingOf (g .events) → accepting (g .opening) ≡ true → Opens g
+opens : (g : Graph) → judged g ≡ Done → g .head .opening ≡ openingOf (g .head .events) → accepting (g .head .opening) ≡ true → Opens g
 unfolding replayFrom
 opens g ok o a = replay-judged g ok [] (omega arith) ∙ (λ i. ending Done 0 (o i) (a i))
 
@@ -162,7 +162,7 @@ unfolding accepting someBelow bit mem those _and_ _or_ non
 empty-opens = opens emptyGraph empty-judged refl refl
 
 pub none-through : (log : List ℕ) (m : Mined) (r : Replayed) → m ≡ minedOf log → r ≡ replayOf (m .graph) []
-    → r ≡ ending Done 0 (openingOf (minedOf log .graph .events)) true
+    → r ≡ ending Done 0 (openingOf (minedOf log .graph .head .events)) true
 none-through log m r hm hr =
     hr
     ∙ ap (λ (x : Mined). replayOf (x .graph) []) hm
