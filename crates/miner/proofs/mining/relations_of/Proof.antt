@@ -7,8 +7,12 @@ pub relations-of-spec : {M : Type 1} → statement M
 relations-of-spec =
     tie.close
     (tie.spec
+    (λ c. search needs)
     (λ c κs. search needs)
+    (λ c. search needs)
     (λ c κs. search needs)
+    (λ c. search needs)
     (λ c κs. search needs)
+    (λ c. search needs)
     (λ c κs. search needs)
     (λ c. search (tables-by, needs)))
