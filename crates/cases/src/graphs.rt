@@ -51,8 +51,8 @@ pub fn rewrite(file: &[u8]) {
     let answer = r.answer;
     let g = r.graph;
     text::answer(b": ", answer);
-    text::number(b" A ", g.activities as u64);
-    text::members(b" events", g.events);
+    text::number(b" A ", g.head.activities as u64);
+    text::members(b" events", g.head.events);
     if answer.is_done() {
         say_written(g, file);
     }
@@ -65,8 +65,8 @@ pub fn mine<'a>(log: &'a [u8], file: &'a [u8]) {
     let answer = m.answer;
     let g = m.graph;
     text::answer(b": ", answer);
-    text::number(b" A ", g.activities as u64);
-    text::members(b" events", g.events);
+    text::number(b" A ", g.head.activities as u64);
+    text::members(b" events", g.head.events);
     if answer.is_done() {
         say_written(g, file);
     }

@@ -5,11 +5,12 @@ use mathlib.Core.Bool.{Bool, true, false}
 use mathlib.Core.List.{List}
 use Prim.Native.Nat.{ℕ, _≤_, _<_}
 use borrow.Author.Tests.{ltb-false, lt-ltb, le-ltb}
-use lib.Dec.{T, ltb, eqb→eq}
+use lib.Dec.{T, ltb, eqb→eq, lit≤}
 use lib.ListN.{length}
 use Rattle.sets.specs.Tests.{non, when_then_else_}
 use Rattle.sets.specs.Members.{width, mem, those, within}
 use Rattle.sets.specs.Rows.{rowAt, inRow}
+use Rattle.sets.specs.Tables.{tableAt}
 use Rattle.sets.specs.Answers.{isDone}
 use Rattle.sets.specs.declared.set.Set.{Set}
 use Rattle.sets.specs.declared.answer.Answer.the-variants.{Done, AboveLimit, Outside}
@@ -19,7 +20,7 @@ use Rattle.sets.proofs.Members.{those-e, within-e, within-i}
 use Rattle.sets.proofs.Below.{every-e}
 use Rattle.engine.specs.declared.marking.Marking.{Marking}
 use Rattle.engine.specs.declared.graph.Graph.{Graph}
-use Rattle.engine.specs.Relations.{relationsOf}
+use Rattle.engine.specs.Relations.{relationCount, relationsOf}
 use Rattle.engine.specs.Steps.{enabled, after}
 use Rattle.engine.specs.Judged.{markingWithin, rowWithin, rowsWithin, relationsWithin, graphWithin, judgedFor, judged, judgedWith}
 use Rattle.sets.specs.Sizes.{mostActivities, longestTrace}
@@ -30,15 +31,15 @@ use Rattle.engine.specs.Markings.{emptyMarking}
 
 module _ (g : Graph) (n : ℕ) (h : judgedFor g n ≡ Done) where
   -- the three tests of a judgement, none of which refused
-  tests : (ltb mostActivities (g .activities) ≡ false) × (ltb longestTrace n ≡ false) × (non (graphWithin g) ≡ false)
+  tests : (ltb mostActivities (g .head .activities) ≡ false) × (ltb longestTrace n ≡ false) × (non (graphWithin g) ≡ false)
   unfolding judgedFor
   tests =
       let a = went _ _ _ refl h in
       let b = went _ _ _ refl (a .1) in
       (a .0, b .0, went _ _ _ refl (b .1) .0)
 
-  pub judged-activities : g .activities ≤ mostActivities
-  judged-activities = ltb-false mostActivities (g .activities) (tests .0)
+  pub judged-activities : g .head .activities ≤ mostActivities
+  judged-activities = ltb-false mostActivities (g .head .activities) (tests .0)
 
   pub judged-length : n ≤ longestTrace
   judged-length = ltb-false longestTrace n (tests .1)
@@ -59,22 +60,27 @@ module _ (g : Graph) (h : judged g ≡ Done) where
       else when t .2 j then Outside
       else Done)
 
-  pub judged-with : (m : Marking) → T (markingWithin (g .events) m) → judgedWith g m ≡ Done
+  pub judged-with : (m : Marking) → T (markingWithin (g .head .events) m) → judgedWith g m ≡ Done
   unfolding judgedWith
-  judged-with m w = λ j. when isDone (h j) then when T→true (markingWithin (g .events) m) w j then Done else Outside else h j
+  judged-with m w = λ j. when isDone (h j) then when T→true (markingWithin (g .head .events) m) w j then Done else Outside else h j
 
-  pub enabled-judged : (m : Marking) → T (markingWithin (g .events) m) → (e : ℕ) → enabledOf g m e ≡ enabled (g .events) (relationsOf g) m e
+  pub enabled-judged : (m : Marking) → T (markingWithin (g .head .events) m) → (e : ℕ)
+      → enabledOf g m e ≡ enabled (g .head .events) (relationsOf g) m e
   unfolding enabledOf
   enabled-judged m w e = rw (judged-with m w)
 
-  pub stepped-judged : (m : Marking) → T (markingWithin (g .events) m) → (e : ℕ)
-      → steppedOf g m e ≡ record { answer = enabled (g .events) (relationsOf g) m e; marking = when isDone (enabled (g .events) (relationsOf g) m e) then after (relationsOf g) m e else m }
+  pub stepped-judged : (m : Marking) → T (markingWithin (g .head .events) m) → (e : ℕ)
+      → steppedOf g m e ≡ record {
+        answer = enabled (g .head .events) (relationsOf g) m e;
+        marking = when isDone
+            (enabled (g .head .events) (relationsOf g) m e) then after (relationsOf g) m e else m;
+      }
   unfolding steppedOf
   stepped-judged m w e j =
       record { answer = enabled-judged m w e j; marking = when isDone (enabled-judged m w e j) then after (relationsOf g) m e else m }
 
   pub replay-judged : (trace : List ℕ) → length trace ≤ longestTrace
-      → replayOf g trace ≡ replayFrom (g .events) (relationsOf g) (g .opening) 0 trace
+      → replayOf g trace ≡ replayFrom (g .head .events) (relationsOf g) (g .head .opening) 0 trace
   unfolding replayOf
   replay-judged trace l = rw (judged-for (length trace) l)
 
@@ -86,7 +92,7 @@ either-way false = refl
 
 judged-long : (g : Graph) (n : ℕ) → longestTrace < n → judgedFor g n ≡ AboveLimit
 unfolding judgedFor
-judged-long g n l = rw (lt-ltb longestTrace n l) (either-way (ltb mostActivities (g .activities)))
+judged-long g n l = rw (lt-ltb longestTrace n l) (either-way (ltb mostActivities (g .head .activities)))
 
 pub replay-long : (g : Graph) (trace : List ℕ) → longestTrace < length trace → replayOf g trace ≡ ending AboveLimit 0 emptyMarking false
 unfolding replayOf
@@ -109,38 +115,40 @@ module _ (events : Set) (rows : List ℕ) (w : T (rowsWithin events rows)) (a : 
   in-inside b k t = within-e (rowAt rows a) events row-inside b k t
 
 module _ (events : Set) (m : Marking) where
-  pub marking-parts : T (markingWithin events m) → T (within (m .executed) events) × T (within (m .pending) events) × T (within (m .included) events)
+  pub marking-parts : T (markingWithin events m)
+      → T (within (m .executed) events) × T (within (m .pending) events) × T (within (m .included) events)
   unfolding markingWithin
   marking-parts w = (and-l _ _ (and-l _ _ w), and-r _ _ (and-l _ _ w), and-r _ _ w)
 
-  pub marking-whole : T (within (m .executed) events) → T (within (m .pending) events) → T (within (m .included) events) → T (markingWithin events m)
+  pub marking-whole : T (within (m .executed) events) → T (within (m .pending) events) → T (within (m .included) events)
+      → T (markingWithin events m)
   unfolding markingWithin
   marking-whole x p i = and-i _ _ (and-i _ _ x p) i
 
 module _ (g : Graph) (w : T (graphWithin g)) where
-  pub events-inside : T (within (g .events) (those (λ a. ltb a (g .activities))))
+  pub events-inside : T (within (g .head .events) (those (λ a. ltb a (g .head .activities))))
   unfolding graphWithin
   events-inside = and-l _ _ (and-l _ _ w)
 
-  pub opening-inside : T (markingWithin (g .events) (g .opening))
+  pub opening-inside : T (markingWithin (g .head .events) (g .head .opening))
   unfolding graphWithin
   opening-inside = and-r _ _ (and-l _ _ w)
 
-  pub rows-inside : T (rowsWithin (g .events) (g .conditions)) × T (rowsWithin (g .events) (g .responses)) × T (rowsWithin (g .events) (g .includes)) × T (rowsWithin (g .events) (g .excludes))
+  pub rows-inside : (k : ℕ) → k < relationCount → T (rowsWithin (g .head .events) (tableAt (g .relations) k))
   unfolding graphWithin relationsWithin
-  rows-inside =
-      let r = and-r _ _ w in
-      let s = and-l _ _ r in
-      let t = and-l _ _ s in
-      (and-l _ _ t, and-r _ _ t, and-r _ _ s, and-r _ _ r)
+  rows-inside k l = every-e relationCount (λ j. rowsWithin (g .head .events) (tableAt (g .relations) j)) (and-r _ _ w) k l
 
   -- the step of an event keeps the marking within the events
-  pub after-inside : (m : Marking) (e : ℕ) → e < width → T (mem (g .events) e) → T (markingWithin (g .events) m) → T (markingWithin (g .events) (after (relationsOf g) m e))
+  pub after-inside : (m : Marking) (e : ℕ) → e < width → T (mem (g .head .events) e) → T (markingWithin (g .head .events) m)
+      → T (markingWithin (g .head .events) (after (relationsOf g) m e))
   unfolding after
   after-inside m e l ev k =
-      let p = marking-parts (g .events) m k in
-      let E = g .events in
+      let p = marking-parts (g .head .events) m k in
+      let E = g .head .events in
       marking-whole E (after (relationsOf g) m e)
-      (within-i _ E (λ a la t. either (or-e _ _ (those-e _ a t .1)) (λ x. within-e _ E (p .0) a la x) (λ x. subst (λ (b : ℕ). T (mem E b)) (sym (eqb→eq a e x)) ev)))
-      (within-i _ E (λ a la t. either (or-e _ _ (those-e _ a t .1)) (λ x. within-e _ E (p .1) a la (and-l _ _ x)) (λ x. in-inside E (g .responses) (rows-inside .1) e l a la x)))
-      (within-i _ E (λ a la t. either (or-e _ _ (those-e _ a t .1)) (λ x. within-e _ E (p .2) a la (and-l _ _ x)) (λ x. in-inside E (g .includes) (rows-inside .2) e l a la x)))
+      (within-i _ E (λ a la t. either (or-e _ _ (those-e _ a t .1)) (λ x. within-e _ E (p .0) a la x)
+      (λ x. subst (λ (b : ℕ). T (mem E b)) (sym (eqb→eq a e x)) ev)))
+      (within-i _ E (λ a la t. either (or-e _ _ (those-e _ a t .1)) (λ x. within-e _ E (p .1) a la (and-l _ _ x))
+      (λ x. in-inside E (tableAt (g .relations) 1) (rows-inside 1 (lit≤ tt)) e l a la x)))
+      (within-i _ E (λ a la t. either (or-e _ _ (those-e _ a t .1)) (λ x. within-e _ E (p .2) a la (and-l _ _ x))
+      (λ x. in-inside E (tableAt (g .relations) 2) (rows-inside 2 (lit≤ tt)) e l a la x)))

@@ -1,41 +1,23 @@
--- The rows of a relation, judged one after the other. Assumes nothing.
-use mathlib.Core.Path.{_≡_, sym, ap, _∙_}
-use mathlib.Core.Bool.{Bool, true, false, not}
+-- A graph judged part by part. Assumes nothing.
+use mathlib.Core.Path.{_≡_, ap, _∙_}
+use mathlib.Core.Bool.{Bool, not, true, false}
 use mathlib.Core.List.{List}
-use Prim.Native.Nat.{ℕ, _+_, _≤_, _<_}
-use native.Mathlib.Omega.{arith}
-use borrow.Author.Count.{below-more}
-use lib.Dec.{T}
-use Rattle.sets.specs.Members.{width, those, within}
+use Prim.Native.Nat.{ℕ}
+use Rattle.sets.specs.Members.{those, within}
 use Rattle.sets.specs.Rows.{rowAt}
 use Rattle.sets.specs.declared.set.Set.{Set}
-use Rattle.sets.proofs.Tests.{T→true, true→T, F→false, false→F}
-use Rattle.sets.proofs.Below.{every-i, every-e}
 use Rattle.sets.specs.Answers.{isDone, thenAsk}
 use Rattle.sets.specs.declared.answer.Answer.{Answer}
-use Rattle.engine.specs.Judged.{rowWithin, rowsWithin}
-use Rattle.engine.proofs.Ways.{failed, held, taken, passed-by}
+use Rattle.sets.proofs.Ways.{failed, held, taken, passed-by}
+use Rattle.engine.specs.Judged.{rowWithin}
 
 pub events-below : (events b : Set) (p : ℕ → Bool) (r : Bool) → b ≡ those p → r ≡ within events b → r ≡ within events (those p)
 events-below events b p r h k = k ∙ ap (within events) h
 
--- the first rows, up to the i-th, are within the events
-abbrev pub passed : Set → List ℕ → ℕ → Type 0
-passed events rows i = (a : ℕ) → a < i → T (rowWithin events a (rowAt rows a))
-
-module _ (events : Set) (rows : List ℕ) (i : ℕ) where
-  pub rows-more : (s : Set) (r : Bool) → s ≡ rowAt rows i → r ≡ rowWithin events i s → not r ≡ false → passed events rows i → passed events rows (i + 1)
-  rows-more s r hs hr t inv =
-      below-more (λ a. T (rowWithin events a (rowAt rows a))) i inv (true→T (sym (held _ r (hr ∙ ap (rowWithin events i) hs) t)))
-
-  pub rows-stop : (s : Set) (r : Bool) → i < width → s ≡ rowAt rows i → r ≡ rowWithin events i s → not r ≡ true → false ≡ rowsWithin events rows
-  unfolding rowsWithin
-  rows-stop s r l hs hr t =
-      sym (F→false _ (λ all. false→F (sym (failed _ r (hr ∙ ap (rowWithin events i) hs) t)) (every-e width _ all i l)))
-
-  pub rows-end : width ≤ i → passed events rows i → true ≡ rowsWithin events rows
-  unfolding rowsWithin
-  rows-end l inv = sym (T→true _ (every-i width _ (λ a h. inv a (omega arith))))
+-- a row that was read
+pub row-read : (events : Set) (rows : List ℕ) (a : ℕ) (s : Set) (r : Bool)
+    → s ≡ rowAt rows a → r ≡ rowWithin events a s → r ≡ rowWithin events a (rowAt rows a)
+row-read events rows a s r h k = k ∙ ap (rowWithin events a) h
 
 -- ---- one judgement after another
 

@@ -1,5 +1,4 @@
 -- The modules of `proofs/` that belong to no one function.
-pub mod Ways
 pub mod Judging
 pub mod Stepping
 pub mod Running

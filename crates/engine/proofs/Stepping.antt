@@ -6,15 +6,15 @@ use Prim.Native.Nat.{ℕ}
 use lib.Dec.{eqb}
 use Rattle.sets.specs.Tests.{_and_, _or_, non}
 use Rattle.sets.specs.Members.{width, mem, those, someBelow, isEmpty}
-use Rattle.sets.specs.Rows.{rowAt, inRow, noRows}
+use Rattle.sets.specs.Rows.{rowAt, inRow}
+use Rattle.sets.specs.Tables.{tableAt}
 use Rattle.sets.specs.declared.set.Set.{Set}
-use Rattle.sets.specs.declared.answer.Answer.{Answer}
 use Rattle.sets.proofs.Tests.{not-non, non-non}
 use Rattle.sets.proofs.Members.{those-of, some-of, empty-none}
 use Rattle.engine.specs.declared.marking.Marking.{Marking}
 use Rattle.engine.specs.Markings.{markingOf}
-use Rattle.engine.specs.Relations.{inRows}
-use Rattle.engine.specs.Steps.{waits, enabled, after, accepting}
+use Rattle.engine.specs.Relations.{inTables}
+use Rattle.engine.specs.Steps.{waits, after, accepting}
 
 -- a set of members that pass is empty where none passes
 none-pass : (u : Set) (p : ℕ → Bool) → u ≡ those p → isEmpty u ≡ non (someBelow width p)
@@ -24,13 +24,15 @@ pub changed-by : (s lost gained u v : Set) → u ≡ those (λ a. mem s a and no
     → v ≡ those (λ a. mem s a and non (mem lost a) or mem gained a)
 changed-by s lost gained u v h k = k ∙ those-of u (λ a. mem s a and non (mem lost a)) (λ a t. t or mem gained a) h
 
-pub accepting-by : (m : Marking) (u : Set) (r : Bool) → u ≡ those (λ a. mem (m .pending) a and mem (m .included) a) → r ≡ isEmpty u → r ≡ accepting m
+pub accepting-by : (m : Marking) (u : Set) (r : Bool) → u ≡ those (λ a. mem (m .pending) a and mem (m .included) a) → r ≡ isEmpty u
+    → r ≡ accepting m
 unfolding accepting
 accepting-by m u r h k = k ∙ none-pass u (λ a. mem (m .pending) a and mem (m .included) a) h
 
-module _ (cs : List ℕ) (m : Marking) (e : ℕ) where
-  pub waits-by : (sources live blocking : Set) (r : Bool) → sources ≡ rowAt cs e → live ≡ those (λ s. mem sources s and mem (m .included) s)
-      → blocking ≡ those (λ s. mem live s and non (mem (m .executed) s)) → r ≡ isEmpty blocking → not r ≡ waits (inRows cs noRows noRows noRows) m e
+module _ (tables : List ℕ) (m : Marking) (e : ℕ) where
+  pub waits-by : (sources live blocking : Set) (r : Bool) → sources ≡ rowAt (tableAt tables 0) e
+      → live ≡ those (λ s. mem sources s and mem (m .included) s) → blocking ≡ those (λ s. mem live s and non (mem (m .executed) s))
+      → r ≡ isEmpty blocking → not r ≡ waits (inTables tables) m e
   unfolding waits inRow
   waits-by sources live blocking r hs ho hb hr =
       not-non r
@@ -39,11 +41,11 @@ module _ (cs : List ℕ) (m : Marking) (e : ℕ) where
       ∙ some-of live (λ s. mem sources s and mem (m .included) s) (λ s t. t and non (mem (m .executed) s)) ho
       ∙ ap (λ (u : Set). someBelow width (λ s. mem u s and mem (m .included) s and non (mem (m .executed) s))) hs
 
-module _ (rs is xs : List ℕ) (m : Marking) (e : ℕ) where
   pub next-by : (one ex r p x i n : Set) (m′ : Marking) → one ≡ those (λ b. eqb b e) → ex ≡ those (λ a. mem (m .executed) a or mem one a)
-      → r ≡ rowAt rs e → p ≡ those (λ a. mem (m .pending) a and non (mem one a) or mem r a)
-      → x ≡ rowAt xs e → i ≡ rowAt is e → n ≡ those (λ a. mem (m .included) a and non (mem x a) or mem i a)
-      → m′ ≡ markingOf ex p n → m′ ≡ after (inRows noRows rs is xs) m e
+      → r ≡ rowAt (tableAt tables 1) e → p ≡ those (λ a. mem (m .pending) a and non (mem one a) or mem r a)
+      → x ≡ rowAt (tableAt tables 3) e → i ≡ rowAt (tableAt tables 2) e
+      → n ≡ those (λ a. mem (m .included) a and non (mem x a) or mem i a)
+      → m′ ≡ markingOf ex p n → m′ ≡ after (inTables tables) m e
   unfolding after inRow
   next-by one ex r p x i n m′ ho hex hr hp hx hi hn hm =
       hm
@@ -54,14 +56,3 @@ module _ (rs is xs : List ℕ) (m : Marking) (e : ℕ) where
       ∙ those-of one (λ b. eqb b e) (λ a t. mem (m .pending) a and non t or mem r a) ho
       ∙ ap (λ (u : Set). those (λ a. mem (m .pending) a and non (eqb a e) or mem u a)) hr) j)
       ((hn ∙ (λ k. those (λ a. mem (m .included) a and non (mem (hx k) a) or mem (hi k) a))) j))
-
--- ---- the relations that do not matter
-
-module _ (c r i x : List ℕ) (m : Marking) (e : ℕ) where
-  pub asked : (events : Set) (a : Answer) → a ≡ enabled events (inRows c noRows noRows noRows) m e → a ≡ enabled events (inRows c r i x) m e
-  unfolding enabled waits
-  asked events a h = h
-
-  pub moved : (m′ : Marking) → m′ ≡ after (inRows noRows r i x) m e → m′ ≡ after (inRows c r i x) m e
-  unfolding after
-  moved m′ h = h

@@ -7,12 +7,14 @@ use Rattle.sets.specs.Sizes.{mostActivities, longestTrace}
 use Rattle.sets.specs.Tests.{_and_, _or_, non, when_then_else_}
 use Rattle.sets.specs.Members.{width, mem, those, everyBelow, isEmpty, within}
 use Rattle.sets.specs.Rows.{rowAt}
+use Rattle.sets.specs.Tables.{tableAt}
 use Rattle.sets.specs.Answers.{thenAsk}
 use Rattle.sets.specs.declared.set.Set.{Set}
 use Rattle.sets.specs.declared.answer.Answer.{Answer}
 use Rattle.sets.specs.declared.answer.Answer.the-variants.{Done, AboveLimit, Outside}
 use Rattle.engine.specs.declared.marking.Marking.{Marking}
 use Rattle.engine.specs.declared.graph.Graph.{Graph}
+use Rattle.engine.specs.Relations.{relationCount}
 
 -- executed, pending and included are within the events
 unfoldable pub markingWithin : Set → Marking → Bool
@@ -27,20 +29,20 @@ unfoldable pub rowsWithin : Set → List ℕ → Bool
 rowsWithin events rows = everyBelow width (λ a. rowWithin events a (rowAt rows a))
 
 -- all four relations are
-unfoldable pub relationsWithin : Set → List ℕ → List ℕ → List ℕ → List ℕ → Bool
-relationsWithin events c r i x = rowsWithin events c and rowsWithin events r and rowsWithin events i and rowsWithin events x
+unfoldable pub relationsWithin : Set → List ℕ → Bool
+relationsWithin events tables = everyBelow relationCount (λ k. rowsWithin events (tableAt tables k))
 
 -- each event is below A, and the opening marking and the relations are within the events
 unfoldable pub graphWithin : Graph → Bool
 graphWithin g =
-    within (g .events) (those (λ a. ltb a (g .activities)))
-    and markingWithin (g .events) (g .opening)
-    and relationsWithin (g .events) (g .conditions) (g .responses) (g .includes) (g .excludes)
+    within (g .head .events) (those (λ a. ltb a (g .head .activities)))
+    and markingWithin (g .head .events) (g .head .opening)
+    and relationsWithin (g .head .events) (g .relations)
 
 -- 3 for A, then 3 for the length of a trace beside it, then 5 for the graph
 unfoldable pub judgedFor : Graph → ℕ → Answer
 judgedFor g length =
-    when ltb mostActivities (g .activities) then AboveLimit
+    when ltb mostActivities (g .head .activities) then AboveLimit
     else when ltb longestTrace length then AboveLimit
     else when non (graphWithin g) then Outside
     else Done
@@ -51,4 +53,4 @@ judged g = judgedFor g 0
 
 -- the graph, then 5 for a marking handed beside it
 unfoldable pub judgedWith : Graph → Marking → Answer
-judgedWith g m = thenAsk (judged g) (when markingWithin (g .events) m then Done else Outside)
+judgedWith g m = thenAsk (judged g) (when markingWithin (g .head .events) m then Done else Outside)

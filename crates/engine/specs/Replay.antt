@@ -20,7 +20,7 @@ use Rattle.engine.specs.Judged.{judgedFor, judgedWith}
 
 -- enabled: 3 and 5, then 8, 9, 10
 unfoldable pub enabledOf : Graph → Marking → ℕ → Answer
-enabledOf g m e = thenAsk (judgedWith g m) (enabled (g .events) (relationsOf g) m e)
+enabledOf g m e = thenAsk (judgedWith g m) (enabled (g .head .events) (relationsOf g) m e)
 
 -- the step: the marking after it, or as it was where refused
 unfoldable pub steppedOf : Graph → Marking → ℕ → Stepped
@@ -48,5 +48,5 @@ replayFrom events r m i (e ∷ es) =
 -- the replay of a trace: from the opening marking; refused with 3 or 5 it gives place 0 and the empty marking
 unfoldable pub replayOf : Graph → List ℕ → Replayed
 replayOf g trace =
-    when isDone (judgedFor g (length trace)) then replayFrom (g .events) (relationsOf g) (g .opening) 0 trace
+    when isDone (judgedFor g (length trace)) then replayFrom (g .head .events) (relationsOf g) (g .head .opening) 0 trace
     else ending (judgedFor g (length trace)) 0 emptyMarking false

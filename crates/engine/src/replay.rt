@@ -1,16 +1,16 @@
 // The replay of a trace (01, "A step").
 ghost use mathlib.Core.Path.{_≡_};
-ghost use Rattle.engine.specs.Relations.{inRows};
+ghost use Rattle.engine.specs.Relations.{inTables};
 ghost use Rattle.engine.specs.Replay.{replayFrom, replayOf};
 use crate::graph::Graph;
+use crate::graph::Head;
+use crate::graph::Relations;
 use crate::judge;
 use crate::marking::Marking;
 use crate::step;
 use sets::Activity;
 use sets::Answer;
 use sets::Place;
-use sets::Rows;
-use sets::Set;
 
 // Where a replay ends: its answer, the place of the event refused (the length where all are done), the marking then, and
 // whether it is accepting.
@@ -21,23 +21,15 @@ pub struct Replayed {
     pub accepting: bool,
 }
 
-// A whole trace on lent rows, from the opening marking: for callers that have judged the graph.
-pub fn run<'a>(
-    events: Set,
-    conditions: &'a Rows,
-    responses: &'a Rows,
-    includes: &'a Rows,
-    excludes: &'a Rows,
-    opening: Marking,
-    trace: &[u8],
-) -> Replayed
-    ensures { λ r. ⌜ r ≡ replayFrom events (inRows (now (conditions .entry)) (now (responses .entry)) (now (includes .entry)) (now (excludes .entry))) opening 0 (now (trace .entry)) ⌝ }
+// A whole trace on lent relations, from the opening marking: for callers that have judged the graph.
+pub fn run(head: Head, relations: &Relations, trace: &[u8]) -> Replayed
+    ensures { λ r. ⌜ r ≡ replayFrom (head .events) (inTables (now (relations .entry))) (head .opening) 0 (now (trace .entry)) ⌝ }
 {
-    let mut m = opening;
+    let mut m = head.opening;
     let mut i: usize = 0;
     while i < trace.len() {
         let a = Activity(trace[i]);
-        let answer = step::ask(events, conditions, m, a);
+        let answer = step::ask(head.events, relations, m, a);
         if !answer.is_done() {
             return Replayed {
                 answer,
@@ -46,7 +38,7 @@ pub fn run<'a>(
                 accepting: false,
             };
         }
-        m = step::next(responses, includes, excludes, m, a);
+        m = step::next(relations, m, a);
         i += 1;
     }
     Replayed {
@@ -61,16 +53,8 @@ pub fn run<'a>(
 pub fn replay(g: Graph, trace: &[u8]) -> Replayed
     ensures { λ r. ⌜ r ≡ replayOf g (now (trace .entry)) ⌝ }
 {
-    let answer = judge::judge_for(
-        g.activities,
-        g.events,
-        g.opening,
-        &g.conditions,
-        &g.responses,
-        &g.includes,
-        &g.excludes,
-        trace.len(),
-    );
+    let head = g.head;
+    let answer = judge::judge_for(head, &g.relations, trace.len());
     if !answer.is_done() {
         return Replayed {
             answer,
@@ -79,13 +63,5 @@ pub fn replay(g: Graph, trace: &[u8]) -> Replayed
             accepting: false,
         };
     }
-    run(
-        g.events,
-        &g.conditions,
-        &g.responses,
-        &g.includes,
-        &g.excludes,
-        g.opening,
-        trace,
-    )
+    run(head, &g.relations, trace)
 }

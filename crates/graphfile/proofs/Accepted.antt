@@ -18,8 +18,11 @@ use Rattle.sets.proofs.Tests.{T→true, non-false}
 use Rattle.engine.specs.Judged.{markingWithin}
 use Rattle.sets.specs.Sizes.{mostActivities}
 use Rattle.sets.specs.Files.{opensWith}
-use Rattle.graphfile.specs.Layout.{letters, headLength, rowLength, relationCount, activitiesIn, eventsIn, markingIn, offsetIn, countIn, earlierRows, endOf}
-use Rattle.graphfile.specs.Refusals.{mostRows, judgedHead, judgedEntry, judgedEnd, judgedBeforeRows, judgedRow, judgedRelation, judgedFile}
+use Rattle.engine.specs.Relations.{relationCount}
+use Rattle.graphfile.specs.Layout.{letters, headLength, rowLength, activitiesIn, eventsIn, markingIn, offsetIn, countIn}
+use Rattle.graphfile.specs.Layout.{earlierRows, endOf}
+use Rattle.graphfile.specs.Refusals.{mostRows, judgedHead, judgedEntry, judgedEnd, judgedBeforeRows, judgedRow, judgedRelation}
+use Rattle.graphfile.specs.Refusals.{judgedFile}
 
 pub done-then : {a b : Answer} → a ≡ Done → b ≡ Done → thenAsk a b ≡ Done
 done-then {a} {b} e f = ask-on a b e ∙ f
@@ -46,13 +49,19 @@ done-end bytes e = rw (le-ltb (length bytes) (endOf bytes) (omega arith), le-ltb
 
 -- what stands before the rows
 front-done : (bytes : List ℕ) → judgedBeforeRows bytes ≡ Done
-    → (headLength ≤ length bytes) × (judgedHead bytes ≡ Done) × ((r : ℕ) → r < relationCount → judgedEntry bytes r ≡ Done) × (length bytes ≡ endOf bytes)
+    → (headLength ≤ length bytes) × (judgedHead bytes ≡ Done) × ((r : ℕ) → r < relationCount
+    → judgedEntry bytes r ≡ Done) × (length bytes ≡ endOf bytes)
 unfolding judgedBeforeRows
 front-done bytes h =
     let short = went (ltb (length bytes) headLength) TooShort _ refl h in
     let head = both _ _ (short .1) in
-    let rest = both _ _ (head .1) in
-    (ltb-false (length bytes) headLength (short .0), head .0, none-refuses (judgedEntry bytes) relationCount (rest .0), end-done bytes (rest .1))
+    let rest = both _ _ (head .1) in (
+      ltb-false (length bytes) headLength (short .0),
+      head .0,
+      none-refuses (judgedEntry bytes) relationCount (rest .0),
+      end-done bytes
+          (rest .1),
+    )
 
 pub accepted : (bytes : List ℕ) → judgedFile bytes ≡ Done → Accepted bytes
 unfolding judgedFile judgedRelation
@@ -64,7 +73,8 @@ accepted bytes h =
       head = f .1;
       entry = f .2;
       end = f .3;
-      row = λ r l. none-refuses (judgedRow bytes (earlierRows bytes r)) (countIn bytes r) (none-refuses (judgedRelation bytes) relationCount (p .1) r l);
+      row = λ r l. none-refuses (judgedRow bytes (earlierRows bytes r)) (countIn bytes r)
+          (none-refuses (judgedRelation bytes) relationCount (p .1) r l);
     }
 
 pub acceptable : (bytes : List ℕ) → Accepted bytes → judgedFile bytes ≡ Done
@@ -74,7 +84,8 @@ acceptable bytes a =
     rw (le-ltb (length bytes) headLength (a .long))
     (done-then (a .head) (done-then (no-refusal (judgedEntry bytes) relationCount (a .entry)) (done-end bytes (a .end)))) in
     done-then front
-    (no-refusal (judgedRelation bytes) relationCount (λ r l. no-refusal (judgedRow bytes (earlierRows bytes r)) (countIn bytes r) (a .row r l)))
+    (no-refusal (judgedRelation bytes) relationCount
+    (λ r l. no-refusal (judgedRow bytes (earlierRows bytes r)) (countIn bytes r) (a .row r l)))
 
 -- ---- the head and an entry
 
@@ -108,18 +119,24 @@ done-head bytes h =
       T→true (markingWithin (eventsIn bytes) (markingIn bytes)) (h .marking),
     )
 
-pub entry-done : (bytes : List ℕ) (r : ℕ) → judgedEntry bytes r ≡ Done → (countIn bytes r ≤ mostRows) × (offsetIn bytes r ≡ rowLength * earlierRows bytes r)
+pub entry-done : (bytes : List ℕ) (r : ℕ) → judgedEntry bytes r ≡ Done
+    → (countIn bytes r ≤ mostRows) × (offsetIn bytes r ≡ rowLength * earlierRows bytes r)
 unfolding judgedEntry
 entry-done bytes r h =
     let three = went (ltb mostRows (countIn bytes r)) AboveLimit _ refl h in
-    let four = went (non (eqb (offsetIn bytes r) (rowLength * earlierRows bytes r))) WrongOffset Done refl (three .1) in
-    (ltb-false mostRows (countIn bytes r) (three .0), eqb-true (offsetIn bytes r) (rowLength * earlierRows bytes r) (T→true _ (non-false _ (four .0))))
+    let four = went (non (eqb (offsetIn bytes r) (rowLength * earlierRows bytes r))) WrongOffset Done refl (three .1) in (
+      ltb-false mostRows (countIn bytes r) (three .0),
+      eqb-true (offsetIn bytes r) (rowLength * earlierRows bytes r)
+          (T→true _ (non-false _ (four .0))),
+    )
 
-pub done-entry : (bytes : List ℕ) (r : ℕ) → countIn bytes r ≤ mostRows → offsetIn bytes r ≡ rowLength * earlierRows bytes r → judgedEntry bytes r ≡ Done
+pub done-entry : (bytes : List ℕ) (r : ℕ) → countIn bytes r ≤ mostRows → offsetIn bytes r ≡ rowLength * earlierRows bytes r
+    → judgedEntry bytes r ≡ Done
 unfolding judgedEntry non
 done-entry bytes r few e = rw (le-ltb mostRows (countIn bytes r) few, eq-eqb (offsetIn bytes r) (rowLength * earlierRows bytes r) e)
 
 -- ---- what the code goes on by
 
-pub end-within : (bytes : List ℕ) (a : Answer) (d : Bool) → a ≡ judgedBeforeRows bytes → d ≡ isDone a → not d ≡ false → endOf bytes ≤ length bytes
+pub end-within : (bytes : List ℕ) (a : Answer) (d : Bool) → a ≡ judgedBeforeRows bytes → d ≡ isDone a → not d ≡ false
+    → endOf bytes ≤ length bytes
 end-within bytes a d e t n = omega (arith, front-done bytes (gone-on a (judgedBeforeRows bytes) d e t n) .3)

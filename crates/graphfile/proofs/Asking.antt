@@ -9,14 +9,16 @@ use Rattle.sets.specs.Answers.{isDone, thenAsk, firstRefusal}
 use Rattle.sets.specs.declared.answer.Answer.{Answer}
 use Rattle.sets.specs.declared.answer.Answer.the-variants.{TooShort}
 use Rattle.sets.proofs.Asking.{refused, passed}
-use Rattle.graphfile.specs.Layout.{headLength, relationCount}
+use Rattle.engine.specs.Relations.{relationCount}
+use Rattle.graphfile.specs.Layout.{headLength}
 use Rattle.graphfile.specs.Refusals.{judgedHead, judgedEntry, judgedEnd, judgedBeforeRows}
 
 pub front-short : (bytes : List ℕ) → length bytes < headLength → TooShort ≡ judgedBeforeRows bytes
 unfolding judgedBeforeRows
 front-short bytes l = rw (lt-ltb (length bytes) headLength l)
 
-module _ (bytes : List ℕ) (long : headLength ≤ length bytes) (head : Answer) (d : Bool) (e : head ≡ judgedHead bytes) (t : d ≡ isDone head) where
+module _ (bytes : List ℕ) (long : headLength ≤ length bytes) (head : Answer) (d : Bool) (e : head ≡ judgedHead bytes) (t : d
+    ≡ isDone head) where
   front : judgedBeforeRows bytes ≡ thenAsk (judgedHead bytes) (thenAsk (firstRefusal relationCount (judgedEntry bytes)) (judgedEnd bytes))
   unfolding judgedBeforeRows
   front = rw (le-ltb (length bytes) headLength long)
@@ -24,7 +26,8 @@ module _ (bytes : List ℕ) (long : headLength ≤ length bytes) (head : Answer)
   pub front-head : not d ≡ true → head ≡ judgedBeforeRows bytes
   front-head f = refused head _ d e t _ f ∙ sym front
 
-  module _ (f : not d ≡ false) (entries : Answer) (d′ : Bool) (e′ : entries ≡ firstRefusal relationCount (judgedEntry bytes)) (t′ : d′ ≡ isDone entries) where
+  module _ (f : not d ≡ false) (entries : Answer) (d′ : Bool) (e′ : entries ≡ firstRefusal relationCount (judgedEntry bytes)) (t′ : d′
+      ≡ isDone entries) where
     after-head : judgedBeforeRows bytes ≡ thenAsk (firstRefusal relationCount (judgedEntry bytes)) (judgedEnd bytes)
     after-head = front ∙ passed head _ d e t _ f
 

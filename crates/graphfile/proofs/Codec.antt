@@ -12,7 +12,8 @@ use Rattle.sets.specs.Files.{littleEndian, valueOf, numberAt}
 
 -- ---- reading: from the highest byte down
 
-number-suc : (m : ℕ) (bytes : List ℕ) (at : ℕ) → at < length bytes → numberAt (suc m) bytes at ≡ getD bytes at 0 + 256 * numberAt m bytes (suc at)
+number-suc : (m : ℕ) (bytes : List ℕ) (at : ℕ) → at < length bytes
+    → numberAt (suc m) bytes at ≡ getD bytes at 0 + 256 * numberAt m bytes (suc at)
 unfolding numberAt valueOf
 number-suc m bytes at h = ap (λ (l : List ℕ). valueOf (take (suc m) l)) (drop-cons bytes at 0 h)
 

@@ -6,33 +6,39 @@ use mathlib.Core.List.{List, [], _∷_, _++_}
 use Prim.Native.Nat.{ℕ, zero, suc, _+_, _*_, _≤_, _<_, zero-le}
 use native.Mathlib.Nat.{add-zero, zero-add}
 use native.Mathlib.Omega.{arith}
-use borrow.Author.Tests.{ltb-true, ltb-false, le-ltb}
-use lib.Dec.{T, eqb, ltb, eqb→eq, lit<}
+use borrow.Author.Tests.{le-ltb}
 use lib.Arith.{lt-of-le-ne}
-use lib.ListN.{length, getD-replicate}
-use Rattle.sets.specs.Tests.{_and_, _or_, non, when_then_else_}
-use Rattle.sets.specs.Members.{width, bit, mem, everyBelow, isEmpty, within}
+use lib.Dec.{T, eqb, eqb→eq}
+use lib.ListN.{length}
+use Rattle.sets.specs.Tests.{non, when_then_else_}
+use Rattle.sets.specs.Members.{width, mem, noSet, isEmpty}
 use Rattle.sets.specs.Rows.{noRows, rowAt, withRow}
-use Rattle.sets.specs.declared.set.Set.{Set}
-use Rattle.sets.proofs.Tests.{split, either, T→true, F→false, false→F, and-i, or-r, eqb-of}
-use Rattle.sets.proofs.Below.{every-i}
-use Rattle.sets.proofs.Bits.{bit-above}
-use Rattle.sets.proofs.RowLaws.{row-in, row-out}
-use Rattle.sets.specs.declared.answer.Answer.the-variants.{Done}
-use Rattle.engine.specs.Judged.{rowWithin, rowsWithin, relationsWithin, graphWithin, judgedFor, judged}
+use Rattle.sets.specs.Tables.{tableAt}
 use Rattle.sets.specs.Sizes.{mostActivities}
 use Rattle.sets.specs.Files.{littleEndian}
-use Rattle.graphfile.specs.Layout.{letters, headLength, rowLength, relationCount, activitiesIn, eventsIn, markingIn, offsetIn, countIn, earlierRows, keyIn, rowIn}
+use Rattle.sets.specs.declared.set.Set.{Set}
+use Rattle.sets.specs.declared.answer.Answer.the-variants.{Done}
+use Rattle.sets.proofs.Tests.{split, T→true, true→T, false→F, and-i, or-r, eqb-of}
+use Rattle.sets.proofs.Below.{every-i}
+use Rattle.sets.proofs.Members.{mem-none, empty-noSet, within-i, whole-low}
+use Rattle.sets.proofs.RowLaws.{row-none, row-put-other, length-put}
 use Rattle.sets.proofs.Files.{opens-is}
+use Rattle.engine.specs.Relations.{relationCount}
+use Rattle.engine.specs.Judged.{rowWithin, rowsWithin, relationsWithin, graphWithin, judgedFor, judged}
+use Rattle.graphfile.specs.Layout.{letters, headLength, rowLength, activitiesIn, eventsIn, headIn, offsetIn, countIn, sumOf}
+use Rattle.graphfile.specs.Layout.{earlierRows, keyIn, rowIn}
 use Rattle.graphfile.specs.Refusals.{judgedRow}
-use Rattle.graphfile.specs.Held.{filled, relationIn, graphIn}
-use Rattle.graphfile.specs.Writing.{setBytes, rowOf, rowsFrom, rowCount, entryBytes, entriesBytes, markingBytes, openingBytes, relationBytes, relationsBytes, bytesOf}
+use Rattle.graphfile.specs.Held.{relationsIn, graphIn}
+use Rattle.graphfile.specs.Writing.{setBytes, rowOf, rowsFrom, rowCount, rowsBefore, entryBytes, entriesBytes, markingBytes}
+use Rattle.graphfile.specs.Writing.{headBytes}
+use Rattle.graphfile.specs.Writing.{relationBytes, relationsBytes, bytesOf}
 use Rattle.graphfile.proofs.Codec.{Bytes}
-use Rattle.graphfile.proofs.Parts.{part, meet, length-part, part-whole, part-one, part-number, part-row, number-below}
+use Rattle.graphfile.proofs.Parts.{part, meet, length-part, part-whole, part-one, part-number, part-row, set-whole}
 use Rattle.graphfile.proofs.Accepted.{Accepted, head-done, entry-done}
 use Rattle.graphfile.proofs.Stores.{length-rows}
-use Rattle.graphfile.proofs.Legal.{Legal, from-lower, filled-below, filled-first, filled-inside, put-other, length-put, done-legal}
-use Rattle.graphfile.proofs.Places.{rows-end}
+use Rattle.graphfile.proofs.Legal.{Legal, rowsFilled, relationIn, from-lower, filled-below, filled-first, filled-inside}
+use Rattle.graphfile.proofs.Legal.{table-read, done-legal}
+use Rattle.graphfile.proofs.Places.{sum-ext, rows-end}
 
 -- ---- the rows of a relation
 
@@ -48,9 +54,9 @@ module _ (events : Set) (bytes : List ℕ) (small : Bytes bytes) where
   -- the first of the rows, where its key is a
   row-back : (a n k : ℕ) (rows : List ℕ) → length rows ≡ width → Legal events bytes a (suc n) k → keyIn bytes k ≡ a
       → headLength + rowLength * k + rowLength ≤ length bytes
-      → rowOf a (rowAt (filled bytes rows (suc n) k) a) ≡ part bytes (headLength + rowLength * k) rowLength
+      → rowOf a (rowAt (rowsFilled bytes rows (suc n) k) a) ≡ part bytes (headLength + rowLength * k) rowLength
   row-back a n k rows len l same room =
-      ap (λ (x : ℕ). rowOf x (rowAt (filled bytes rows (suc n) k) x)) (sym same)
+      ap (λ (x : ℕ). rowOf x (rowAt (rowsFilled bytes rows (suc n) k) x)) (sym same)
       ∙ ap (rowOf (keyIn bytes k)) (filled-first events bytes rows a n k len l)
       ∙ row-some (keyIn bytes k) (rowIn bytes k) (l .1 .some)
       ∙ part-row bytes small k room
@@ -58,8 +64,8 @@ module _ (events : Set) (bytes : List ℕ) (small : Bytes bytes) where
   -- m activities from a on, and n legal rows from row k on, put into rows that are empty from a on
   rows-back : (m a n k : ℕ) (rows : List ℕ) → a + m ≡ width → length rows ≡ width → ((b : ℕ) → a ≤ b → isEmpty (rowAt rows b) ≡ true)
       → Legal events bytes a n k → headLength + rowLength * (k + n) ≤ length bytes
-      → rowsFrom (filled bytes rows n k) m a ≡ part bytes (headLength + rowLength * k) (rowLength * n)
-  unfolding rowsFrom filled
+      → rowsFrom (rowsFilled bytes rows n k) m a ≡ part bytes (headLength + rowLength * k) (rowLength * n)
+  unfolding rowsFrom rowsFilled
   rows-back zero a zero k rows e len none l room = refl
   rows-back zero a (suc n) k rows e len none l room =
       let up = l .0 in
@@ -77,16 +83,18 @@ module _ (events : Set) (bytes : List ℕ) (small : Bytes bytes) where
       put = withRow rows (keyIn bytes k) (rowIn bytes k)
 
       pick : T (eqb (keyIn bytes k) a) ⊎ (T (eqb (keyIn bytes k) a) → ⊥)
-          → ((rows′ : List ℕ) → length rows′ ≡ width → ((b : ℕ) → suc a ≤ b → isEmpty (rowAt rows′ b) ≡ true) → Legal events bytes (suc a) n (suc k)
-          → rowsFrom (filled bytes rows′ n (suc k)) m (suc a) ≡ part bytes (headLength + rowLength * suc k) (rowLength * n))
-          → (Legal events bytes (suc a) (suc n) k → rowsFrom (filled bytes rows (suc n) k) m (suc a) ≡ part bytes (headLength + rowLength * k) (rowLength * suc n))
-          → rowsFrom (filled bytes rows (suc n) k) (suc m) a ≡ part bytes (headLength + rowLength * k) (rowLength * suc n)
+          → ((rows′ : List ℕ) → length rows′ ≡ width → ((b : ℕ) → suc a ≤ b → isEmpty (rowAt rows′ b) ≡ true)
+          → Legal events bytes (suc a) n (suc k)
+          → rowsFrom (rowsFilled bytes rows′ n (suc k)) m (suc a) ≡ part bytes (headLength + rowLength * suc k) (rowLength * n))
+          → (Legal events bytes (suc a) (suc n) k → rowsFrom (rowsFilled bytes rows (suc n) k) m (suc a)
+          ≡ part bytes (headLength + rowLength * k) (rowLength * suc n))
+          → rowsFrom (rowsFilled bytes rows (suc n) k) (suc m) a ≡ part bytes (headLength + rowLength * k) (rowLength * suc n)
       pick (inl t) ih stay =
           let same : keyIn bytes k ≡ a = eqb→eq (keyIn bytes k) a t in
           let first = row-back a n k rows len l same (omega arith) in
           let rest =
           ih put (length-put rows (keyIn bytes k) (rowIn bytes k) ∙ len)
-          (λ b h. ap isEmpty (put-other rows (keyIn bytes k) b (rowIn bytes k) (λ q. omega arith)) ∙ none b (omega arith))
+          (λ b h. ap isEmpty (row-put-other rows (keyIn bytes k) (rowIn bytes k) b (λ q. omega arith)) ∙ none b (omega arith))
           (subst (λ (x : ℕ). Legal events bytes (suc x) n (suc k)) same (l .2)) in
           let size : rowLength + rowLength * n ≡ rowLength * suc n = omega arith in
           meet bytes _ _ (headLength + rowLength * k) rowLength (headLength + rowLength * suc k) (rowLength * n) (omega arith) first rest
@@ -94,113 +102,118 @@ module _ (events : Set) (bytes : List ℕ) (small : Bytes bytes) where
       pick (inr t) ih stay =
           let up : a < keyIn bytes k = lt-of-le-ne (l .0) (λ q. t (eqb-of (sym q))) in
           let l′ = from-lower events bytes a (suc a) (suc n) k (λ p. up) l in
-          ap (λ (r : List ℕ). r ++ rowsFrom (filled bytes rows (suc n) k) m (suc a))
+          ap (λ (r : List ℕ). r ++ rowsFrom (rowsFilled bytes rows (suc n) k) m (suc a))
           (row-empty a _ (ap isEmpty (filled-below events bytes rows (suc a) (suc n) k a l′ (omega arith)) ∙ none a (omega arith)))
           ∙ stay l′
 
-no-row : (b : ℕ) → rowAt noRows b ≡ record { bits = 0 }
-unfolding rowAt
-no-row b =
-    either (split (ltb b width))
-    (λ l. sym (row-in noRows b (ltb-true b width (T→true _ l))) ∙ ap (λ (n : ℕ). record { bits = n }) (getD-replicate width b 0 0 (ltb-true b width (T→true _ l))))
-    (λ g. sym (row-out noRows b (ltb-false b width (F→false _ g))))
-
 no-rows : (b : ℕ) → isEmpty (rowAt noRows b) ≡ true
-unfolding isEmpty everyBelow bit non _and_
-no-rows b = ap isEmpty (no-row b)
+no-rows b = ap isEmpty (row-none b) ∙ empty-noSet
 
 no-inside : (events : Set) (b : ℕ) → T (rowWithin events b (rowAt noRows b))
-unfolding rowWithin within isEmpty everyBelow bit non _and_ _or_
-no-inside events b = subst (λ (s : Set). T (rowWithin events b s)) (sym (no-row b)) (or-r (mem events b) (isEmpty (record { bits = 0 })) tt)
+unfolding rowWithin
+no-inside events b =
+    subst (λ (s : Set). T (rowWithin events b s)) (sym (row-none b))
+    (and-i _ _ (within-i noSet events (λ a l t. absurd (false→F (mem-none a) t))) (or-r (mem events b) _ (true→T empty-noSet)))
 
 -- ---- the parts of the file
 
--- the bytes of all rows
-abbrev rowsLength : List ℕ → ℕ
-rowsLength bytes = rowLength * countIn bytes 0 + rowLength * countIn bytes 1 + rowLength * countIn bytes 2 + rowLength * countIn bytes 3
-
 module _ (bytes : List ℕ) (small : Bytes bytes) (ok : Accepted bytes) where
-  event-low : (x : ℕ) → T (mem (eventsIn bytes) x) → x < width
-  event-low x t =
-      either (split (ltb x width)) (λ l. ltb-true x width (T→true _ l))
-      (λ g. absurd (false→F (bit-above width (eventsIn bytes .bits) x (number-below bytes small 8 4 (omega (arith, ok .long))) (ltb-false x width (F→false _ g))) t))
+  -- the tables of the four relations
+  abbrev tables : List ℕ
+  tables = relationsIn bytes relationCount
 
   pub legal : (r : ℕ) → r < relationCount → Legal (eventsIn bytes) bytes 0 (countIn bytes r) (earlierRows bytes r)
   legal r l =
       subst (λ (k : ℕ). Legal (eventsIn bytes) bytes 0 (countIn bytes r) k) (add-zero (earlierRows bytes r))
-      (done-legal bytes (earlierRows bytes r) event-low (countIn bytes r) 0 0 (λ p. zero-le)
+      (done-legal bytes (earlierRows bytes r) (whole-low (eventsIn bytes) (set-whole bytes small 4 (omega (arith, ok .long))))
+      (countIn bytes r) 0 0 (λ p. zero-le)
       (λ i h. ap (judgedRow bytes (earlierRows bytes r)) (zero-add i) ∙ ok .row r l i h))
 
   module _ (r : ℕ) (l : r < relationCount) where
     room : headLength + rowLength * (earlierRows bytes r + countIn bytes r) ≤ length bytes
     room = rows-end bytes r (earlierRows bytes r) (countIn bytes r) l (omega (arith, ok .end)) refl refl
 
-    relation-back : relationBytes (relationIn bytes r) ≡ part bytes (headLength + rowLength * earlierRows bytes r) (rowLength * countIn bytes r)
+    relation-back : relationBytes (tableAt tables r)
+        ≡ part bytes (headLength + rowLength * earlierRows bytes r) (rowLength * countIn bytes r)
     unfolding relationIn
     relation-back =
-        rows-back (eventsIn bytes) bytes small width 0 (countIn bytes r) (earlierRows bytes r) noRows refl refl (λ b h. no-rows b) (legal r l) room
+        ap relationBytes (table-read bytes relationCount r l (omega arith))
+        ∙ rows-back (eventsIn bytes) bytes small width 0 (countIn bytes r) (earlierRows bytes r) noRows refl refl (λ b h. no-rows b)
+        (legal r l) room
 
-    count-back : rowCount (relationIn bytes r) ≡ countIn bytes r
+    count-back : rowCount (tableAt tables r) ≡ countIn bytes r
     count-back =
-        let a = length-rows (relationIn bytes r) width 0 in
+        let a = length-rows (tableAt tables r) width 0 in
         let b = ap length relation-back in
         let c = length-part bytes (headLength + rowLength * earlierRows bytes r) (rowLength * countIn bytes r) (omega (arith, room)) in
         omega arith
 
-    entry-back : (earlier : ℕ) → earlier ≡ earlierRows bytes r → entryBytes earlier (countIn bytes r) ≡ part bytes (36 + 4 * r) 4
-    entry-back earlier e =
-        let offset : rowLength * earlier ≡ offsetIn bytes r = omega (arith, entry-done bytes r (ok .entry r l) .1) in
+    inside-back : T (rowsWithin (eventsIn bytes) (tableAt tables r))
+    unfolding rowsWithin relationIn
+    inside-back =
+        subst (λ (rows : List ℕ). T (rowsWithin (eventsIn bytes) rows)) (sym (table-read bytes relationCount r l (omega arith)))
+        (every-i width _
+        (filled-inside (eventsIn bytes) bytes noRows 0 (countIn bytes r) (earlierRows bytes r) refl (legal r l)
+        (λ b h. no-inside (eventsIn bytes) b)))
+
+    entry-back : entryBytes (earlierRows bytes r) (countIn bytes r) ≡ part bytes (36 + 4 * r) 4
+    entry-back =
+        let offset : rowLength * earlierRows bytes r ≡ offsetIn bytes r = omega (arith, entry-done bytes r (ok .entry r l) .1) in
         meet bytes _ _ (36 + 4 * r) 2 (38 + 4 * r) 2 (omega arith)
         (ap (littleEndian 2) offset ∙ part-number bytes small 2 (36 + 4 * r) (omega (arith, ok .long)))
         (part-number bytes small 2 (38 + 4 * r) (omega (arith, ok .long)))
 
-  opening-back : openingBytes (activitiesIn bytes) (eventsIn bytes) (markingIn bytes) ≡ part bytes 0 36
-  unfolding openingBytes markingBytes
-  opening-back =
-      let start = meet bytes letters (activitiesIn bytes ∷ []) 0 3 3 1 refl (sym (opens-is letters bytes (head-done bytes (ok .head) .opens))) (part-one bytes 3 (omega (arith, ok .long))) in
+  -- as many rows are written before a relation as were read
+  before-back : (r : ℕ) → r ≤ relationCount → rowsBefore tables r ≡ earlierRows bytes r
+  before-back r l = sum-ext (λ k. rowCount (tableAt tables k)) (countIn bytes) r (λ k h. count-back k (omega arith))
+
+  head-back : headBytes (headIn bytes) ≡ part bytes 0 36
+  unfolding headBytes markingBytes
+  head-back =
+      let start = meet bytes letters (activitiesIn bytes ∷ []) 0 3 3 1 refl
+      (sym (opens-is letters bytes (head-done bytes (ok .head) .opens))) (part-one bytes 3 (omega (arith, ok .long))) in
       let events = meet bytes _ _ 0 4 4 8 refl start (part-number bytes small 8 4 (omega (arith, ok .long))) in
       let marking =
       meet bytes _ _ 12 16 28 8 refl
-      (meet bytes _ _ 12 8 20 8 refl (part-number bytes small 8 12 (omega (arith, ok .long))) (part-number bytes small 8 20 (omega (arith, ok .long))))
+      (meet bytes _ _ 12 8 20 8 refl (part-number bytes small 8 12 (omega (arith, ok .long)))
+      (part-number bytes small 8 20 (omega (arith, ok .long))))
       (part-number bytes small 8 28 (omega (arith, ok .long))) in
       meet bytes _ _ 0 12 12 24 refl events marking
 
-  entries-back : entriesBytes (countIn bytes 0) (countIn bytes 1) (countIn bytes 2) (countIn bytes 3) ≡ part bytes 36 16
-  unfolding entriesBytes earlierRows
-  entries-back =
-      meet bytes _ _ 36 12 48 4 refl
-      (meet bytes _ _ 36 8 44 4 refl
-      (meet bytes _ _ 36 4 40 4 refl (entry-back 0 (lit< tt) 0 refl) (entry-back 1 (lit< tt) (countIn bytes 0) (omega arith)))
-      (entry-back 2 (lit< tt) (countIn bytes 0 + countIn bytes 1) (omega arith)))
-      (entry-back 3 (lit< tt) (countIn bytes 0 + countIn bytes 1 + countIn bytes 2) (omega arith))
+  entries-back : (r : ℕ) → r ≤ relationCount → entriesBytes tables r ≡ part bytes 36 (4 * r)
+  unfolding entriesBytes
+  entries-back zero l = refl
+  entries-back (suc r) l =
+      let size : 4 * r + 4 ≡ 4 * suc r = omega arith in
+      (λ i. entriesBytes tables r ++ entryBytes (before-back r (omega arith) i) (count-back r l i))
+      ∙ meet bytes _ _ 36 (4 * r) (36 + 4 * r) 4 refl (entries-back r (omega arith)) (entry-back r l)
+      ∙ ap (part bytes 36) size
 
-  relations-back : relationsBytes (relationIn bytes 0) (relationIn bytes 1) (relationIn bytes 2) (relationIn bytes 3)
-      ≡ part bytes headLength (rowsLength bytes)
-  unfolding relationsBytes earlierRows
-  relations-back =
-      meet bytes _ _ headLength _ (headLength + rowLength * earlierRows bytes 3) (rowLength * countIn bytes 3) (omega arith)
-      (meet bytes _ _ headLength _ (headLength + rowLength * earlierRows bytes 2) (rowLength * countIn bytes 2) (omega arith)
-      (meet bytes _ _ headLength _ (headLength + rowLength * earlierRows bytes 1) (rowLength * countIn bytes 1) (omega arith)
-      (relation-back 0 (lit< tt)) (relation-back 1 (lit< tt))) (relation-back 2 (lit< tt))) (relation-back 3 (lit< tt))
+  relations-back : (r : ℕ) → r ≤ relationCount → relationsBytes tables r ≡ part bytes headLength (rowLength * earlierRows bytes r)
+  unfolding relationsBytes sumOf
+  relations-back zero l = refl
+  relations-back (suc r) l =
+      let size : rowLength * earlierRows bytes r + rowLength * countIn bytes r
+      ≡ rowLength * (earlierRows bytes r + countIn bytes r) = omega arith in
+      meet bytes _ _ headLength (rowLength * earlierRows bytes r) (headLength + rowLength * earlierRows bytes r)
+      (rowLength * countIn bytes r) refl
+      (relations-back r (omega arith)) (relation-back r l)
+      ∙ ap (part bytes headLength) size
 
   -- an accepted file, read and written again, is that file byte for byte
   pub file-back : bytesOf (graphIn bytes) ≡ bytes
-  unfolding bytesOf graphIn earlierRows
+  unfolding bytesOf graphIn
   file-back =
-      let entries = (λ i. entriesBytes (count-back 0 (lit< tt) i) (count-back 1 (lit< tt) i) (count-back 2 (lit< tt) i) (count-back 3 (lit< tt) i)) ∙ entries-back in
-      meet bytes _ _ 0 headLength headLength (rowsLength bytes) refl (meet bytes _ _ 0 36 36 16 refl opening-back entries) relations-back
-      ∙ part-whole bytes (headLength + rowsLength bytes) (omega (arith, ok .end))
+      meet bytes _ _ 0 headLength headLength (rowLength * earlierRows bytes relationCount) refl
+      (meet bytes _ _ 0 36 36 16 refl head-back (entries-back relationCount (omega arith))) (relations-back relationCount (omega arith))
+      ∙ part-whole bytes (headLength + rowLength * earlierRows bytes relationCount) (omega (arith, ok .end))
 
   -- the graph of an accepted file is acceptable
-  relation-inside : (r : ℕ) → r < relationCount → T (rowsWithin (eventsIn bytes) (relationIn bytes r))
-  unfolding rowsWithin relationIn
-  relation-inside r l =
-      every-i width _ (filled-inside (eventsIn bytes) bytes noRows 0 (countIn bytes r) (earlierRows bytes r) refl (legal r l) (λ b h. no-inside (eventsIn bytes) b))
-
   pub graph-back : judged (graphIn bytes) ≡ Done
   unfolding judgedFor graphWithin relationsWithin graphIn non
   graph-back =
       let head = head-done bytes (ok .head) in
-      let rows =
-      and-i _ _ (and-i _ _ (and-i _ _ (relation-inside 0 (lit< tt)) (relation-inside 1 (lit< tt))) (relation-inside 2 (lit< tt))) (relation-inside 3 (lit< tt)) in
-      rw (le-ltb mostActivities (activitiesIn bytes) (head .few), T→true (graphWithin (graphIn bytes)) (and-i _ _ (and-i _ _ (head .events) (head .marking)) rows))
+      rw (
+        le-ltb mostActivities (activitiesIn bytes) (head .few),
+        T→true (graphWithin (graphIn bytes)) (and-i _ _ (and-i _ _ (head .events) (head .marking)) (every-i relationCount _ inside-back)),
+      )

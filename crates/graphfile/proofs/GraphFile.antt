@@ -2,46 +2,51 @@
 use mathlib.Core.Path.{_≡_, refl, sym, ap, _∙_, subst}
 use mathlib.Core.Bool.{Bool, true, false}
 use mathlib.Core.List.{List, [], _++_, append-assoc, append-nil}
-use Prim.Native.Nat.{ℕ, zero, suc, _+_, _*_, _^_, _≤_, _<_}
-use native.Mathlib.Nat.{zero-add, add-zero}
+use Prim.Native.Nat.{ℕ, zero, suc, _+_, _*_, _≤_, _<_}
+use native.Mathlib.Nat.{zero-add, add-zero, not-suc-le-zero}
 use native.Mathlib.Omega.{arith}
-use lib.Dec.{T, ltb, lit<}
+use borrow.Author.Tests.{ltb-true, ltb-false}
+use lib.Dec.{T, ltb}
 use lib.ListN.{length, drop, length-append}
 use lib.Seq.{drop-at}
 use Rattle.sets.specs.Tests.{_and_, when_then_else_}
 use Rattle.sets.specs.Members.{width, those, isEmpty, within}
 use Rattle.sets.specs.Rows.{rowAt, noRows}
+use Rattle.sets.specs.Tables.{tableAt}
+use Rattle.sets.specs.Files.{littleEndian, opensWith}
 use Rattle.sets.specs.declared.set.Set.{Set}
 use Rattle.sets.specs.declared.answer.Answer.the-variants.{Done}
+use Rattle.sets.proofs.Tests.{T→true, F→false, split, either}
 use Rattle.sets.proofs.Below.{every-e}
+use Rattle.sets.proofs.Members.{Whole}
+use Rattle.sets.proofs.RowLaws.{row-none, rows-ext}
+use Rattle.sets.proofs.TableLaws.{length-table, tables-ext}
 use Rattle.engine.specs.Markings.{markingOf}
-use Rattle.engine.specs.Relations.{graphOf}
+use Rattle.engine.specs.Relations.{relationCount, headOf, graphOf}
 use Rattle.engine.specs.declared.marking.Marking.{Marking}
 use Rattle.engine.specs.declared.graph.Graph.{Graph}
-use Rattle.engine.specs.Judged.{markingWithin, rowWithin, rowsWithin, judged}
+use Rattle.engine.specs.Judged.{markingWithin, rowWithin, rowsWithin, graphWithin, judged}
 use Rattle.engine.proofs.Acceptable.{judged-activities, judged-within, events-inside, opening-inside, rows-inside}
-use Rattle.sets.specs.Files.{littleEndian, valueOf, numberAt, opensWith}
-use Rattle.graphfile.specs.Layout.{headLength, rowLength, relationCount, activitiesIn, setAt, eventsIn, markingIn, offsetIn, countIn, earlierRows}
-use Rattle.graphfile.specs.Refusals.{judgedEntry, judgedRow, judgedFile}
-use Rattle.graphfile.specs.Held.{filled, relationIn, graphIn}
-use Rattle.graphfile.specs.Writing.{setBytes, rowsFor, countFrom, rowCount, entriesBytes, markingBytes, openingBytes, relationBytes, relationsBytes, bytesOf}
-use Rattle.graphfile.proofs.Codec.{value-number}
-use Rattle.graphfile.proofs.Parts.{part}
+use Rattle.graphfile.specs.Layout.{headLength, rowLength, activitiesIn, eventsIn, markingIn, offsetIn, countIn, sumOf, earlierRows}
+use Rattle.graphfile.specs.Refusals.{judgedRow, judgedFile}
+use Rattle.graphfile.specs.Held.{relationsIn, graphIn}
+use Rattle.graphfile.specs.Writing.{rowsFor, countFrom, rowCount, rowsBefore, entriesBytes, markingBytes, headBytes}
+use Rattle.graphfile.specs.Writing.{relationBytes, relationsBytes, bytesOf}
+use Rattle.graphfile.proofs.Parts.{part, number-read, set-read}
 use Rattle.graphfile.proofs.Accepted.{Accepted, Head, acceptable, done-head, done-entry}
-use Rattle.graphfile.proofs.Stores.{length-opening, length-entries, length-rows, length-file}
-use Rattle.graphfile.proofs.Legal.{Legal, legal-done}
-use Rattle.graphfile.proofs.GraphBack.{Rows64, rows-forth}
+use Rattle.graphfile.proofs.Places.{sum-ext}
+use Rattle.graphfile.proofs.Stores.{length-head, length-entries, length-relations, length-file}
+use Rattle.graphfile.proofs.Legal.{Legal, rowsFilled, length-rowsFilled, relationIn, length-relationsIn, table-read, legal-done}
+use Rattle.graphfile.proofs.GraphBack.{Held, rows-forth}
 
--- the numbers of a graph fit their places in memory, as those of every `Graph` of the code do
+-- a graph as every `Graph` of the code is: whole sets, and four tables
 pub record Machine (g : Graph) : Type 0 where
-  pub events : g .events .bits < 2 ^ 64
-  pub executed : g .opening .executed .bits < 2 ^ 64
-  pub pending : g .opening .pending .bits < 2 ^ 64
-  pub included : g .opening .included .bits < 2 ^ 64
-  pub conditions : Rows64 (g .conditions)
-  pub responses : Rows64 (g .responses)
-  pub includes : Rows64 (g .includes)
-  pub excludes : Rows64 (g .excludes)
+  pub events : Whole (g .head .events)
+  pub executed : Whole (g .head .opening .executed)
+  pub pending : Whole (g .head .opening .pending)
+  pub included : Whole (g .head .opening .included)
+  pub many : length (g .relations) ≡ relationCount * width
+  pub rows : (r a : ℕ) → Whole (rowAt (tableAt (g .relations) r) a)
 
 -- ---- a relation has at most 64 rows
 
@@ -58,28 +63,47 @@ unfolding countFrom
 count-le rows zero a = omega arith
 count-le rows (suc n) a = omega (arith, rows-for-le (rowAt rows a), count-le rows n (suc a))
 
--- ---- what is read where a number was written
+-- ---- a relation, from where its rows begin
 
-number-read : (bytes : List ℕ) (n at x : ℕ) → part bytes at n ≡ littleEndian n x → x < 256 ^ n → numberAt n bytes at ≡ x
-unfolding numberAt
-number-read bytes n at x e l = ap valueOf e ∙ value-number n x l
-
-set-read : (bytes : List ℕ) (at : ℕ) (s : Set) → part bytes at 8 ≡ setBytes s → s .bits < 2 ^ 64 → setAt bytes at ≡ s
-set-read bytes at s e l = ap (λ (n : ℕ). record { bits = n }) (number-read bytes 8 at (s .bits) e l)
-
--- a relation, from where its rows begin
-relation-read : (events : Set) (bytes rows tail : List ℕ) (r k : ℕ) → Rows64 rows → T (rowsWithin events rows) → eventsIn bytes ≡ events
-    → countIn bytes r ≡ rowCount rows → earlierRows bytes r ≡ k → drop (headLength + rowLength * k) bytes ≡ relationBytes rows ++ tail
+relation-read : (events : Set) (bytes rows tail : List ℕ) (r k : ℕ) → length rows ≡ width → ((b : ℕ) → Whole (rowAt rows b))
+    → T (rowsWithin events rows) → eventsIn bytes ≡ events → countIn bytes r ≡ rowCount rows → earlierRows bytes r ≡ k
+    → drop (headLength + rowLength * k) bytes ≡ relationBytes rows ++ tail
     → (relationIn bytes r ≡ rows) × ((j : ℕ) → j < countIn bytes r → judgedRow bytes (earlierRows bytes r) j ≡ Done)
 unfolding rowsWithin relationIn
-relation-read events bytes rows tail r k machine inside he hc hk here =
-    let back = rows-forth events bytes rows tail machine (λ b l. every-e width (λ a. rowWithin events a (rowAt rows a)) inside b l) width 0 k refl here in
+relation-read events bytes rows tail r k many whole inside he hc hk here =
+    let none : Held events bytes rows tail whole (λ b l. every-e width (λ a. rowWithin events a (rowAt rows a)) inside b l) 0 noRows =
+    record { many = refl; there = λ b l. absurd (not-suc-le-zero l); empty = λ b l. row-none b } in
+    let back = rows-forth events bytes rows tail whole
+    (λ b l. every-e width (λ a. rowWithin events a (rowAt rows a)) inside b l) width 0 k noRows refl none here in
     let legal : Legal (eventsIn bytes) bytes 0 (countIn bytes r) (earlierRows bytes r + 0) =
     subst (λ (x : ℕ). Legal (eventsIn bytes) bytes 0 (countIn bytes r) x) (sym (add-zero (earlierRows bytes r) ∙ hk))
-    (subst (λ (n : ℕ). Legal (eventsIn bytes) bytes 0 n k) (sym hc) (subst (λ (s : Set). Legal s bytes 0 (rowCount rows) k) (sym he) (back .1))) in (
-      (λ i. filled bytes noRows (hc i) (hk i)) ∙ back .0,
-      (λ j l. ap (judgedRow bytes (earlierRows bytes r)) (sym (zero-add j)) ∙ legal-done bytes (earlierRows bytes r) (countIn bytes r) 0 0 (λ i e. absurd (omega arith)) legal j l),
+    (subst (λ (n : ℕ). Legal (eventsIn bytes) bytes 0 n k) (sym hc)
+    (subst (λ (s : Set). Legal s bytes 0 (rowCount rows) k) (sym he) (back .1))) in (
+      (λ i. rowsFilled bytes noRows (hc i) (hk i)) ∙ rows-ext _ rows (length-rowsFilled bytes noRows (rowCount rows) k) many (back .0),
+      (λ j l.
+          ap (judgedRow bytes (earlierRows bytes r)) (sym (zero-add j))
+          ∙ legal-done bytes (earlierRows bytes r) (countIn bytes r) 0 0 (λ i e. absurd (omega arith)) legal j l),
     )
+
+-- relation r among the relations' rows
+relation-within : (tables : List ℕ) (n r : ℕ) → r < n
+    → (tail : List ℕ) × (relationsBytes tables n ≡ relationsBytes tables r ++ (relationBytes (tableAt tables r) ++ tail))
+unfolding relationsBytes
+relation-within tables zero r l = absurd (not-suc-le-zero l)
+relation-within tables (suc n) r l =
+    either (split (ltb r n))
+    (λ t.
+    let before = relation-within tables n r (ltb-true r n (T→true _ t)) in (
+      before .0 ++ relationBytes (tableAt tables n),
+      ap (λ (x : List ℕ). x ++ relationBytes (tableAt tables n)) (before .1) ∙ simp append-assoc,
+    ))
+    (λ f.
+    let high = ltb-false r n (F→false _ f) in
+    let same : n ≡ r = omega arith in (
+      [],
+      ap (λ (k : ℕ). relationsBytes tables k ++ relationBytes (tableAt tables k)) same
+          ∙ ap (λ (x : List ℕ). relationsBytes tables r ++ x) (sym (append-nil (relationBytes (tableAt tables r)))),
+    ))
 
 -- ---- the file of a graph
 
@@ -87,116 +111,110 @@ module _ (g : Graph) (machine : Machine g) (ok : judged g ≡ Done) where
   abbrev file : List ℕ
   file = bytesOf g
 
-  events-read : eventsIn file ≡ g .events
-  unfolding bytesOf openingBytes littleEndian
-  events-read = set-read file 4 (g .events) refl (machine .events)
+  -- the number of rows of a relation, and of those before it
+  abbrev count : ℕ → ℕ
+  count r = rowCount (tableAt (g .relations) r)
 
-  activities-read : activitiesIn file ≡ g .activities
-  unfolding bytesOf openingBytes
+  abbrev before : ℕ → ℕ
+  before r = rowsBefore (g .relations) r
+
+  events-read : eventsIn file ≡ g .head .events
+  unfolding bytesOf headBytes littleEndian
+  events-read = set-read file 4 (g .head .events) refl (machine .events)
+
+  activities-read : activitiesIn file ≡ g .head .activities
+  unfolding bytesOf headBytes
   activities-read = refl
 
-  marking-read : markingIn file ≡ g .opening
-  unfolding bytesOf openingBytes markingBytes littleEndian
+  marking-read : markingIn file ≡ g .head .opening
+  unfolding bytesOf headBytes markingBytes littleEndian
   marking-read =
       (λ i.
-      markingOf (set-read file 12 (g .opening .executed) refl (machine .executed) i)
-      (set-read file 20 (g .opening .pending) refl (machine .pending) i)
-      (set-read file 28 (g .opening .included) refl (machine .included) i))
+      markingOf (set-read file 12 (g .head .opening .executed) refl (machine .executed) i)
+      (set-read file 20 (g .head .opening .pending) refl (machine .pending) i)
+      (set-read file 28 (g .head .opening .included) refl (machine .included) i))
+
+  within-read : T (graphWithin g)
+  within-read = judged-within g 0 ok
 
   head-read : Head file
-  unfolding bytesOf openingBytes opensWith _and_
+  unfolding bytesOf headBytes opensWith _and_
   head-read =
       record {
         opens = tt;
         few = judged-activities g 0 ok;
-        events = subst (λ (s : Set). T (within s (those (λ a. ltb a (g .activities))))) (sym events-read) (events-inside g (judged-within g 0 ok));
+        events = subst (λ (s : Set). T (within s (those (λ a. ltb a (g .head .activities))))) (sym events-read)
+            (events-inside g within-read);
         marking = subst (λ (s : Set). T (markingWithin s (markingIn file))) (sym events-read)
-            (subst (λ (m : Marking). T (markingWithin (g .events) m)) (sym marking-read) (opening-inside g (judged-within g 0 ok)));
+            (subst (λ (m : Marking). T (markingWithin (g .head .events) m)) (sym marking-read) (opening-inside g within-read));
       }
 
-  -- the numbers of rows, and the rows before each relation
-  abbrev c₀ : ℕ
-  c₀ = rowCount (g .conditions)
+  -- ---- the entries
 
-  abbrev c₁ : ℕ
-  c₁ = rowCount (g .responses)
+  few : (r : ℕ) → count r ≤ width
+  few r = count-le (tableAt (g .relations) r) width 0
 
-  abbrev c₂ : ℕ
-  c₂ = rowCount (g .includes)
+  before-few : (r : ℕ) → before r ≤ width * r
+  unfolding sumOf
+  before-few zero = omega arith
+  before-few (suc r) = omega (arith, few r, before-few r)
 
-  abbrev c₃ : ℕ
-  c₃ = rowCount (g .excludes)
+  count-part : (r : ℕ) → r < relationCount → part file (38 + 4 * r) 2 ≡ littleEndian 2 (count r)
+  unfolding bytesOf headBytes markingBytes entriesBytes littleEndian
+  count-part zero l = refl
+  count-part (suc zero) l = refl
+  count-part (suc (suc zero)) l = refl
+  count-part (suc (suc (suc zero))) l = refl
+  count-part (suc (suc (suc (suc r)))) l = absurd (omega arith)
 
-  few : (c₀ ≤ width) × (c₁ ≤ width) × (c₂ ≤ width) × (c₃ ≤ width)
-  few = (count-le (g .conditions) width 0, count-le (g .responses) width 0, count-le (g .includes) width 0, count-le (g .excludes) width 0)
+  offset-part : (r : ℕ) → r < relationCount → part file (36 + 4 * r) 2 ≡ littleEndian 2 (rowLength * before r)
+  unfolding bytesOf headBytes markingBytes entriesBytes littleEndian
+  offset-part zero l = refl
+  offset-part (suc zero) l = refl
+  offset-part (suc (suc zero)) l = refl
+  offset-part (suc (suc (suc zero))) l = refl
+  offset-part (suc (suc (suc (suc r)))) l = absurd (omega arith)
 
-  counts-read : (countIn file 0 ≡ c₀) × (countIn file 1 ≡ c₁) × (countIn file 2 ≡ c₂) × (countIn file 3 ≡ c₃)
-  unfolding bytesOf openingBytes markingBytes entriesBytes littleEndian
-  counts-read = (
-    number-read file 2 38 c₀ refl (omega (arith, few .0)),
-    number-read file 2 42 c₁ refl (omega (arith, few .1)),
-    number-read file 2 46 c₂ refl (omega (arith, few .2)),
-    number-read file 2 50 c₃ refl (omega (arith, few .3)),
-  )
+  count-read : (r : ℕ) → r < relationCount → countIn file r ≡ count r
+  count-read r l = number-read file 2 (38 + 4 * r) (count r) (count-part r l) (omega (arith, few r))
 
-  offsets-read : (offsetIn file 0 ≡ 0) × (offsetIn file 1 ≡ rowLength * c₀) × (offsetIn file 2 ≡ rowLength * (c₀ + c₁)) × (offsetIn file 3 ≡ rowLength * (c₀ + c₁ + c₂))
-  unfolding bytesOf openingBytes markingBytes entriesBytes littleEndian
-  offsets-read = (
-    number-read file 2 36 0 refl (lit< tt),
-    number-read file 2 40 (rowLength * c₀) refl (omega (arith, few .0)),
-    number-read file 2 44 (rowLength * (c₀ + c₁)) refl (omega (arith, few .0, few .1)),
-    number-read file 2 48 (rowLength * (c₀ + c₁ + c₂)) refl (omega (arith, few .0, few .1, few .2)),
-  )
+  offset-read : (r : ℕ) → r < relationCount → offsetIn file r ≡ rowLength * before r
+  offset-read r l = number-read file 2 (36 + 4 * r) (rowLength * before r) (offset-part r l) (omega (arith, before-few r))
 
-  earlier-read : (earlierRows file 0 ≡ 0) × (earlierRows file 1 ≡ c₀) × (earlierRows file 2 ≡ c₀ + c₁) × (earlierRows file 3 ≡ c₀ + c₁ + c₂) × (earlierRows file 4 ≡ c₀ + c₁ + c₂ + c₃)
-  unfolding earlierRows
-  earlier-read = let c = counts-read in (refl, omega arith, omega arith, omega arith, omega arith)
+  before-read : (r : ℕ) → r ≤ relationCount → earlierRows file r ≡ before r
+  before-read r l = sum-ext (countIn file) count r (λ k h. count-read k (omega arith))
 
-  -- where each relation's rows begin
-  abbrev head : List ℕ
-  head = openingBytes (g .activities) (g .events) (g .opening) ++ entriesBytes c₀ c₁ c₂ c₃
+  -- ---- the relations
 
-  head-length : length head ≡ headLength
-  head-length =
-      length-append (openingBytes (g .activities) (g .events) (g .opening)) (entriesBytes c₀ c₁ c₂ c₃)
-      ∙ omega (arith, length-opening (g .activities) (g .events) (g .opening), length-entries c₀ c₁ c₂ c₃)
+  abbrev front : List ℕ
+  front = headBytes (g .head) ++ entriesBytes (g .relations) relationCount
 
-  begins : (before rows tail : List ℕ) (k : ℕ) → file ≡ (head ++ before) ++ (relationBytes rows ++ tail) → length before ≡ rowLength * k
-      → drop (headLength + rowLength * k) file ≡ relationBytes rows ++ tail
-  begins before rows tail k e l =
-      ap (drop (headLength + rowLength * k)) e
-      ∙ drop-at (head ++ before) (relationBytes rows ++ tail) (headLength + rowLength * k) (length-append head before ∙ omega (arith, head-length))
+  begins : (r : ℕ) (tail : List ℕ)
+      → relationsBytes (g .relations) relationCount ≡ relationsBytes (g .relations) r ++ (relationBytes (tableAt (g .relations) r) ++ tail)
+      → drop (headLength + rowLength * before r) file ≡ relationBytes (tableAt (g .relations) r) ++ tail
+  unfolding bytesOf
+  begins r tail e =
+      let earlier = relationsBytes (g .relations) r in
+      let rest = relationBytes (tableAt (g .relations) r) ++ tail in
+      ap (drop (headLength + rowLength * before r)) (ap (λ (x : List ℕ). front ++ x) e ∙ sym (append-assoc front earlier rest))
+      ∙ drop-at (front ++ earlier) rest (headLength + rowLength * before r)
+      (simp length-append (omega
+      (arith, length-head (g .head), length-entries (g .relations) relationCount, length-relations (g .relations) r)))
 
-  conditions-read : (relationIn file 0 ≡ g .conditions) × ((j : ℕ) → j < countIn file 0 → judgedRow file (earlierRows file 0) j ≡ Done)
-  unfolding bytesOf relationsBytes
-  conditions-read =
-      relation-read (g .events) file (g .conditions) (relationBytes (g .responses) ++ (relationBytes (g .includes) ++ relationBytes (g .excludes))) 0 0
-      (machine .conditions) (rows-inside g (judged-within g 0 ok) .0) events-read (counts-read .0) (earlier-read .0)
-      (begins [] (g .conditions) _ 0 (simp append-assoc) refl)
+  table-length : (r : ℕ) → r < relationCount → length (tableAt (g .relations) r) ≡ width
+  table-length r l = length-table relationCount (g .relations) r (machine .many) l
 
-  responses-read : (relationIn file 1 ≡ g .responses) × ((j : ℕ) → j < countIn file 1 → judgedRow file (earlierRows file 1) j ≡ Done)
-  unfolding bytesOf relationsBytes
-  responses-read =
-      relation-read (g .events) file (g .responses) (relationBytes (g .includes) ++ relationBytes (g .excludes)) 1 c₀
-      (machine .responses) (rows-inside g (judged-within g 0 ok) .1) events-read (counts-read .1) (earlier-read .1)
-      (begins (relationBytes (g .conditions)) (g .responses) _ c₀ (simp append-assoc) (length-rows (g .conditions) width 0))
+  table-back : (r : ℕ) → r < relationCount
+      → (relationIn file r ≡ tableAt (g .relations) r) × ((j : ℕ) → j < countIn file r → judgedRow file (earlierRows file r) j ≡ Done)
+  table-back r l =
+      let here = relation-within (g .relations) relationCount r l in
+      relation-read (g .head .events) file (tableAt (g .relations) r) (here .0) r (before r) (table-length r l) (machine .rows r)
+      (rows-inside g within-read r l) events-read (count-read r l) (before-read r (omega arith)) (begins r (here .0) (here .1))
 
-  includes-read : (relationIn file 2 ≡ g .includes) × ((j : ℕ) → j < countIn file 2 → judgedRow file (earlierRows file 2) j ≡ Done)
-  unfolding bytesOf relationsBytes
-  includes-read =
-      relation-read (g .events) file (g .includes) (relationBytes (g .excludes)) 2 (c₀ + c₁)
-      (machine .includes) (rows-inside g (judged-within g 0 ok) .2) events-read (counts-read .2) (earlier-read .2)
-      (begins (relationBytes (g .conditions) ++ relationBytes (g .responses)) (g .includes) _ (c₀ + c₁) (simp append-assoc)
-      (simp length-append (omega (arith, length-rows (g .conditions) width 0, length-rows (g .responses) width 0))))
-
-  excludes-read : (relationIn file 3 ≡ g .excludes) × ((j : ℕ) → j < countIn file 3 → judgedRow file (earlierRows file 3) j ≡ Done)
-  unfolding bytesOf relationsBytes
-  excludes-read =
-      relation-read (g .events) file (g .excludes) [] 3 (c₀ + c₁ + c₂)
-      (machine .excludes) (rows-inside g (judged-within g 0 ok) .3) events-read (counts-read .3) (earlier-read .3)
-      (begins (relationBytes (g .conditions) ++ relationBytes (g .responses) ++ relationBytes (g .includes)) (g .excludes) [] (c₀ + c₁ + c₂)
-      (simp (append-assoc, append-nil))
-      (simp length-append (omega (arith, length-rows (g .conditions) width 0, length-rows (g .responses) width 0, length-rows (g .includes) width 0))))
+  relations-read : relationsIn file relationCount ≡ g .relations
+  relations-read =
+      tables-ext relationCount (relationsIn file relationCount) (g .relations) (length-relationsIn file relationCount) (machine .many)
+      (λ r l. table-read file relationCount r l (omega arith) ∙ table-back r l .0)
 
   -- ---- the file is accepted, and holds the graph
 
@@ -205,24 +223,11 @@ module _ (g : Graph) (machine : Machine g) (ok : judged g ≡ Done) where
       record {
         long = omega (arith, length-file g);
         head = done-head file head-read;
-        entry = entries;
-        end = omega (arith, length-file g, earlier-read .4);
-        row = rows;
+        entry = λ r l.
+            done-entry file r (omega (arith, few r, count-read r l)) (omega (arith, offset-read r l, before-read r (omega arith)));
+        end = omega (arith, length-file g, before-read relationCount (omega arith));
+        row = λ r l. table-back r l .1;
       }
-    where
-      entries : (r : ℕ) → r < relationCount → judgedEntry file r ≡ Done
-      entries zero l = done-entry file 0 (omega (arith, few .0, counts-read .0)) (omega (arith, offsets-read .0, earlier-read .0))
-      entries (suc zero) l = done-entry file 1 (omega (arith, few .1, counts-read .1)) (omega (arith, offsets-read .1, earlier-read .1))
-      entries (suc (suc zero)) l = done-entry file 2 (omega (arith, few .2, counts-read .2)) (omega (arith, offsets-read .2, earlier-read .2))
-      entries (suc (suc (suc zero))) l = done-entry file 3 (omega (arith, few .3, counts-read .3)) (omega (arith, offsets-read .3, earlier-read .3))
-      entries (suc (suc (suc (suc r)))) l = absurd (omega arith)
-
-      rows : (r : ℕ) → r < relationCount → (j : ℕ) → j < countIn file r → judgedRow file (earlierRows file r) j ≡ Done
-      rows zero l = conditions-read .1
-      rows (suc zero) l = responses-read .1
-      rows (suc (suc zero)) l = includes-read .1
-      rows (suc (suc (suc zero))) l = excludes-read .1
-      rows (suc (suc (suc (suc r)))) l = absurd (omega arith)
 
   pub file-done : judgedFile file ≡ Done
   file-done = acceptable file file-accepted
@@ -230,6 +235,4 @@ module _ (g : Graph) (machine : Machine g) (ok : judged g ≡ Done) where
   -- an acceptable graph, written and read again, is that graph
   pub graph-forth : graphIn file ≡ g
   unfolding graphIn
-  graph-forth =
-      (λ i.
-      graphOf (activities-read i) (events-read i) (marking-read i) (conditions-read .0 i) (responses-read .0 i) (includes-read .0 i) (excludes-read .0 i))
+  graph-forth = λ i. graphOf (headOf (activities-read i) (events-read i) (marking-read i)) (relations-read i)

@@ -16,7 +16,9 @@ use Rattle.engine.specs.Judged.{markingWithin}
 use Rattle.sets.specs.Sizes.{mostActivities}
 use Rattle.sets.specs.Files.{opensWith}
 use Rattle.engine.specs.declared.marking.Marking.{Marking}
-use Rattle.graphfile.specs.Layout.{letters, headLength, rowLength, relationCount, activitiesIn, eventsIn, markingIn, offsetIn, countIn, earlierRows, keyIn, rowIn, endOf}
+use Rattle.engine.specs.Relations.{relationCount}
+use Rattle.graphfile.specs.Layout.{letters, headLength, rowLength, activitiesIn, eventsIn, markingIn, offsetIn, countIn}
+use Rattle.graphfile.specs.Layout.{earlierRows, keyIn, rowIn, endOf}
 use Rattle.graphfile.specs.Refusals.{mostRows, judgedHead, judgedEntry, judgedEnd, rises, rowAnswer, judgedRow}
 
 -- ---- the end
@@ -31,11 +33,19 @@ module _ (bytes : List ℕ) (rows : ℕ) (e : rows ≡ earlierRows bytes relatio
 
   pub end-more : headLength + rowLength * rows ≤ length bytes → headLength + rowLength * rows < length bytes → WrongOffset ≡ judgedEnd bytes
   unfolding judgedEnd
-  end-more m l = rw (le-ltb (length bytes) (endOf bytes) (omega (arith, end-is)), lt-ltb (endOf bytes) (length bytes) (omega (arith, end-is)))
+  end-more m l = rw (
+    le-ltb (length bytes) (endOf bytes) (omega (arith, end-is)),
+    lt-ltb (endOf bytes) (length bytes)
+        (omega (arith, end-is)),
+  )
 
   pub end-right : headLength + rowLength * rows ≤ length bytes → length bytes ≤ headLength + rowLength * rows → Done ≡ judgedEnd bytes
   unfolding judgedEnd
-  end-right m l = rw (le-ltb (length bytes) (endOf bytes) (omega (arith, end-is)), le-ltb (endOf bytes) (length bytes) (omega (arith, end-is)))
+  end-right m l = rw (
+    le-ltb (length bytes) (endOf bytes) (omega (arith, end-is)),
+    le-ltb (endOf bytes) (length bytes)
+        (omega (arith, end-is)),
+  )
 
 pub ruleset ends = (end-short, end-more, end-right)
 
@@ -50,7 +60,11 @@ module _ (bytes : List ℕ) (r count : ℕ) (e : count ≡ countIn bytes r) wher
     pub entry-off : (offset ≡ rowLength * rows → ⊥) → WrongOffset ≡ judgedEntry bytes r
     unfolding judgedEntry non
     entry-off n =
-        rw (le-ltb mostRows (countIn bytes r) (omega arith), ne-eqb (offsetIn bytes r) (rowLength * earlierRows bytes r) (λ q. n (omega arith)))
+        rw (
+          le-ltb mostRows (countIn bytes r) (omega arith),
+          ne-eqb (offsetIn bytes r) (rowLength * earlierRows bytes r)
+              (λ q. n (omega arith)),
+        )
 
     pub entry-right : offset ≡ rowLength * rows → Done ≡ judgedEntry bytes r
     unfolding judgedEntry non
@@ -65,7 +79,8 @@ pub rises-first : (bytes : List ℕ) (first j : ℕ) → j ≡ 0 → true ≡ ri
 unfolding rises
 rises-first bytes first j e = ap (rises bytes first) (sym e)
 
-pub rises-next : (bytes : List ℕ) (first j before key : ℕ) → (j ≡ 0 → ⊥) → before ≡ keyIn bytes (first + j - 1) → key ≡ keyIn bytes (first + j)
+pub rises-next : (bytes : List ℕ) (first j before key : ℕ) → (j ≡ 0 → ⊥) → before ≡ keyIn bytes (first + j - 1)
+    → key ≡ keyIn bytes (first + j)
     → ltb before key ≡ rises bytes first j
 unfolding rises
 rises-next bytes first zero before key n e f = absurd (n refl)
@@ -101,7 +116,8 @@ module _ (events : Set) (key : ℕ) (row : Set) (above : Bool) (k : Bool) (hk : 
 pub ruleset row-by-row = (row-no-event, row-outside, row-empty, row-falls, row-right)
 
 -- row j of a relation, read part by part
-pub row-judged : (bytes : List ℕ) (first j key : ℕ) (events row : Set) (above : Bool) (a : Answer) → events ≡ eventsIn bytes → key ≡ keyIn bytes (first + j)
+pub row-judged : (bytes : List ℕ) (first j key : ℕ) (events row : Set) (above : Bool) (a : Answer) → events ≡ eventsIn bytes
+    → key ≡ keyIn bytes (first + j)
     → row ≡ rowIn bytes (first + j) → above ≡ rises bytes first j → a ≡ rowAnswer events key row above → a ≡ judgedRow bytes first j
 row-judged bytes first j key events row above a he hk hr ha h = h ∙ (λ i. rowAnswer (he i) (hk i) (hr i) (ha i))
 
@@ -112,7 +128,8 @@ abbrev headAnswer : Bool → Bool → Bool → Bool → Answer
 headAnswer right above low within = when non right then WrongLetters else when above then AboveLimit else when non low then Outside else when non within then Outside else Done
 
 module _ (bytes : List ℕ) (l : Bool) (hl : l ≡ opensWith letters bytes) where
-  head-is : (r a e m : Bool) → l ≡ r → ltb mostActivities (activitiesIn bytes) ≡ a → within (eventsIn bytes) (those (λ x. ltb x (activitiesIn bytes))) ≡ e
+  head-is : (r a e m : Bool) → l ≡ r → ltb mostActivities (activitiesIn bytes) ≡ a
+      → within (eventsIn bytes) (those (λ x. ltb x (activitiesIn bytes))) ≡ e
       → markingWithin (eventsIn bytes) (markingIn bytes) ≡ m → headAnswer r a e m ≡ judgedHead bytes
   unfolding judgedHead
   head-is r a e m pl pa pe pm = λ i. headAnswer ((sym pl ∙ hl) i) (sym pa i) (sym pe i) (sym pm i)
@@ -126,15 +143,18 @@ module _ (bytes : List ℕ) (l : Bool) (hl : l ≡ opensWith letters bytes) wher
     unfolding non
     head-above h = head-is true true _ _ (not-false l nl) (lt-ltb mostActivities (activitiesIn bytes) h) refl refl
 
-    module _ (na : activitiesIn bytes ≤ mostActivities) (events low : Set) (t : Bool) (he : events ≡ eventsIn bytes) (hb : low ≡ those (λ x. ltb x (activitiesIn bytes))) (ht : t ≡ within events low) where
+    module _ (na : activitiesIn bytes ≤ mostActivities) (events low : Set) (t : Bool) (he : events ≡ eventsIn bytes) (hb : low
+        ≡ those (λ x. ltb x (activitiesIn bytes))) (ht : t ≡ within events low) where
       low-is : (b : Bool) → t ≡ b → within (eventsIn bytes) (those (λ x. ltb x (activitiesIn bytes))) ≡ b
       low-is b e = sym (ap₂ within he hb) ∙ sym ht ∙ e
 
       pub head-events : not t ≡ true → Outside ≡ judgedHead bytes
       unfolding non
-      head-events n = head-is true false false _ (not-false l nl) (le-ltb mostActivities (activitiesIn bytes) na) (low-is false (not-true t n)) refl
+      head-events n = head-is true false false _ (not-false l nl) (le-ltb mostActivities (activitiesIn bytes) na)
+          (low-is false (not-true t n)) refl
 
-      module _ (nt : not t ≡ false) (marking : Marking) (m : Bool) (hk : marking ≡ markingIn bytes) (hm : m ≡ markingWithin events marking) where
+      module _ (nt : not t ≡ false) (marking : Marking) (m : Bool) (hk : marking ≡ markingIn bytes) (hm : m
+          ≡ markingWithin events marking) where
         marked : (b : Bool) → m ≡ b → headAnswer true false true b ≡ judgedHead bytes
         marked b e =
             head-is true false true b (not-false l nl) (le-ltb mostActivities (activitiesIn bytes) na) (low-is true (not-false t nt))

@@ -31,7 +31,8 @@ length-marking : (m : Marking) → length (markingBytes m) ≡ 24
 unfolding markingBytes littleEndian
 length-marking m = refl
 
-pub into-long : (m : Marking) (bytes bytes′ : List ℕ) → 24 ≤ length bytes → bytes′ ≡ sets bytes 0 (markingBytes m) → bytes′ ≡ markingInto m bytes
+pub into-long : (m : Marking) (bytes bytes′ : List ℕ) → 24 ≤ length bytes → bytes′ ≡ sets bytes 0 (markingBytes m)
+    → bytes′ ≡ markingInto m bytes
 unfolding markingInto markingBytes littleEndian
 into-long m bytes bytes′ h e =
     e

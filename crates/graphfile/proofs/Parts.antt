@@ -7,9 +7,11 @@ use native.Mathlib.Omega.{arith}
 use lib.ListN.{length, getD, take, drop, length-drop}
 use lib.Seq.{drop-cons, take-add, drop-drop, take-all, length-take-le}
 use Rattle.sets.specs.Files.{littleEndian, valueOf, numberAt}
-use Rattle.graphfile.specs.Layout.{headLength, rowLength, keyIn, rowIn}
+use Rattle.sets.specs.declared.set.Set.{Set}
+use Rattle.sets.proofs.Members.{Whole, whole-fits, those-mem}
+use Rattle.graphfile.specs.Layout.{headLength, rowLength, setAt, keyIn, rowIn}
 use Rattle.graphfile.specs.Writing.{setBytes}
-use Rattle.graphfile.proofs.Codec.{Bytes, bytes-drop, bytes-take, number-value, value-below}
+use Rattle.graphfile.proofs.Codec.{Bytes, bytes-drop, bytes-take, value-number, number-value, value-below}
 
 abbrev pub part : List ℕ → ℕ → ℕ → List ℕ
 part l at n = take n (drop at l)
@@ -27,6 +29,21 @@ part-whole l n e = take-all n l (omega arith)
 pub part-one : (l : List ℕ) (at : ℕ) → at < length l → (getD l at 0 ∷ []) ≡ part l at 1
 part-one l at h = ap (take 1) (sym (drop-cons l at 0 h))
 
+-- ---- numbers and sets, read where they were written
+
+pub length-set : (s : Set) → length (setBytes s) ≡ 8
+unfolding littleEndian
+length-set s = refl
+
+pub number-read : (l : List ℕ) (n at x : ℕ) → part l at n ≡ littleEndian n x → x < 256 ^ n → numberAt n l at ≡ x
+unfolding numberAt
+number-read l n at x e h = ap valueOf e ∙ value-number n x h
+
+pub set-read : (l : List ℕ) (at : ℕ) (s : Set) → part l at 8 ≡ setBytes s → Whole s → setAt l at ≡ s
+set-read l at s e w = ap (λ (n : ℕ). record { bits = n }) (number-read l 8 at (s .bits) e (whole-fits s w))
+
+-- ---- what was read, put down again
+
 module _ (l : List ℕ) (bytes : Bytes l) where
   -- a number that was read, put down again
   pub part-number : (n at : ℕ) → at + n ≤ length l → littleEndian n (numberAt n l at) ≡ part l at n
@@ -38,10 +55,16 @@ module _ (l : List ℕ) (bytes : Bytes l) where
   pub number-below : (n at : ℕ) → at + n ≤ length l → numberAt n l at < 256 ^ n
   unfolding numberAt
   number-below n at h =
-      subst (λ (k : ℕ). valueOf (part l at n) < 256 ^ k) (length-part l at n h) (value-below (part l at n) (bytes-take (drop at l) n (bytes-drop l at bytes)))
+      subst (λ (k : ℕ). valueOf (part l at n) < 256 ^ k) (length-part l at n h)
+      (value-below (part l at n) (bytes-take (drop at l) n (bytes-drop l at bytes)))
+
+  -- a set that was read is one of the code's
+  pub set-whole : (at : ℕ) → at + 8 ≤ length l → Whole (setAt l at)
+  set-whole at h = those-mem (setAt l at) (number-below 8 at h)
 
   -- a row that was read, put down again
-  pub part-row : (k : ℕ) → headLength + rowLength * k + rowLength ≤ length l → (keyIn l k ∷ setBytes (rowIn l k)) ≡ part l (headLength + rowLength * k) rowLength
+  pub part-row : (k : ℕ) → headLength + rowLength * k + rowLength ≤ length l
+      → (keyIn l k ∷ setBytes (rowIn l k)) ≡ part l (headLength + rowLength * k) rowLength
   part-row k h =
       meet l (keyIn l k ∷ []) (setBytes (rowIn l k)) (headLength + rowLength * k) 1 (headLength + rowLength * k + 1) 8 refl
       (part-one l (headLength + rowLength * k) (omega arith)) (part-number 8 (headLength + rowLength * k + 1) (omega arith))

@@ -9,46 +9,55 @@ use lib.ListN.{length}
 use Rattle.sets.specs.declared.set.Set.{Set}
 use Rattle.engine.specs.declared.marking.Marking.{Marking}
 use Rattle.engine.specs.Markings.{markingOf}
-use Rattle.graphfile.specs.Layout.{headLength, rowLength, relationCount, setAt, countIn, earlierRows, markingAt, endOf}
+use Rattle.engine.specs.Relations.{relationCount}
+use Rattle.graphfile.specs.Layout.{headLength, rowLength, setAt, countIn, sumOf, earlierRows, markingAt, endOf}
 
 -- ---- sets and rows
 
 pub set-is : (x y : ℕ) → x ≡ y → _≡_ {A = Set} (record { bits = x }) (record { bits = y })
 set-is x y e = ap (λ (n : ℕ). record { bits = n }) e
 
-pub marking-is : (bytes : List ℕ) (at : ℕ) (x p i : Set) (m : Marking) → x ≡ setAt bytes at → p ≡ setAt bytes (at + 8) → i ≡ setAt bytes (at + 16)
+pub marking-is : (bytes : List ℕ) (at : ℕ) (x p i : Set) (m : Marking) → x ≡ setAt bytes at → p ≡ setAt bytes (at + 8)
+    → i ≡ setAt bytes (at + 16)
     → m ≡ markingOf x p i → m ≡ markingAt bytes at
 marking-is bytes at x p i m hx hp hi e = e ∙ λ k. markingOf (hx k) (hp k) (hi k)
 
-pub earlier-none : (bytes : List ℕ) → 0 ≡ earlierRows bytes 0
-unfolding earlierRows
-earlier-none bytes = refl
+-- ---- a sum: what a loop adds up, and that it only grows
 
-pub earlier-turn : (bytes : List ℕ) (rows n i : ℕ) → rows ≡ earlierRows bytes i → n ≡ countIn bytes i → rows + n ≡ earlierRows bytes (i + 1)
-unfolding earlierRows
-earlier-turn bytes rows n i e f = ap₂ (λ (x y : ℕ). x + y) e f ∙ ap (earlierRows bytes) (sym (add-one i))
+module _ (f : ℕ → ℕ) where
+  pub sum-none : 0 ≡ sumOf f 0
+  unfolding sumOf
+  sum-none = refl
 
-pub earlier-all : (bytes : List ℕ) (rows r i : ℕ) → i ≤ r → r ≤ i → rows ≡ earlierRows bytes i → rows ≡ earlierRows bytes r
-earlier-all bytes rows r i a b e = let same : i ≡ r = omega arith in e ∙ ap (earlierRows bytes) same
+  pub sum-turn : (sum n i : ℕ) → sum ≡ sumOf f i → n ≡ f i → sum + n ≡ sumOf f (i + 1)
+  unfolding sumOf
+  sum-turn sum n i e h = ap₂ (λ (x y : ℕ). x + y) e h ∙ ap (sumOf f) (sym (add-one i))
 
-pub ruleset counting = (earlier-none, earlier-turn, earlier-all)
+  pub sum-all : (sum r i : ℕ) → i ≤ r → r ≤ i → sum ≡ sumOf f i → sum ≡ sumOf f r
+  sum-all sum r i a b e = let same : i ≡ r = omega arith in e ∙ ap (sumOf f) same
+
+  pub sum-le : (n r : ℕ) → sumOf f r ≤ sumOf f (n + r)
+  unfolding sumOf
+  sum-le zero r = subst (λ (k : ℕ). sumOf f r ≤ sumOf f k) (sym (zero-add r)) (le-refl _)
+  sum-le (suc n) r =
+      let more : sumOf f (n + r) ≤ sumOf f (suc (n + r)) = omega arith in
+      subst (λ (k : ℕ). sumOf f r ≤ sumOf f k) (sym (suc-add n r)) (le-trans (sum-le n r) more)
+
+  -- what is added next is within any later sum
+  pub sum-room : (r n : ℕ) → r < n → sumOf f r + f r ≤ sumOf f n
+  unfolding sumOf
+  sum-room r n l =
+      let last : n - suc r + suc r ≡ n = omega arith in
+      subst (λ (k : ℕ). sumOf f (suc r) ≤ sumOf f k) last (sum-le (n - suc r) (suc r))
+
+pub ruleset counting = (sum-none, sum-turn, sum-all)
+
+pub sum-ext : (f g : ℕ → ℕ) (n : ℕ) → ((k : ℕ) → k < n → f k ≡ g k) → sumOf f n ≡ sumOf g n
+unfolding sumOf
+sum-ext f g zero e = refl
+sum-ext f g (suc n) e = ap₂ (λ (x y : ℕ). x + y) (sum-ext f g n (λ k l. e k (omega arith))) (e n (omega arith))
 
 -- a relation's rows end where the next one's begin, and that is at most where the last relation's end
-earlier-suc : (bytes : List ℕ) (r : ℕ) → earlierRows bytes r ≤ earlierRows bytes (suc r)
-unfolding earlierRows
-earlier-suc bytes r = omega arith
-
-earlier-le : (bytes : List ℕ) (n r : ℕ) → earlierRows bytes r ≤ earlierRows bytes (n + r)
-earlier-le bytes zero r = subst (λ (k : ℕ). earlierRows bytes r ≤ earlierRows bytes k) (sym (zero-add r)) (le-refl _)
-earlier-le bytes (suc n) r =
-    subst (λ (k : ℕ). earlierRows bytes r ≤ earlierRows bytes k) (sym (suc-add n r))
-    (le-trans (earlier-le bytes n r) (earlier-suc bytes (n + r)))
-
 pub rows-end : (bytes : List ℕ) (r first count : ℕ) → r < relationCount → endOf bytes ≤ length bytes
     → first ≡ earlierRows bytes r → count ≡ countIn bytes r → headLength + rowLength * (first + count) ≤ length bytes
-unfolding earlierRows
-rows-end bytes r first count l h e f =
-    let last : relationCount - suc r + suc r ≡ relationCount = omega arith in
-    let below : earlierRows bytes r + countIn bytes r ≤ earlierRows bytes relationCount =
-    subst (λ (k : ℕ). earlierRows bytes (suc r) ≤ earlierRows bytes k) last (earlier-le bytes (relationCount - suc r) (suc r)) in
-    omega arith
+rows-end bytes r first count l h e f = omega (arith, sum-room (countIn bytes) r relationCount l)

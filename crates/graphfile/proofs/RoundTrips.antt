@@ -4,25 +4,29 @@ use mathlib.Core.Bool.{Bool}
 use mathlib.Core.List.{List, [], _∷_, _++_}
 use Prim.Native.Nat.{ℕ, _+_, _*_, _≤_}
 use borrow.Author.Tests.{le-ltb}
-use lib.ListN.{length, take, drop, replicate}
+use lib.Dec.{eqb, ltb}
+use lib.ListN.{length, take, drop}
 use lib.Seq.{take-at}
-use Rattle.sets.specs.Tests.{_and_, non, when_then_else_}
-use Rattle.sets.specs.Members.{bit, everyBelow, isEmpty}
-use Rattle.sets.specs.Rows.{rowAt}
+use Rattle.sets.specs.Tests.{_and_, _or_, non, when_then_else_}
+use Rattle.sets.specs.Members.{bit, bitsOf, everyBelow, isEmpty, mem, those}
+use Rattle.sets.specs.Rows.{rowAt, listFrom, rowsOf}
+use Rattle.sets.specs.Tables.{tableAt, tablesOf}
 use Rattle.sets.specs.Answers.{isDone}
 use Rattle.sets.specs.declared.answer.Answer.{Answer}
 use Rattle.sets.specs.declared.answer.Answer.the-variants.{Done, BufferTooSmall}
 use Rattle.engine.specs.Markings.{openingOf}
-use Rattle.engine.specs.Relations.{graphOf, emptyGraph}
+use Rattle.engine.specs.Relations.{relationCount, headOf, graphOf, emptyGraph, tablesFrom}
 use Rattle.engine.specs.declared.graph.Graph.{Graph}
 use Rattle.engine.specs.Judged.{judged}
 use Rattle.graphfile.specs.declared.reader.Reading.{Reading}
 use Rattle.graphfile.specs.declared.writer.Written.{Written}
 use Rattle.sets.specs.Files.{littleEndian}
-use Rattle.graphfile.specs.Layout.{headLength, rowLength}
+use Rattle.graphfile.specs.Layout.{headLength, rowLength, sumOf}
 use Rattle.graphfile.specs.Refusals.{judgedFile}
 use Rattle.graphfile.specs.Held.{graphIn, readOf}
-use Rattle.graphfile.specs.Writing.{rowTotal, rowOf, rowsFor, rowsFrom, countFrom, entriesBytes, markingBytes, openingBytes, relationsBytes, bytesOf, judgedWrite, writtenOf, fileAfter}
+use Rattle.graphfile.specs.Writing.{rowsBefore, rowOf, rowsFor, rowsFrom, countFrom, entriesBytes, markingBytes, headBytes}
+use Rattle.graphfile.specs.Writing.{relationsBytes}
+use Rattle.graphfile.specs.Writing.{bytesOf, judgedWrite, writtenOf, fileAfter}
 use Rattle.graphfile.proofs.Codec.{Bytes}
 use Rattle.graphfile.proofs.Accepted.{accepted, done-then}
 use Rattle.graphfile.proofs.Stores.{length-file}
@@ -44,7 +48,7 @@ pub file-graph : (bytes : List ℕ) → Bytes bytes → judgedFile bytes ≡ Don
 file-graph bytes small ok = graph-back bytes small (accepted bytes ok)
 
 -- the length of a file: 52, and 9 for each row that is not empty
-pub file-length : (g : Graph) → length (bytesOf g) ≡ headLength + rowLength * rowTotal g
+pub file-length : (g : Graph) → length (bytesOf g) ≡ headLength + rowLength * rowsBefore (g .relations) relationCount
 file-length g = length-file g
 
 -- ---- a write that is done, and a read that is
@@ -94,16 +98,24 @@ read-then-written bytes before after r w small hr ok room hw ha =
     let same : bytesOf (graphIn bytes) ≡ bytes = file-round bytes small accept in
     let room′ = subst (λ (l : List ℕ). length l ≤ length before) (sym same) room in
     let legal = file-graph bytes small accept in (
-      hw ∙ ap (λ (g : Graph). writtenOf g (length before)) graph ∙ written (graphIn bytes) before legal room′ ∙ ap (λ (l : List ℕ). record { answer = Done; length = length l }) same,
-      ha ∙ ap (λ (g : Graph). fileAfter g before) graph ∙ buffer (graphIn bytes) before legal room′ ∙ ap (λ (l : List ℕ). l ++ drop (length l) before) same,
+      hw ∙ ap (λ (g : Graph). writtenOf g (length before)) graph ∙ written (graphIn bytes) before legal room′
+          ∙ ap (λ (l : List ℕ). record { answer = Done; length = length l }) same,
+      ha ∙ ap (λ (g : Graph). fileAfter g before) graph ∙ buffer (graphIn bytes) before legal room′
+          ∙ ap (λ (l : List ℕ). l ++ drop (length l) before) same,
     )
 
 -- ---- 01's graph G: C 0 1, 0 2; R 0 2, 1 2; I 0 1; E 0 0, 1 1, 2 1, 2 2
 
 abbrev pub exampleG : Graph
 exampleG =
-    graphOf 3 (record { bits = 7 }) (openingOf (record { bits = 7 }))
-    (0 ∷ 1 ∷ 1 ∷ replicate 61 0) (4 ∷ 4 ∷ replicate 62 0) (2 ∷ replicate 63 0) (1 ∷ 2 ∷ 6 ∷ replicate 61 0)
+    graphOf (headOf 3 (those (λ a. ltb a 3)) (openingOf (those (λ a. ltb a 3))))
+    (tablesFrom
+    (record {
+      conditions = λ s t. eqb s 0 and (eqb t 1 or eqb t 2);
+      responses = λ s t. (eqb s 0 or eqb s 1) and eqb t 2;
+      includes = λ s t. eqb s 0 and eqb t 1;
+      excludes = λ s t. ltb s 3 and eqb s t or eqb s 2 and eqb t 1;
+    }))
 
 abbrev pub fileOfG : List ℕ
 fileOfG =
@@ -127,5 +139,6 @@ fileOfG =
     ∷ []
 
 pub file-of-G : (bytesOf exampleG ≡ fileOfG) × (length fileOfG ≡ 124)
-unfolding bytesOf openingBytes markingBytes entriesBytes relationsBytes rowsFrom countFrom rowOf rowsFor littleEndian rowAt isEmpty everyBelow bit non _and_
+unfolding bytesOf headBytes markingBytes entriesBytes relationsBytes sumOf rowsFrom countFrom rowOf rowsFor littleEndian
+    rowAt tableAt tablesOf rowsOf listFrom isEmpty everyBelow bit bitsOf mem those non _and_ _or_
 file-of-G = (refl, refl)

@@ -32,7 +32,8 @@ module _ (s : Set) (e : Bool) (h : e ≡ isEmpty s) where
   unfolding rowOf
   row-none out at a t = ap (λ (b : Bool). sets out at (when b then [] else a ∷ setBytes s)) (sym t ∙ h)
 
-  pub row-one : (out out′ : List ℕ) (at a : ℕ) → e ≡ false → out′ ≡ sets (set out at a) (at + 1) (littleEndian 8 (s .bits)) → out′ ≡ sets out at (rowOf a s)
+  pub row-one : (out out′ : List ℕ) (at a : ℕ) → e ≡ false → out′ ≡ sets (set out at a) (at + 1) (littleEndian 8 (s .bits))
+      → out′ ≡ sets out at (rowOf a s)
   unfolding rowOf
   row-one out out′ at a t f =
       f
@@ -60,14 +61,17 @@ module _ (rows : List ℕ) (a : ℕ) (l : a < width) where
 
   count-step : countFrom rows (width - a) a ≡ rowsFor (rowAt rows a) + countFrom rows (width - (a + 1)) (a + 1)
   unfolding countFrom
-  count-step = ap (λ (n : ℕ). countFrom rows n a) left ∙ ap (λ (b : ℕ). rowsFor (rowAt rows a) + countFrom rows (width - (a + 1)) b) (sym (add-one a))
+  count-step = ap (λ (n : ℕ). countFrom rows n a) left
+      ∙ ap (λ (b : ℕ). rowsFor (rowAt rows a) + countFrom rows (width - (a + 1)) b) (sym (add-one a))
 
   rows-step : rowsFrom rows (width - a) a ≡ rowOf a (rowAt rows a) ++ rowsFrom rows (width - (a + 1)) (a + 1)
   unfolding rowsFrom
-  rows-step = ap (λ (n : ℕ). rowsFrom rows n a) left ∙ ap (λ (b : ℕ). rowOf a (rowAt rows a) ++ rowsFrom rows (width - (a + 1)) b) (sym (add-one a))
+  rows-step = ap (λ (n : ℕ). rowsFrom rows n a) left
+      ∙ ap (λ (b : ℕ). rowOf a (rowAt rows a) ++ rowsFrom rows (width - (a + 1)) b) (sym (add-one a))
 
   module _ (s : Set) (h : s ≡ rowAt rows a) where
-    pub count-turn : (n k whole : ℕ) → n + countFrom rows (width - a) a ≡ whole → k ≡ rowsFor s → n + k + countFrom rows (width - (a + 1)) (a + 1) ≡ whole
+    pub count-turn : (n k whole : ℕ) → n + countFrom rows (width - a) a ≡ whole → k ≡ rowsFor s
+        → n + k + countFrom rows (width - (a + 1)) (a + 1) ≡ whole
     count-turn n k whole e f = let g : k ≡ rowsFor (rowAt rows a) = f ∙ ap rowsFor h in omega (arith, count-step)
 
     -- the place after the row, and what room the rows from here on need
@@ -75,7 +79,8 @@ module _ (rows : List ℕ) (a : ℕ) (l : a < width) where
         → next′ + rowLength * countFrom rows (width - (a + 1)) (a + 1) ≡ end
     place-turn next next′ end e f = omega (arith, count-step, ap rowsFor h)
 
-    pub place-room : (next end : ℕ) (out out₀ : List ℕ) → next + rowLength * countFrom rows (width - a) a ≡ end → end ≤ length out₀ → length out ≡ length out₀
+    pub place-room : (next end : ℕ) (out out₀ : List ℕ) → next + rowLength * countFrom rows (width - a) a ≡ end → end ≤ length out₀
+        → length out ≡ length out₀
         → next + rowLength * rowsFor s ≤ length out
     place-room next end out out₀ e f g = omega (arith, count-step, ap rowsFor h)
 

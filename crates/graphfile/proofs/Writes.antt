@@ -14,10 +14,11 @@ use Rattle.sets.specs.Answers.{isDone}
 use Rattle.sets.specs.declared.answer.Answer.{Answer}
 use Rattle.sets.specs.declared.answer.Answer.the-variants.{Done, BufferTooSmall}
 use Rattle.engine.specs.Judged.{judged}
+use Rattle.engine.specs.Relations.{relationCount}
 use Rattle.engine.specs.declared.graph.Graph.{Graph}
 use Rattle.graphfile.specs.declared.writer.Written.{Written}
 use Rattle.graphfile.specs.Layout.{headLength, rowLength}
-use Rattle.graphfile.specs.Writing.{rowTotal, bytesOf, judgedWrite, writtenOf, fileAfter}
+use Rattle.graphfile.specs.Writing.{rowsBefore, bytesOf, judgedWrite, writtenOf, fileAfter}
 use Rattle.sets.proofs.Asking.{refused, passed, gone-on}
 use Rattle.graphfile.proofs.Stores.{length-file}
 
@@ -45,9 +46,12 @@ module _ (g : Graph) (out : List ℕ) (a : Answer) (d : Bool) (e : a ≡ judged 
   pub refused-keeps : not d ≡ true → out ≡ fileAfter g out
   refused-keeps n = sym (buffer-is g out false (not-done n))
 
-  module _ (n : not d ≡ false) (len : ℕ) (hl : len ≡ headLength + rowLength * rowTotal g) where
+  module _ (n : not d ≡ false) (rows : ℕ) (hl : rows ≡ rowsBefore (g .relations) relationCount) where
+    abbrev len : ℕ
+    len = headLength + rowLength * rows
+
     file-len : len ≡ length (bytesOf g)
-    file-len = hl ∙ sym (length-file g)
+    file-len = ap (λ (n : ℕ). headLength + rowLength * n) hl ∙ sym (length-file g)
 
     space-asked : (b : Bool) → ltb (length out) (length (bytesOf g)) ≡ b → judgedWrite g (length out) ≡ when b then BufferTooSmall else Done
     unfolding judgedWrite
@@ -60,7 +64,8 @@ module _ (g : Graph) (out : List ℕ) (a : Answer) (d : Bool) (e : a ≡ judged 
     enough l = space-asked false (le-ltb (length out) (length (bytesOf g)) (omega (arith, file-len)))
 
     pub write-small : length out < len → _≡_ {A = Written} (record { answer = BufferTooSmall; length = 0 }) (writtenOf g (length out))
-    write-small l = ap (λ (x : Answer). record { answer = x; length = 0 }) (sym (small l)) ∙ sym (written-is g out false (ap isDone (small l)))
+    write-small l = ap (λ (x : Answer). record { answer = x; length = 0 }) (sym (small l))
+        ∙ sym (written-is g out false (ap isDone (small l)))
 
     pub small-keeps : length out < len → out ≡ fileAfter g out
     small-keeps l = sym (buffer-is g out false (ap isDone (small l)))

@@ -2,28 +2,31 @@
 use mathlib.Core.List.{List}
 use Prim.Native.Nat.{ℕ, zero, suc}
 use Rattle.sets.specs.Tests.{when_then_else_}
-use Rattle.sets.specs.Rows.{noRows, withRow}
+use Rattle.sets.specs.Tables.{noTables, withRowIn}
 use Rattle.sets.specs.Answers.{isDone}
-use Rattle.engine.specs.Relations.{graphOf, emptyGraph}
+use Rattle.engine.specs.Relations.{relationCount, graphOf, emptyGraph}
 use Rattle.engine.specs.declared.graph.Graph.{Graph}
 use Rattle.graphfile.specs.declared.reader.Reading.{Reading}
-use Rattle.graphfile.specs.Layout.{activitiesIn, eventsIn, markingIn, countIn, earlierRows, keyIn, rowIn}
+use Rattle.graphfile.specs.Layout.{headIn, countIn, earlierRows, keyIn, rowIn}
 use Rattle.graphfile.specs.Refusals.{judgedFile}
 
--- rows, with n rows of the file put into them, from row k on: the set at its key
-unfoldable pub filled : List ℕ → List ℕ → ℕ → ℕ → List ℕ
-filled bytes rows zero k = rows
-filled bytes rows (suc n) k = filled bytes (withRow rows (keyIn bytes k) (rowIn bytes k)) n (suc k)
+-- tables, with n rows of the file put into table r, from row k on: the set at its key
+unfoldable pub filled : List ℕ → List ℕ → ℕ → ℕ → ℕ → List ℕ
+filled bytes tables r zero k = tables
+filled bytes tables r (suc n) k = filled bytes (withRowIn tables r (keyIn bytes k) (rowIn bytes k)) r n (suc k)
 
--- the rows of relation r
-unfoldable pub relationIn : List ℕ → ℕ → List ℕ
-relationIn bytes r = filled bytes noRows (countIn bytes r) (earlierRows bytes r)
+-- the tables, where relation r has its rows too
+abbrev pub withRelation : List ℕ → List ℕ → ℕ → List ℕ
+withRelation bytes tables r = filled bytes tables r (countIn bytes r) (earlierRows bytes r)
+
+-- the tables, where the relations before r have their rows; all four where r is 4
+unfoldable pub relationsIn : List ℕ → ℕ → List ℕ
+relationsIn bytes zero = noTables relationCount
+relationsIn bytes (suc r) = withRelation bytes (relationsIn bytes r) r
 
 -- the graph of an accepted file
 unfoldable pub graphIn : List ℕ → Graph
-graphIn bytes =
-    graphOf (activitiesIn bytes) (eventsIn bytes) (markingIn bytes)
-    (relationIn bytes 0) (relationIn bytes 1) (relationIn bytes 2) (relationIn bytes 3)
+graphIn bytes = graphOf (headIn bytes) (relationsIn bytes relationCount)
 
 -- a read: the file's answer, and its graph; the empty graph where refused (01, "Nothing else")
 unfoldable pub readOf : List ℕ → Reading

@@ -4,7 +4,9 @@ use Prim.Native.Nat.{ℕ, zero, suc, _+_, _*_}
 use lib.ListN.{getD}
 use Rattle.sets.specs.declared.set.Set.{Set}
 use Rattle.engine.specs.declared.marking.Marking.{Marking}
+use Rattle.engine.specs.declared.graph.Head.{Head}
 use Rattle.engine.specs.Markings.{markingOf}
+use Rattle.engine.specs.Relations.{relationCount, headOf}
 use Rattle.sets.specs.Files.{numberAt}
 
 -- the two letters and the edition
@@ -18,10 +20,6 @@ headLength = 52
 -- a key, and a set of 8 bytes
 abbrev pub rowLength : ℕ
 rowLength = 9
-
--- conditions, responses, includes, excludes, numbered from 0
-abbrev pub relationCount : ℕ
-relationCount = 4
 
 -- A
 abbrev pub activitiesIn : List ℕ → ℕ
@@ -41,6 +39,10 @@ markingAt bytes at = markingOf (setAt bytes at) (setAt bytes (at + 8)) (setAt by
 abbrev pub markingIn : List ℕ → Marking
 markingIn bytes = markingAt bytes 12
 
+-- A, the events and the marking
+abbrev pub headIn : List ℕ → Head
+headIn bytes = headOf (activitiesIn bytes) (eventsIn bytes) (markingIn bytes)
+
 -- entry r: an offset, then the number of rows
 abbrev pub offsetIn : List ℕ → ℕ → ℕ
 offsetIn bytes r = numberAt 2 bytes (36 + 4 * r)
@@ -48,10 +50,14 @@ offsetIn bytes r = numberAt 2 bytes (36 + 4 * r)
 abbrev pub countIn : List ℕ → ℕ → ℕ
 countIn bytes r = numberAt 2 bytes (38 + 4 * r)
 
+-- f 0 + f 1 + .. : n numbers
+unfoldable pub sumOf : (ℕ → ℕ) → ℕ → ℕ
+sumOf f zero = 0
+sumOf f (suc n) = sumOf f n + f n
+
 -- the rows of the relations before r; of all four where r is 4
-unfoldable pub earlierRows : List ℕ → ℕ → ℕ
-earlierRows bytes zero = 0
-earlierRows bytes (suc r) = earlierRows bytes r + countIn bytes r
+abbrev pub earlierRows : List ℕ → ℕ → ℕ
+earlierRows bytes r = sumOf (countIn bytes) r
 
 -- row k of the file, counted over the four relations: a key, then a set
 abbrev pub keyIn : List ℕ → ℕ → ℕ

@@ -6,16 +6,19 @@ use lib.ListN.{length, drop}
 use Rattle.sets.specs.Tests.{when_then_else_}
 use Rattle.sets.specs.Members.{width, isEmpty}
 use Rattle.sets.specs.Rows.{rowAt}
+use Rattle.sets.specs.Tables.{tableAt}
 use Rattle.sets.specs.Answers.{isDone, thenAsk}
 use Rattle.sets.specs.declared.set.Set.{Set}
 use Rattle.sets.specs.declared.answer.Answer.{Answer}
 use Rattle.sets.specs.declared.answer.Answer.the-variants.{Done, BufferTooSmall}
 use Rattle.engine.specs.declared.marking.Marking.{Marking}
+use Rattle.engine.specs.declared.graph.Head.{Head}
 use Rattle.engine.specs.declared.graph.Graph.{Graph}
+use Rattle.engine.specs.Relations.{relationCount}
 use Rattle.engine.specs.Judged.{judged}
 use Rattle.graphfile.specs.declared.writer.Written.{Written}
 use Rattle.sets.specs.Files.{littleEndian}
-use Rattle.graphfile.specs.Layout.{letters, rowLength}
+use Rattle.graphfile.specs.Layout.{letters, rowLength, sumOf}
 
 abbrev pub setBytes : Set → List ℕ
 setBytes s = littleEndian 8 (s .bits)
@@ -43,36 +46,35 @@ relationBytes rows = rowsFrom rows width 0
 abbrev pub rowCount : List ℕ → ℕ
 rowCount rows = countFrom rows width 0
 
--- how many rows the file has
-abbrev pub rowTotal : Graph → ℕ
-rowTotal g = rowCount (g .conditions) + rowCount (g .responses) + rowCount (g .includes) + rowCount (g .excludes)
+-- how many rows the relations before r have; all that the file has where r is 4
+abbrev pub rowsBefore : List ℕ → ℕ → ℕ
+rowsBefore tables r = sumOf (λ k. rowCount (tableAt tables k)) r
 
 -- an entry: 9 times the earlier rows, and the number of rows
 abbrev pub entryBytes : ℕ → ℕ → List ℕ
 entryBytes earlier count = littleEndian 2 (rowLength * earlier) ++ littleEndian 2 count
 
--- the four entries, of relations with so many rows
-unfoldable pub entriesBytes : ℕ → ℕ → ℕ → ℕ → List ℕ
-entriesBytes c r i e = entryBytes 0 c ++ entryBytes c r ++ entryBytes (c + r) i ++ entryBytes (c + r + i) e
+-- the entries of the relations before r
+unfoldable pub entriesBytes : List ℕ → ℕ → List ℕ
+entriesBytes tables zero = []
+entriesBytes tables (suc r) = entriesBytes tables r ++ entryBytes (rowsBefore tables r) (rowCount (tableAt tables r))
+
+-- the rows of the relations before r
+unfoldable pub relationsBytes : List ℕ → ℕ → List ℕ
+relationsBytes tables zero = []
+relationsBytes tables (suc r) = relationsBytes tables r ++ relationBytes (tableAt tables r)
 
 -- executed, pending, included
 unfoldable pub markingBytes : Marking → List ℕ
 markingBytes m = setBytes (m .executed) ++ setBytes (m .pending) ++ setBytes (m .included)
 
 -- the letters, the edition, A and the four sets
-unfoldable pub openingBytes : ℕ → Set → Marking → List ℕ
-openingBytes activities events m = letters ++ (activities ∷ []) ++ setBytes events ++ markingBytes m
-
--- the rows of the four relations
-unfoldable pub relationsBytes : List ℕ → List ℕ → List ℕ → List ℕ → List ℕ
-relationsBytes c r i e = relationBytes c ++ relationBytes r ++ relationBytes i ++ relationBytes e
+unfoldable pub headBytes : Head → List ℕ
+headBytes h = letters ++ (h .activities ∷ []) ++ setBytes (h .events) ++ markingBytes (h .opening)
 
 -- the whole file
 unfoldable pub bytesOf : Graph → List ℕ
-bytesOf g =
-    openingBytes (g .activities) (g .events) (g .opening)
-    ++ entriesBytes (rowCount (g .conditions)) (rowCount (g .responses)) (rowCount (g .includes)) (rowCount (g .excludes))
-    ++ relationsBytes (g .conditions) (g .responses) (g .includes) (g .excludes)
+bytesOf g = headBytes (g .head) ++ entriesBytes (g .relations) relationCount ++ relationsBytes (g .relations) relationCount
 
 -- a write into so many bytes: 3 and 5 for the graph, then 7
 unfoldable pub judgedWrite : Graph → ℕ → Answer

@@ -2,9 +2,12 @@
 ghost use mathlib.Core.Path.{_≡_};
 ghost use Prim.Native.Nat.{_+_, _*_, _≤_, _<_};
 ghost use lib.ListN.{length};
-ghost use Rattle.graphfile.specs.Layout.{headLength, rowLength, relationCount, setAt, markingAt, markingIn, offsetIn, countIn, earlierRows, keyIn, rowIn};
+ghost use Rattle.graphfile.specs.Layout.{headLength, rowLength, setAt, markingAt, markingIn, headIn, offsetIn, countIn, earlierRows, keyIn, rowIn};
+ghost use Rattle.engine.specs.Relations.{relationCount};
 use crate::number::number_at;
+use engine::Head;
 use engine::Marking;
+use engine::graph::KINDS;
 use sets::Set;
 
 // The two letters and the edition.
@@ -17,7 +20,7 @@ pub const HEAD: usize = 52;
 pub const ROW: usize = 9;
 
 // How many relations: conditions, responses, includes, excludes.
-pub const RELATIONS: usize = 4;
+pub const RELATIONS: usize = KINDS as usize;
 
 // Where the events stand, and the marking: executed, pending, included.
 pub const EVENTS: usize = 4;
@@ -57,6 +60,18 @@ pub(crate) fn marking_in(bytes: &[u8]) -> Marking
     ensures { λ r. ⌜ r ≡ markingIn (now (bytes .entry)) ⌝ }
 {
     marking_at(bytes, EXECUTED)
+}
+
+// A, the events and the marking.
+pub(crate) fn head_in(bytes: &[u8]) -> Head
+    requires { ⌜ headLength ≤ length (now bytes) ⌝ }
+    ensures { λ r. ⌜ r ≡ headIn (now (bytes .entry)) ⌝ }
+{
+    Head {
+        activities: bytes[3],
+        events: set_at(bytes, EVENTS),
+        opening: marking_in(bytes),
+    }
 }
 
 pub(crate) fn offset_in(bytes: &[u8], r: usize) -> usize

@@ -2,7 +2,8 @@
 ghost use mathlib.Core.Path.{_≡_};
 ghost use Prim.Native.Nat.{_+_, _*_, _≤_, _<_};
 ghost use lib.ListN.{length};
-ghost use Rattle.graphfile.specs.Layout.{headLength, rowLength, relationCount};
+ghost use Rattle.graphfile.specs.Layout.{headLength, rowLength};
+ghost use Rattle.engine.specs.Relations.{relationCount};
 ghost use Rattle.sets.specs.Answers.{firstRefusal};
 ghost use Rattle.graphfile.specs.Refusals.{judgedHead, judgedEntry, judgedEnd, judgedBeforeRows, rises, rowAnswer};
 use crate::layout;

@@ -4,19 +4,24 @@ ghost use mathlib.Core.List.{[], _∷_, _++_};
 ghost use Prim.Native.Nat.{_+_, _*_, _≤_};
 ghost use lib.ListN.{length};
 ghost use lib.Seq.{sets};
-ghost use Rattle.engine.specs.Relations.{graphOf};
+ghost use Rattle.sets.specs.Members.{width};
+ghost use Rattle.sets.specs.Tables.{tableAt};
+ghost use Rattle.engine.specs.Relations.{relationCount, graphOf};
 ghost use Rattle.graphfile.specs.Layout.{letters, headLength, rowLength};
-ghost use Rattle.graphfile.specs.Writing.{rowsFor, rowOf, rowCount, entryBytes, entriesBytes, markingBytes, openingBytes, relationBytes, relationsBytes, bytesOf, writtenOf, fileAfter};
+ghost use Rattle.graphfile.specs.Writing.{rowsFor, rowOf, rowCount, rowsBefore, relationBytes};
+ghost use Rattle.graphfile.specs.Writing.{entryBytes, entriesBytes, markingBytes, headBytes, relationsBytes, bytesOf, writtenOf, fileAfter};
 use crate::layout;
 use crate::number::put_number;
 use engine::Graph;
+use engine::Head;
 use engine::Marking;
+use engine::Relations;
+use engine::graph::KINDS;
 use engine::judge::judge_for;
 use sets::Activity;
 use sets::Answer;
-use sets::Rows;
 use sets::Set;
-use sets::rows;
+use sets::tables;
 
 // What a write gives: the answer, and the file's length; 0 where it is refused.
 pub struct Written {
@@ -35,18 +40,32 @@ fn rows_for(s: Set) -> usize
     1
 }
 
-// How many rows of a relation are not empty.
-fn row_count(rows: &Rows) -> usize
-    ensures { λ n. ⌜ n ≡ rowCount (now (rows .entry)) ⌝ }
-    ensures { λ n. ⌜ n ≤ 64 ⌝ }
+// How many rows of relation r are not empty.
+fn row_count(relations: &Relations, r: u8) -> usize
+    ensures { λ n. ⌜ n ≡ rowCount (tableAt (now (relations .entry)) r) ⌝ }
+    ensures { λ n. ⌜ n ≤ width ⌝ }
 {
     let mut n = 0;
     let mut a: u8 = 0;
     while a < Activity::LIMIT {
-        n += rows_for(rows::row(rows, Activity(a)));
+        n += rows_for(tables::row(relations, r, Activity(a)));
         a += 1;
     }
     n
+}
+
+// How many rows the file has.
+fn row_total(relations: &Relations) -> usize
+    ensures { λ n. ⌜ n ≡ rowsBefore (now (relations .entry)) relationCount ⌝ }
+    ensures { λ n. ⌜ n ≤ width * relationCount ⌝ }
+{
+    let mut rows = 0;
+    let mut r: u8 = 0;
+    while r < KINDS {
+        rows += row_count(relations, r);
+        r += 1;
+    }
+    rows
 }
 
 // Stores the row of an activity, if it is not empty, and gives the place after it.
@@ -63,16 +82,16 @@ fn put_row(out: &mut [u8], at: usize, key: u8, s: Set) -> usize
     at + layout::ROW
 }
 
-// Stores the rows of a relation, and gives the place after them.
-fn put_rows(out: &mut [u8], at: usize, rows: &Rows) -> usize
-    requires { ⌜ at + rowLength * rowCount (now rows) ≤ length (now out) ⌝ }
-    ensures { λ n. ⌜ n ≡ at + rowLength * rowCount (now (rows .entry)) ⌝ }
-    ensures { λ _. ⌜ now (out .exit) ≡ sets (now (out .entry)) at (relationBytes (now (rows .entry))) ⌝ }
+// Stores the rows of relation r, and gives the place after them.
+fn put_rows(out: &mut [u8], at: usize, relations: &Relations, r: u8) -> usize
+    requires { ⌜ at + rowLength * rowCount (tableAt (now relations) r) ≤ length (now out) ⌝ }
+    ensures { λ n. ⌜ n ≡ at + rowLength * rowCount (tableAt (now (relations .entry)) r) ⌝ }
+    ensures { λ _. ⌜ now (out .exit) ≡ sets (now (out .entry)) at (relationBytes (tableAt (now (relations .entry)) r)) ⌝ }
 {
     let mut next = at;
     let mut a: u8 = 0;
     while a < Activity::LIMIT {
-        next = put_row(out, next, a, rows::row(rows, Activity(a)));
+        next = put_row(out, next, a, tables::row(relations, r, Activity(a)));
         a += 1;
     }
     next
@@ -101,18 +120,18 @@ pub(crate) fn put_marking(out: &mut [u8], at: usize, m: Marking)
 }
 
 // Stores the letters, the edition, A and the four sets.
-fn put_opening(out: &mut [u8], activities: u8, events: Set, m: Marking)
+fn put_head(out: &mut [u8], head: Head)
     requires { ⌜ headLength ≤ length (now out) ⌝ }
-    ensures { λ _. ⌜ now (out .exit) ≡ sets (now (out .entry)) 0 (openingBytes activities events m) ⌝ }
+    ensures { λ _. ⌜ now (out .exit) ≡ sets (now (out .entry)) 0 (headBytes head) ⌝ }
 {
-    put_letters(out, activities);
-    put_number(out, layout::EVENTS, 8, events.bits);
-    put_marking(out, layout::EXECUTED, m);
+    put_letters(out, head.activities);
+    put_number(out, layout::EVENTS, 8, head.events.bits);
+    put_marking(out, layout::EXECUTED, head.opening);
 }
 
 // Stores an entry: where the relation's rows begin, counted in bytes from the first row, and how many there are.
 fn put_entry(out: &mut [u8], at: usize, earlier: usize, count: usize)
-    requires { ⌜ (at + 4 ≤ length (now out)) × (earlier ≤ 256) × (count ≤ 64) ⌝ }
+    requires { ⌜ (at + 4 ≤ length (now out)) × (earlier ≤ width * relationCount) × (count ≤ width) ⌝ }
     ensures { λ _. ⌜ now (out .exit) ≡ sets (now (out .entry)) at (entryBytes earlier count) ⌝ }
 {
     put_number(out, at, 2, (layout::ROW * earlier) as u64);
@@ -120,84 +139,46 @@ fn put_entry(out: &mut [u8], at: usize, earlier: usize, count: usize)
 }
 
 // Stores the four entries.
-fn put_entries(out: &mut [u8], c: usize, r: usize, i: usize, e: usize)
-    requires { ⌜ (headLength ≤ length (now out)) × (c ≤ 64) × (r ≤ 64) × (i ≤ 64) × (e ≤ 64) ⌝ }
-    ensures { λ _. ⌜ now (out .exit) ≡ sets (now (out .entry)) 36 (entriesBytes c r i e) ⌝ }
+fn put_entries(out: &mut [u8], relations: &Relations)
+    requires { ⌜ headLength ≤ length (now out) ⌝ }
+    ensures { λ _. ⌜ now (out .exit) ≡ sets (now (out .entry)) 36 (entriesBytes (now (relations .entry)) relationCount) ⌝ }
 {
-    put_entry(out, layout::OFFSETS, 0, c);
-    put_entry(out, layout::OFFSETS + layout::ENTRY, c, r);
-    put_entry(out, layout::OFFSETS + 2 * layout::ENTRY, c + r, i);
-    put_entry(out, layout::OFFSETS + 3 * layout::ENTRY, c + r + i, e);
+    let mut earlier = 0;
+    let mut r: u8 = 0;
+    while r < KINDS {
+        let count = row_count(relations, r);
+        put_entry(
+            out,
+            layout::OFFSETS + layout::ENTRY * r as usize,
+            earlier,
+            count,
+        );
+        earlier += count;
+        r += 1;
+    }
 }
 
 // Stores the rows of the four relations.
-fn put_relations<'a>(
-    out: &mut [u8],
-    conditions: &'a Rows,
-    responses: &'a Rows,
-    includes: &'a Rows,
-    excludes: &'a Rows,
-)
-    requires { ⌜ headLength + rowLength * (rowCount (now conditions) + rowCount (now responses) + rowCount (now includes) + rowCount (now excludes)) ≤ length (now out) ⌝ }
-    ensures { λ _. ⌜ now (out .exit) ≡ sets (now (out .entry)) headLength (relationsBytes (now (conditions .entry)) (now (responses .entry)) (now (includes .entry)) (now (excludes .entry))) ⌝ }
+fn put_relations(out: &mut [u8], relations: &Relations)
+    requires { ⌜ headLength + rowLength * rowsBefore (now relations) relationCount ≤ length (now out) ⌝ }
+    ensures { λ _. ⌜ now (out .exit) ≡ sets (now (out .entry)) headLength (relationsBytes (now (relations .entry)) relationCount) ⌝ }
 {
-    let after_conditions = put_rows(out, layout::HEAD, conditions);
-    let after_responses = put_rows(out, after_conditions, responses);
-    let after_includes = put_rows(out, after_responses, includes);
-    put_rows(out, after_includes, excludes);
+    let mut next = layout::HEAD;
+    let mut r: u8 = 0;
+    while r < KINDS {
+        next = put_rows(out, next, relations, r);
+        r += 1;
+    }
 }
 
-// The length of the file.
-fn file_length<'a>(
-    conditions: &'a Rows,
-    responses: &'a Rows,
-    includes: &'a Rows,
-    excludes: &'a Rows,
-) -> usize
-    ensures { λ n. ⌜ n ≡ headLength + rowLength * (rowCount (now (conditions .entry)) + rowCount (now (responses .entry)) + rowCount (now (includes .entry)) + rowCount (now (excludes .entry))) ⌝ }
+// Stores the file of a graph.
+fn put_file(out: &mut [u8], head: Head, relations: &Relations)
+    requires { ⌜ headLength + rowLength * rowsBefore (now relations) relationCount ≤ length (now out) ⌝ }
+    ensures { λ _. ⌜ now (out .exit) ≡ sets (now (out .entry)) 0 (bytesOf (graphOf head (now (relations .entry)))) ⌝ }
 {
-    let c = row_count(conditions);
-    let r = row_count(responses);
-    let i = row_count(includes);
-    let e = row_count(excludes);
-    layout::HEAD + layout::ROW * (c + r + i + e)
-}
-
-// Stores the contents: the four entries, by the relations' rows.
-fn put_contents<'a>(
-    out: &mut [u8],
-    conditions: &'a Rows,
-    responses: &'a Rows,
-    includes: &'a Rows,
-    excludes: &'a Rows,
-)
-    requires { ⌜ headLength ≤ length (now out) ⌝ }
-    ensures { λ _. ⌜ now (out .exit) ≡ sets (now (out .entry)) 36 (entriesBytes (rowCount (now (conditions .entry))) (rowCount (now (responses .entry))) (rowCount (now (includes .entry))) (rowCount (now (excludes .entry)))) ⌝ }
-{
-    let c = row_count(conditions);
-    let r = row_count(responses);
-    let i = row_count(includes);
-    let e = row_count(excludes);
-    put_entries(out, c, r, i, e);
-}
-
-// Stores the file of a graph, by its parts.
-fn put_file<'a>(
-    out: &mut [u8],
-    activities: u8,
-    events: Set,
-    opening: Marking,
-    conditions: &'a Rows,
-    responses: &'a Rows,
-    includes: &'a Rows,
-    excludes: &'a Rows,
-)
-    requires { ⌜ headLength + rowLength * (rowCount (now conditions) + rowCount (now responses) + rowCount (now includes) + rowCount (now excludes)) ≤ length (now out) ⌝ }
-    ensures { λ _. ⌜ now (out .exit) ≡ sets (now (out .entry)) 0 (bytesOf (graphOf activities events opening (now (conditions .entry)) (now (responses .entry)) (now (includes .entry)) (now (excludes .entry)))) ⌝ }
-{
-    put_opening(out, activities, events, opening);
-    put_contents(out, conditions, responses, includes, excludes);
-    put_relations(out, conditions, responses, includes, excludes);
+    put_head(out, head);
+    put_entries(out, relations);
+    put_relations(out, relations);
 }
 
 // Writes the file of a graph into the first bytes of a buffer.
@@ -205,35 +186,18 @@ pub fn write(g: Graph, out: &mut [u8]) -> Written
     ensures { λ r. ⌜ r ≡ writtenOf g (length (now (out .entry))) ⌝ }
     ensures { λ _. ⌜ now (out .exit) ≡ fileAfter g (now (out .entry)) ⌝ }
 {
-    let answer = judge_for(
-        g.activities,
-        g.events,
-        g.opening,
-        &g.conditions,
-        &g.responses,
-        &g.includes,
-        &g.excludes,
-        0,
-    );
+    let head = g.head;
+    let answer = judge_for(head, &g.relations, 0);
     if !answer.is_done() {
         return Written { answer, length: 0 };
     }
-    let length = file_length(&g.conditions, &g.responses, &g.includes, &g.excludes);
+    let length = layout::HEAD + layout::ROW * row_total(&g.relations);
     if out.len() < length {
         return Written {
             answer: Answer::BufferTooSmall,
             length: 0,
         };
     }
-    put_file(
-        out,
-        g.activities,
-        g.events,
-        g.opening,
-        &g.conditions,
-        &g.responses,
-        &g.includes,
-        &g.excludes,
-    );
+    put_file(out, head, &g.relations);
     Written { answer, length }
 }

@@ -13,11 +13,10 @@ use lib.Seq.{take-suc, take-all, length-take-le, drop-append-le, getD-at, getD-s
 use Rattle.sets.specs.Tests.{_and_, _or_, non}
 use Rattle.sets.specs.Members.{width, mem, those}
 use Rattle.sets.specs.declared.set.Set.{Set}
-use Rattle.sets.proofs.Tests.{T→true, F→false, split, either, and-true, or-true, or-false, false-and, non-non}
-use Rattle.sets.proofs.Members.{those-ext, those-of, those-mem}
+use Rattle.sets.proofs.Tests.{T→true, F→false, split, either, and-true, and-false, or-assoc, or-true, or-false, false-and, non-non}
+use Rattle.sets.proofs.Members.{those-ext, those-of, those-mem, Fits}
 use Rattle.rules.specs.Traces.{_has_}
-use Rattle.miner.proofs.Turns.{rest-next, seenIn}
-use Rattle.miner.proofs.Tautologies.{and-false}
+use Rattle.tally.proofs.Turns.{rest-next, seenIn}
 
 -- ---- a table in which a place is put down
 
@@ -52,15 +51,10 @@ module _ (last : List ℕ) (e i : ℕ) where
 abbrev pub LastOf : List ℕ → List ℕ → Type 0
 LastOf last τ = (i : ℕ) → i < length τ → getD τ i 0 < width → eqb (getD last (getD τ i 0) 0) i ≡ non (drop (i + 1) τ has getD τ i 0)
 
-or-assoc : (a b c : Bool) → (a or (b or c)) ≡ (a or b or c)
-unfolding _or_
-or-assoc true b c = refl
-or-assoc false b c = refl
-
 has-snoc : (xs : List ℕ) (y x : ℕ) → (xs ++ y ∷ []) has x ≡ (xs has x or eqb x y)
 unfolding _has_ _or_
 has-snoc [] y x = or-false (eqb x y)
-has-snoc (z ∷ xs) y x = ap (λ (b : Bool). eqb x z or b) (has-snoc xs y x) ∙ or-assoc (eqb x z) (xs has x) (eqb x y)
+has-snoc (z ∷ xs) y x = ap (λ (b : Bool). eqb x z or b) (has-snoc xs y x) ∙ sym (or-assoc (eqb x z) (xs has x) (eqb x y))
 
 -- what the list says of a place that was there before an event came to its end
 module _ (last τ : List ℕ) (e : ℕ) (len : length last ≡ width) (h : LastOf last τ) where
@@ -144,12 +138,12 @@ module _ (after : Set) (last : List ℕ) (e i : ℕ) where
   unfolding non
   stays x f = sym (and-true (mem after x)) ∙ ap (λ (c : Bool). mem after x and non c) (sym f)
 
-  pub left-not : after .bits < 2 ^ width → (getD last e 0 ≡ i → ⊥) → after ≡ those leaving
+  pub left-not : Fits after → (getD last e 0 ≡ i → ⊥) → after ≡ those leaving
   left-not s f =
       sym (those-mem after s)
       ∙ those-ext (mem after) leaving (λ x l. stays x (ap (λ (c : Bool). eqb x e and c) (ne-eqb (getD last e 0) i f) ∙ and-false (eqb x e)))
 
-  pub left-out : after .bits < 2 ^ width → width ≤ e → after ≡ those leaving
+  pub left-out : Fits after → width ≤ e → after ≡ those leaving
   left-out s g =
       sym (those-mem after s)
       ∙ those-ext (mem after) leaving

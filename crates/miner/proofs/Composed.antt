@@ -3,63 +3,77 @@ use mathlib.Core.Path.{_≡_, ap, ap₂, _∙_}
 use mathlib.Core.List.{List, []}
 use Prim.Native.Nat.{ℕ}
 use Rattle.sets.specs.Members.{those}
-use Rattle.sets.specs.Rows.{noRows, rowsOf}
+use Rattle.sets.specs.Rows.{noRows, rowsOf, rowsFor, turned}
+use Rattle.sets.specs.Tables.{noTables, withTable}
 use Rattle.sets.specs.declared.set.Set.{Set}
-use Rattle.rules.specs.Traces.{Traces}
-use Rattle.miner.specs.Passes.{forward, through, letIn, beforeFirst, missed}
 use Rattle.engine.specs.Markings.{openingOf}
-use Rattle.engine.specs.Relations.{graphOf}
+use Rattle.engine.specs.Relations.{relationCount, headOf, graphOf}
 use Rattle.engine.specs.declared.marking.Marking.{Marking}
-use Rattle.miner.specs.declared.tally.Tally.{Tally}
-use Rattle.miner.specs.Tallies.{tallyOf}
-use Rattle.miner.specs.Reading.{excludesItself, turned, inEither, reducedOf, waited, fiveFrom, sevenFrom, includesFrom, waitedOf, conditionsOf, responsesOf, chainsOf, neverOf, sevenOf, includesOf, graphFound}
+use Rattle.engine.specs.declared.graph.Graph.{Graph}
+use Rattle.rules.specs.Traces.{Traces, _has_, someTrace}
+use Rattle.rules.specs.Mining.{event}
+use Rattle.steps.specs.Rowwise.{reducedOf, waited}
+use Rattle.tally.specs.Passes.{gains, forward, through}
+use Rattle.tally.specs.Tallies.{tableCount, noted}
+use Rattle.miner.specs.Facts.{letIn, beforeFirst, missed}
+use Rattle.miner.specs.Stages.{conditionsOf, chainsOf, responsesOf, neverOf, fiveFrom, sevenFrom, sevenOf, includesFrom, includesOf}
+use Rattle.miner.specs.Stages.{waitedOf, fourTables, graphRead, graphFound}
 
 -- steps 3 and 6, of the includes
-pub includes-by : (L : Traces) (chains never three six r : List ℕ)
-    → three ≡ rowsOf (turned chains) → six ≡ through (λ r σ. forward (letIn never) r [] σ) noRows L → r ≡ rowsOf (inEither three six)
-    → r ≡ includesFrom chains never L
-includes-by L chains never three six r ht hs h = h ∙ ap₂ (λ (x y : List ℕ). rowsOf (inEither x y)) ht hs
+pub includes-by : (L : Traces) (chains never three r : List ℕ) → three ≡ rowsOf (turned chains)
+    → r ≡ through (λ r σ. forward (gains (letIn never)) r [] σ) three L → r ≡ includesFrom chains never L
+includes-by L chains never three r ht h = h ∙ ap (λ (x : List ℕ). through (λ r σ. forward (gains (letIn never)) r [] σ) x L) ht
 
 -- steps 9 and 10
 pub conditions-by : (L : Traces) (events : Set) (eight includes excludes first₀ unmet₀ first unmet nine r : List ℕ)
     → first₀ ≡ noRows → unmet₀ ≡ noRows
-    → first ≡ through (λ r σ. forward beforeFirst r [] σ) first₀ L
-    → unmet ≡ through (λ r σ. forward (missed events includes excludes) r [] σ) unmet₀ L
-    → nine ≡ rowsOf (waited events eight first unmet) → r ≡ rowsOf (reducedOf nine)
-    → r ≡ rowsOf (reducedOf (rowsOf (waited events eight (through (λ r σ. forward beforeFirst r [] σ) noRows L) (through (λ r σ. forward (missed events includes excludes) r [] σ) noRows L))))
+    → first ≡ through (λ r σ. forward (gains beforeFirst) r [] σ) first₀ L
+    → unmet ≡ through (λ r σ. forward (gains (missed events includes excludes)) r [] σ) unmet₀ L
+    → nine ≡ rowsFor events (waited events eight first unmet) → r ≡ rowsFor events (reducedOf nine)
+    → r ≡ waitedOf events eight includes excludes L
 conditions-by L events eight includes excludes first₀ unmet₀ first unmet nine r h₀ k₀ hf hu hn h =
     h
-    ∙ ap (λ (x : List ℕ). rowsOf (reducedOf x))
+    ∙ ap (λ (x : List ℕ). rowsFor events (reducedOf x))
     (hn
-    ∙ ap₂ (λ (x y : List ℕ). rowsOf (waited events eight x y))
-    (hf ∙ ap (λ (x : List ℕ). through (λ r σ. forward beforeFirst r [] σ) x L) h₀)
-    (hu ∙ ap (λ (x : List ℕ). through (λ r σ. forward (missed events includes excludes) r [] σ) x L) k₀))
+    ∙ ap₂ (λ (x y : List ℕ). rowsFor events (waited events eight x y))
+    (hf ∙ ap (λ (x : List ℕ). through (λ r σ. forward (gains beforeFirst) r [] σ) x L) h₀)
+    (hu ∙ ap (λ (x : List ℕ). through (λ r σ. forward (gains (missed events includes excludes)) r [] σ) x L) k₀))
 
--- the graph, from its tally, stage by stage
-module _ (A : ℕ) (L : Traces) (t : Tally) (selves : Set) (opening : Marking) (chains never five excludes includes two eight conditions answering responses : List ℕ)
-    (ht : t ≡ tallyOf L) (hc : chains ≡ chainsOf t) (hn : never ≡ neverOf t) (hs : selves ≡ those (excludesItself (t .events) (t .before) chains))
-    (hf : five ≡ fiveFrom (t .events) selves (t .before) (t .later)) (hx : excludes ≡ sevenFrom (t .events) five never (t .unalternated))
-    (hi : includes ≡ includesFrom chains never L) (hw : two ≡ conditionsOf t) (he : eight ≡ rowsOf (reducedOf two))
-    (hd : conditions ≡ waitedOf (t .events) eight includes excludes L) (ha : answering ≡ responsesOf t) (hr : responses ≡ rowsOf (reducedOf answering))
-    (ho : opening ≡ openingOf (t .events)) where
-  the-excludes : excludes ≡ sevenOf t
-  the-excludes =
-      hx
-      ∙ (λ i.
-      sevenFrom (t .events)
-      ((hf ∙ ap (λ (s : Set). fiveFrom (t .events) s (t .before) (t .later)) (hs ∙ ap (λ (c : List ℕ). those (excludesItself (t .events) (t .before) c)) hc)) i)
-      (hn i) (t .unalternated))
+-- the tables, put in one after the other
+pub tables-by : (c r i x o₁ o₂ o₃ o₄ : List ℕ) → o₁ ≡ withTable (noTables relationCount) 0 c → o₂ ≡ withTable o₁ 1 r → o₃ ≡ withTable o₂ 2 i
+    → o₄ ≡ withTable o₃ 3 x → o₄ ≡ fourTables c r i x
+tables-by c r i x o₁ o₂ o₃ o₄ h₁ h₂ h₃ h₄ =
+    h₄
+    ∙ ap (λ (o : List ℕ). withTable o 3 x) (h₃ ∙ ap (λ (o : List ℕ). withTable o 2 i) (h₂ ∙ ap (λ (o : List ℕ). withTable o 1 r) h₁))
 
-  the-includes : includes ≡ includesOf t L
+-- the graph, from the tally, stage by stage
+module _ (A : ℕ) (L : Traces) (events : Set) (tally : List ℕ) (opening : Marking)
+    (chains never five excludes includes two eight conditions answering responses found : List ℕ)
+    (hc : chains ≡ chainsOf events tally) (hn : never ≡ neverOf events tally) (hf : five ≡ fiveFrom events tally chains)
+    (hx : excludes ≡ sevenFrom events tally five never) (hi : includes ≡ includesFrom chains never L)
+    (hw : two ≡ conditionsOf events tally) (he : eight ≡ rowsFor events (reducedOf two)) (hd : conditions
+    ≡ waitedOf events eight includes excludes L)
+    (ha : answering ≡ responsesOf events tally) (hr : responses ≡ rowsFor events (reducedOf answering))
+    (hq : found ≡ fourTables conditions responses includes excludes) (ho : opening ≡ openingOf events) where
+  the-excludes : excludes ≡ sevenOf events tally
+  the-excludes = hx ∙ (λ i. sevenFrom events tally ((hf ∙ ap (fiveFrom events tally) hc) i) (hn i))
+
+  the-includes : includes ≡ includesOf events tally L
   the-includes = hi ∙ (λ i. includesFrom (hc i) (hn i) L)
 
-  the-eight : eight ≡ rowsOf (reducedOf (conditionsOf t))
-  the-eight = he ∙ ap (λ (r : List ℕ). rowsOf (reducedOf r)) hw
+  the-eight : eight ≡ rowsFor events (reducedOf (conditionsOf events tally))
+  the-eight = he ∙ ap (λ (r : List ℕ). rowsFor events (reducedOf r)) hw
 
-  pub read-by : graphOf A (t .events) opening conditions responses includes excludes ≡ graphFound A L (tallyOf L)
-  unfolding graphFound
+  pub read-by : graphOf (headOf A events opening) found ≡ graphRead A L events tally
   read-by =
-      (λ i.
-      graphOf A (t .events) (ho i) ((hd ∙ (λ j. waitedOf (t .events) (the-eight j) (the-includes j) (the-excludes j) L)) i)
-      ((hr ∙ ap (λ (r : List ℕ). rowsOf (reducedOf r)) ha) i) (the-includes i) (the-excludes i))
-      ∙ ap (graphFound A L) ht
+      (λ i. graphOf (headOf A events (ho i)) (hq i))
+      ∙ (λ i.
+      graphOf (headOf A events (openingOf events))
+      (fourTables ((hd ∙ (λ j. waitedOf events (the-eight j) (the-includes j) (the-excludes j) L)) i)
+      ((hr ∙ ap (λ (r : List ℕ). rowsFor events (reducedOf r)) ha) i) (the-includes i) (the-excludes i)))
+
+-- from the tally of the traces
+pub found-by : (A : ℕ) (L : Traces) (none tally : List ℕ) (events : Set) (r : Graph) → none ≡ noTables tableCount
+    → events ≡ those (λ x. someTrace L (λ σ. σ has x)) → tally ≡ through noted none L → r ≡ graphRead A L events tally → r ≡ graphFound A L
+unfolding graphFound event
+found-by A L none tally events r h₀ hv ht h = h ∙ (λ i. graphRead A L (hv i) ((ht ∙ ap (λ (x : List ℕ). through noted x L) h₀) i))

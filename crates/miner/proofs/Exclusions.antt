@@ -2,27 +2,27 @@
 use mathlib.Core.Path.{_≡_, refl, sym, ap, ap₂, _∙_}
 use mathlib.Core.Bool.{Bool, true, false}
 use mathlib.Core.List.{List}
-use Prim.Native.Nat.{ℕ}
+use Prim.Native.Nat.{ℕ, _<_}
 use borrow.Author.Tests.{eqb-true, eqb-false}
 use lib.Dec.{T, eqb, eqb-refl}
 use Rattle.sets.specs.Tests.{_and_, _or_, non}
 use Rattle.sets.specs.Members.{width, mem, those, someBelow}
-use Rattle.sets.specs.Rows.{Relation, inRow, rowsOf}
-use Rattle.sets.specs.declared.set.Set.{Set}
-use Rattle.sets.proofs.Tests.{and-l, and-r, and-i, non-e, T-ext, T→true, F→false, non-non}
+use Rattle.sets.specs.Rows.{Relation, inRow, rowsOf, rowsFor, turned}
+use Rattle.sets.proofs.Tests.{and-l, and-r, and-i, and-assoc, and-true, and-false, non-e, non-non, T-ext, T→true, F→false, false→F}
+use Rattle.sets.proofs.Tautologies.{by2, by4, by5}
 use Rattle.sets.proofs.Below.{some-ext}
-use Rattle.sets.proofs.Members.{mem-those, those-ext}
+use Rattle.sets.proofs.Members.{mem-those}
 use Rattle.sets.proofs.RowLaws.{in-rowsOf, rowsOf-ext}
 use Rattle.engine.specs.Relations.{Relations}
 use Rattle.rules.specs.Traces.{Traces}
 use Rattle.rules.specs.Mining.{noPair, noRelations, smallestSource, event, someEvent, _with_, _without_, before, followed, alternates, atMostOnce, together, directlyBefore, neverTogether, closes, step1, step2, step3, step4, step5, step6, step7, afterFive, afterSeven}
-use Rattle.miner.specs.Tallies.{tallyOf}
-use Rattle.miner.specs.declared.tally.Tally.{Tally}
-use Rattle.miner.specs.Reading.{selvesOf, fiveOf, neverOf, sevenOf, absent, excludesItself, diagonal, apart, smallestOf, inEither, notRedundant, closing}
-use Rattle.miner.proofs.Tautologies.{by2, by3, by4, by5}
-use Rattle.miner.proofs.LogLaws.{once, together-before}
-use Rattle.miner.proofs.RowReadings.{united-rows, diagonal-rows, smallest-rows}
-use Rattle.miner.proofs.Readings.{chains-read}
+use Rattle.steps.specs.Rowwise.{excludesItself, smallest, apart, closing, excluders, absent, inEither, notRedundant}
+use Rattle.tally.specs.Tallies.{tallied}
+use Rattle.tally.proofs.Tallying.{before-table, later-table, unalternated-table, followed-table}
+use Rattle.tally.proofs.LogLaws.{once, together-before}
+use Rattle.miner.specs.Stages.{chainsOf, neverOf, fiveFrom, sevenOf}
+use Rattle.miner.proofs.RowReadings.{absent-rows, united-rows, smallest-read}
+use Rattle.miner.proofs.EarlySteps.{events, chains-read}
 
 -- ---- tests alone
 
@@ -49,10 +49,10 @@ idem : (a b : Bool) → (a and a and b) ≡ (a and b)
 unfolding _and_ _or_ non
 idem = by2 (λ a b. a and a and b) (λ a b. a and b) tt
 
-two-others : (q a b d d′ : Bool) → (q ≡ false → d ≡ d′) → (a and b and non q and d) ≡ (b and a and non q and d′)
+two-others : (q a d d′ : Bool) → (q ≡ false → d ≡ d′) → (a and non q and d) ≡ (a and true and non q and d′)
 unfolding _and_ _or_ non
-two-others true a b d d′ h = by4 (λ x y z w. x and y and false and z) (λ x y z w. y and x and false and w) tt a b d d′
-two-others false a b d d′ h = ap (λ (z : Bool). a and b and true and z) (h refl) ∙ by3 (λ x y z. x and y and true and z) (λ x y z. y and x and true and z) tt a b d′
+two-others true a d d′ h = by4 (λ x z w v. x and false and z) (λ x z w v. x and true and false and w) tt a d d′ d
+two-others false a d d′ h = ap (λ (z : Bool). a and true and z) (h refl) ∙ by2 (λ x z. x and true and z) (λ x z. x and true and true and z) tt a d′
 
 all-among : (e f g c d : Bool) → g ≡ (e and f and g) → c ≡ (e and f and c) → d ≡ (e and f and d) → (e and f and (e and f and (g or c) or d)) ≡ (g or c or d)
 unfolding _and_ _or_ non
@@ -63,16 +63,19 @@ all-among e f g c d hg hc hd =
     ∙ sym (ap₂ (λ (x y : Bool). x or y or d) hg hc ∙ ap (λ (z : Bool). e and f and g or e and f and c or z) hd)
 
 -- pairs that join a relation among events
-one-more : (e f g p : Bool) → g ≡ (e and f and g) → (g or e and f and p) ≡ (e and f and (g or p))
+one-more : (e f g p : Bool) → g ≡ (e and f and g) → (e and (g or e and (f and p))) ≡ (e and f and (g or p))
 unfolding _and_ _or_ non
 one-more e f g p h =
-    ap (λ (x : Bool). x or e and f and p) h
-    ∙ by4 (λ v w x y. v and w and x or v and w and y) (λ v w x y. v and w and (v and w and x or y)) tt e f g p
+    ap (λ (x : Bool). e and (x or e and (f and p))) h
+    ∙ by4 (λ v w x y. v and (v and w and x or v and (w and y))) (λ v w x y. v and w and (v and w and x or y)) tt e f g p
     ∙ ap (λ (x : Bool). e and f and (x or p)) (sym h)
 
-and-assoc : (a b c : Bool) → (a and b and c) ≡ (a and (b and c))
+-- the test of the first event is one too many
+pub first-too : (e f g p : Bool) → g ≡ (e and f and g) → (e and (g and p)) ≡ (g and p)
 unfolding _and_ _or_ non
-and-assoc = by3 (λ a b c. a and b and c) (λ a b c. a and (b and c)) tt
+first-too e f g p h =
+    ap (λ (x : Bool). e and (x and p)) h ∙ by4 (λ v w x y. v and (v and w and x and y)) (λ v w x y. v and w and x and y) tt e f g p
+    ∙ ap (λ (x : Bool). x and p) (sym h)
 
 -- what excludes itself by step 1 or by step 3
 unfoldable pub selfExcluding : Traces → ℕ → Bool
@@ -84,31 +87,8 @@ afterThree L = step3 L (step2 L (step1 L noRelations))
 abbrev pub afterFour : Traces → Relations
 afterFour L = step4 L (afterThree L)
 
--- what steps 4 and 5 give, and the excludes after step 6
-abbrev apartOf : Tally → List ℕ
-apartOf t = rowsOf (smallestOf (rowsOf (apart (t .events) (t .before) (t .later))))
-
-abbrev closedOf : Tally → List ℕ
-closedOf t = rowsOf (smallestOf (rowsOf (closing (t .events) (selvesOf t) (t .before) (t .later))))
-
-abbrev sixOf : Tally → List ℕ
-sixOf t = rowsOf (inEither (fiveOf t) (neverOf t))
-
 module _ (L : Traces) where
-  -- ---- steps 1 and 3
-
-  pub selves-read : selvesOf (tallyOf L) ≡ those (selfExcluding L)
-  unfolding tallyOf excludesItself selfExcluding someEvent afterFive step5 step4 step3 step2 step1 noRelations noPair _with_
-  selves-read =
-      ap (λ (rows : List ℕ). those (excludesItself (those (event L)) (rowsOf (λ t s. before L s t)) rows)) (chains-read L)
-      ∙ those-ext (excludesItself (those (event L)) (rowsOf (λ t s. before L s t)) (rowsOf (λ t s. afterFive L .includes s t))) (selfExcluding L)
-      (λ a l.
-      ap₂ (λ (e b : Bool). e and (non b or someBelow width (λ u. inRow (rowsOf (λ t s. afterFive L .includes s t)) a u))) (mem-those (event L) a l)
-      (in-rowsOf (λ t s. before L s t) a a l l)
-      ∙ ap (λ (b : Bool). event L a and (non (before L a a) or b))
-      (some-ext width (λ u. inRow (rowsOf (λ t s. afterFive L .includes s t)) a u) (λ u. event L u and event L a and (false or directlyBefore L u a))
-      (λ u lu. in-rowsOf (λ t s. afterFive L .includes s t) a u l lu))
-      ∙ in-events (event L a) (non (before L a a)) (event L) (λ u. directlyBefore L u a))
+  -- ---- what excludes itself
 
   self-three : (s t : ℕ) → afterThree L .excludes s t ≡ (eqb s t and selfExcluding L s)
   unfolding step3 step2 step1 noRelations noPair _with_ selfExcluding _and_
@@ -130,94 +110,106 @@ module _ (L : Traces) where
       (F→false (smallestSource (neverTogether L) s s) (λ t. non-e (eqb s s) (and-r _ _ (and-l _ _ (and-l _ _ t))) (eqb-refl s)))
       ∙ itself (event L s) (non (before L s s) or someEvent L (λ u. directlyBefore L u s))
 
-  -- ---- steps 4 and 5
+  -- ---- what excludes a target, by the rows of the tally
 
-  pub apart-read : apartOf (tallyOf L) ≡ rowsOf (smallestSource (neverTogether L))
-  unfolding tallyOf apart neverTogether
-  apart-read =
-      ap (λ (rows : List ℕ). rowsOf (smallestOf rows))
-      (rowsOf-ext (apart (those (event L)) (rowsOf (λ t s. before L s t)) (rowsOf (before L))) (λ t s. neverTogether L s t)
-      (λ t s lt ls.
-      ap₂ (λ (e f : Bool). e and f and non (eqb s t) and non (inRow (rowsOf (λ x y. before L y x)) t s or inRow (rowsOf (before L)) t s)) (mem-those (event L) t lt)
-      (mem-those (event L) s ls)
-      ∙ ap₂ (λ (x y : Bool). event L t and event L s and non (eqb s t) and non (x or y)) (in-rowsOf (λ x y. before L y x) t s lt ls) (in-rowsOf (before L) t s lt ls)
-      ∙ two-others (eqb s t) (event L t) (event L s) (non (before L s t or before L t s)) (non (together L s t))
-      (λ e. ap non (sym (together-before s t (eqb-false s t e) L)))))
-      ∙ smallest-rows (neverTogether L)
+  abbrev earlier : List ℕ
+  earlier = rowsOf (λ t s. before L s t)
 
-  pub closed-read : closedOf (tallyOf L) ≡ rowsOf (smallestSource (closes L (afterFour L)))
-  unfolding tallyOf closing closes
-  closed-read =
-      ap (λ (s : Set). rowsOf (smallestOf (rowsOf (closing (those (event L)) s (rowsOf (λ x y. before L y x)) (rowsOf (before L)))))) selves-read
-      ∙ ap (λ (rows : List ℕ). rowsOf (smallestOf rows))
-      (rowsOf-ext (closing (those (event L)) (those (selfExcluding L)) (rowsOf (λ x y. before L y x)) (rowsOf (before L))) (λ s t. closes L (afterFour L) t s)
-      (λ s t ls lt.
-      ap₂ (λ (e f : Bool). e and f and inRow (rowsOf (before L)) s t and non (inRow (rowsOf (λ x y. before L y x)) s t) and non (mem (those (selfExcluding L)) s))
-      (mem-those (event L) s ls) (mem-those (event L) t lt)
-      ∙ ap₂ (λ (x y : Bool). event L s and event L t and x and non y and non (mem (those (selfExcluding L)) s)) (in-rowsOf (before L) s t ls lt)
-      (in-rowsOf (λ x y. before L y x) s t ls lt)
-      ∙ ap (λ (x : Bool). event L s and event L t and before L s t and non (before L t s) and non x) (mem-those (selfExcluding L) s ls ∙ sym (self-four s))))
-      ∙ smallest-rows (closes L (afterFour L))
+  abbrev chains : List ℕ
+  chains = rowsOf (λ t s. afterFive L .includes s t)
 
-  -- ---- the excludes after five steps, after six, after seven
+  module _ (t : ℕ) (lt : t < width) (yes : event L t ≡ true) where
+    itself-read : excludesItself earlier chains t ≡ selfExcluding L t
+    unfolding excludesItself selfExcluding someEvent afterFive step5 step4 step3 step2 step1 noRelations noPair _with_ _and_
+    itself-read =
+        ap₂ (λ (b c : Bool). non b or c) (in-rowsOf (λ x y. before L y x) t t lt lt)
+        (some-ext width (λ u. inRow chains t u) (λ u. event L u and event L t and (false or directlyBefore L u t)) (λ u lu. in-rowsOf (λ x y. afterFive L .includes y x) t u lt lu))
+        ∙ ap (λ (b : Bool). b and (non (before L t t) or someBelow width (λ u. event L u and event L t and (false or directlyBefore L u t)))) (sym yes)
+        ∙ in-events (event L t) (non (before L t t)) (event L) (λ u. directlyBefore L u t)
+
+    own-read : (s : ℕ) → (excludesItself earlier chains t and eqb s t) ≡ afterThree L .excludes s t
+    unfolding _and_
+    own-read s = ap (λ (b : Bool). b and eqb s t) itself-read ∙ by (eqb s t) refl ∙ sym (self-three s t)
+      where
+        by : (q : Bool) → eqb s t ≡ q → (selfExcluding L t and q) ≡ (q and selfExcluding L s)
+        by true e = and-true (selfExcluding L t) ∙ ap (selfExcluding L) (sym (eqb-true s t e))
+        by false e = and-false (selfExcluding L t)
+
+    apart-read : (s : ℕ) → s < width → apart (events L) earlier (rowsOf (before L)) t s ≡ neverTogether L s t
+    unfolding apart neverTogether
+    apart-read s ls =
+        simp (mem-those, in-rowsOf)
+        (two-others (eqb s t) (event L s) (non (before L s t or before L t s)) (non (together L s t)) (λ e. ap non (sym (together-before s t (eqb-false s t e) L)))
+        ∙ ap (λ (b : Bool). event L s and b and non (eqb s t) and non (together L s t)) (sym yes))
+
+    closing-read : (s : ℕ) → s < width → closing (events L) (excludesItself earlier chains t) earlier (rowsOf (before L)) t s ≡ closes L (afterFour L) s t
+    unfolding closing closes _and_
+    closing-read s ls =
+        simp (mem-those, in-rowsOf)
+        (ap (λ (b : Bool). event L s and before L t s and non (before L s t) and non b) (itself-read ∙ sym (self-four t))
+        ∙ ap (λ (b : Bool). b and event L s and before L t s and non (before L s t) and non (afterFour L .excludes t t)) (sym yes))
+
+    five-read : (s : ℕ) → s < width → excluders (events L) earlier (rowsOf (before L)) chains t s
+        ≡ (afterThree L .excludes s t or smallestSource (neverTogether L) s t or smallestSource (closes L (afterFour L)) s t)
+    unfolding excluders
+    five-read s ls =
+        ap₂ _or_ (ap₂ _or_ (own-read s) (smallest-read (neverTogether L) t _ apart-read s ls)) (smallest-read (closes L (afterFour L)) t _ closing-read s ls)
 
   -- a relation of the rules holds of events only
   pub with-events : (r p : Relation) (s t : ℕ) → (_with_ L r p) s t ≡ (event L s and event L t and (_with_ L r p) s t)
   unfolding _with_
   with-events r p s t = among _ (event L s) (event L t) (λ h. and-l _ _ (and-l _ _ h)) (λ h. and-r _ _ (and-l _ _ h))
 
-  pub excludes-five : fiveOf (tallyOf L) ≡ rowsOf (afterFive L .excludes)
+  -- ---- the excludes after five steps, after six, after seven
+
+  excludes-after-five : (s t : ℕ) → afterFive L .excludes s t
+      ≡ (afterThree L .excludes s t or smallestSource (neverTogether L) s t or smallestSource (closes L (afterFour L)) s t)
   unfolding afterFive step5 step4 step3 _with_ smallestSource neverTogether closes
-  excludes-five =
-      ap₂ (λ (x y : List ℕ). rowsOf (inEither (rowsOf (inEither x y)) (closedOf (tallyOf L))))
-      (ap (λ (s : Set). rowsOf (diagonal s)) selves-read ∙ diagonal-rows (selfExcluding L)) apart-read
-      ∙ ap₂ (λ (x y : List ℕ). rowsOf (inEither x y)) (united-rows (λ a x. eqb a x and selfExcluding L a) (smallestSource (neverTogether L))) closed-read
-      ∙ united-rows (λ a x. eqb a x and selfExcluding L a or smallestSource (neverTogether L) a x) (smallestSource (closes L (afterFour L)))
-      ∙ rowsOf-ext (λ a x. eqb a x and selfExcluding L a or smallestSource (neverTogether L) a x or smallestSource (closes L (afterFour L)) a x) (afterFive L .excludes)
-      (λ s t ls lt.
-      ap (λ (g : Bool). g or smallestSource (neverTogether L) s t or smallestSource (closes L (afterFour L)) s t) (sym (self-three s t))
-      ∙ sym
-      (all-among (event L s) (event L t) (afterThree L .excludes s t) (smallestSource (neverTogether L) s t) (smallestSource (closes L (afterFour L)) s t)
+  excludes-after-five s t =
+      all-among (event L s) (event L t) (afterThree L .excludes s t) (smallestSource (neverTogether L) s t) (smallestSource (closes L (afterFour L)) s t)
       (with-events (step2 L (step1 L noRelations) .excludes) (λ x y. eqb x y and someEvent L (λ u. directlyBefore L u y)) s t)
       (among _ _ _ (λ h. and-l _ _ (and-l _ _ (and-l _ _ (and-l _ _ h)))) (λ h. and-r _ _ (and-l _ _ (and-l _ _ (and-l _ _ h)))))
-      (among _ _ _ (λ h. and-r _ _ (and-l _ _ (and-l _ _ (and-l _ _ (and-l _ _ h))))) (λ h. and-l _ _ (and-l _ _ (and-l _ _ (and-l _ _ (and-l _ _ h))))))))
+      (among _ _ _ (λ h. and-r _ _ (and-l _ _ (and-l _ _ (and-l _ _ (and-l _ _ h))))) (λ h. and-l _ _ (and-l _ _ (and-l _ _ (and-l _ _ (and-l _ _ h))))))
 
-  -- pairs of events that join a relation of the rules
-  pub joined-rows : (r p q : Relation) → rowsOf (inEither (rowsOf (_with_ L r p)) (rowsOf (λ s t. event L s and event L t and q s t))) ≡ rowsOf (_with_ L (_with_ L r p) q)
-  unfolding _with_
-  joined-rows r p q =
-      united-rows (_with_ L r p) (λ s t. event L s and event L t and q s t)
-      ∙ rowsOf-ext (λ s t. (_with_ L r p) s t or event L s and event L t and q s t) (_with_ L (_with_ L r p) q)
-      (λ s t ls lt. one-more (event L s) (event L t) ((_with_ L r p) s t) (q s t) (with-events r p s t))
+  no-event : (s t : ℕ) → event L t ≡ false → false ≡ afterFive L .excludes s t
+  unfolding afterFive step5 _with_
+  no-event s t e = sym (F→false _ (λ h. false→F e (and-r _ _ (and-l _ _ h))))
 
-  pub absent-rows : (r : Relation) → rowsOf (absent (those (event L)) (rowsOf r)) ≡ rowsOf (λ s t. event L s and event L t and non (r s t))
-  unfolding absent
-  absent-rows r =
-      rowsOf-ext (absent (those (event L)) (rowsOf r)) (λ s t. event L s and event L t and non (r s t))
-      (λ s t ls lt.
-      ap₂ (λ (e f : Bool). e and f and non (inRow (rowsOf r) s t)) (mem-those (event L) s ls) (mem-those (event L) t lt)
-      ∙ ap (λ (x : Bool). event L s and event L t and non x) (in-rowsOf r s t ls lt))
+  five-pair : (s t : ℕ) → s < width → t < width → (event L t and excluders (events L) earlier (rowsOf (before L)) chains t s) ≡ afterFive L .excludes s t
+  unfolding _and_
+  five-pair s t ls lt = by (event L t) refl
+    where
+      by : (b : Bool) → event L t ≡ b → (b and excluders (events L) earlier (rowsOf (before L)) chains t s) ≡ afterFive L .excludes s t
+      by true e = five-read t lt e s ls ∙ sym (excludes-after-five s t)
+      by false e = no-event s t e
 
-  pub excludes-six : sixOf (tallyOf L) ≡ rowsOf (step6 L (afterFive L) .excludes)
-  unfolding tallyOf afterFive step6 step5
+  pub excludes-five : fiveFrom (events L) (tallied L) (chainsOf (events L) (tallied L)) ≡ rowsOf (afterFive L .excludes)
+  unfolding turned rowsFor
+  excludes-five =
+      (λ i. rowsOf (turned (rowsFor (events L) (excluders (events L) (before-table L i) (later-table L i) (chains-read L i)))))
+      ∙ rowsOf-ext _ _ (λ s t ls lt. in-rowsOf _ t s lt ls ∙ ap (λ (b : Bool). b and excluders (events L) earlier (rowsOf (before L)) chains t s) (mem-those (event L) t lt) ∙ five-pair s t ls lt)
+
+  pub never-read : neverOf (events L) (tallied L) ≡ rowsOf (λ s t. event L s and (event L t and non (followed L s t)))
+  never-read = ap (λ (rows : List ℕ). rowsFor (events L) (absent (events L) rows)) (followed-table L) ∙ absent-rows (event L) (followed L)
+
+  excludes-six : rowsFor (events L) (inEither (fiveFrom (events L) (tallied L) (chainsOf (events L) (tallied L))) (neverOf (events L) (tallied L)))
+      ≡ rowsOf (step6 L (afterFive L) .excludes)
+  unfolding afterFive step6 step5 _with_
   excludes-six =
-      ap₂ (λ (x y : List ℕ). rowsOf (inEither x y)) excludes-five (absent-rows (followed L))
-      ∙ joined-rows (afterFour L .excludes) (smallestSource (closes L (afterFour L))) (λ s t. non (followed L s t))
+      ap₂ (λ (x y : List ℕ). rowsFor (events L) (inEither x y)) excludes-five never-read
+      ∙ united-rows (event L) (afterFive L .excludes) (λ s t. event L s and (event L t and non (followed L s t)))
+      ∙ rowsOf-ext _ _ (λ s t ls lt. one-more (event L s) (event L t) (afterFive L .excludes s t) (non (followed L s t)) (with-events (afterFour L .excludes) (smallestSource (closes L (afterFour L))) s t))
 
-  pub excludes-seven : sevenOf (tallyOf L) ≡ rowsOf (afterSeven L .excludes)
-  unfolding tallyOf afterSeven step7 _without_ notRedundant someEvent
+  pub excludes-seven : sevenOf (events L) (tallied L) ≡ rowsOf (afterSeven L .excludes)
+  unfolding afterSeven step7 _without_ notRedundant rowsFor someEvent step6
   excludes-seven =
-      ap (λ (rows : List ℕ). rowsOf (notRedundant (those (event L)) rows (rowsOf (λ s u. non (alternates L u s))))) excludes-six
-      ∙ rowsOf-ext (notRedundant (those (event L)) (rowsOf (six .excludes)) (rowsOf (λ s u. non (alternates L u s)))) (afterSeven L .excludes)
+      (λ i. rowsFor (events L) (notRedundant (events L) (excludes-six i) (unalternated-table L i)))
+      ∙ rowsOf-ext _ _
       (λ s t ls lt.
-      ap₂ (λ (x y : Bool). x and non y) (in-rowsOf (six .excludes) s t ls lt)
-      (some-ext width
-      (λ u. mem (those (event L)) u and inRow (rowsOf (six .excludes)) u t and non (inRow (rowsOf (λ x v. non (alternates L v x))) s u))
-      (λ u. event L u and (six .excludes u t and alternates L u s))
-      (λ u lu.
-      ap₂ (λ (x y : Bool). x and y and non (inRow (rowsOf (λ a v. non (alternates L v a))) s u)) (mem-those (event L) u lu) (in-rowsOf (six .excludes) u t lu lt)
-      ∙ ap (λ (x : Bool). event L u and six .excludes u t and x) (ap non (in-rowsOf (λ a v. non (alternates L v a)) s u ls lu) ∙ non-non (alternates L u s))
-      ∙ and-assoc (event L u) (six .excludes u t) (alternates L u s))))
+      ap₂ _and_ (mem-those (event L) s ls)
+      (ap₂ (λ (x y : Bool). x and non y) (in-rowsOf (six .excludes) s t ls lt)
+      (some-ext width _ (λ u. event L u and (six .excludes u t and alternates L u s)) (λ u lu. simp (mem-those, in-rowsOf, non-non) (and-assoc (event L u) (six .excludes u t) (alternates L u s)))))
+      ∙ first-too (event L s) (event L t) (six .excludes s t) _ (with-events (afterFive L .excludes) (λ x y. non (followed L x y)) s t))
     where
       six : Relations
       six = step6 L (afterFive L)

@@ -19,9 +19,8 @@ use Rattle.rules.specs.Traces.{Traces}
 use Rattle.rules.specs.Mined.{minedGraph}
 use Rattle.rules.proofs.FromFile.{file-accepted}
 use Rattle.rules.proofs.InTurn.{Small}
-use Rattle.miner.specs.Passes.{walked}
-use Rattle.miner.specs.Tallies.{tallyOf}
-use Rattle.miner.specs.Reading.{graphFound}
+use Rattle.tally.specs.Passes.{walked}
+use Rattle.miner.specs.Stages.{graphFound}
 use Rattle.miner.specs.Mine.{minedOf}
 use Rattle.miner.specs.declared.mining.Mined.{Mined}
 use Rattle.miner.proofs.PairForPair.{pair-for-pair}
@@ -59,15 +58,15 @@ module _ (bytes : List ℕ) (j : Judged) (r : Bool) (hj : j ≡ judgedOf bytes) 
         graph = (hg ∙ sym (ap (λ (t : Bool). when t then minedGraph (logOf bytes .activities) (logOf bytes .traces) else emptyGraph) no-graph)) i;
       }
 
-  pub mine-done : (g : Graph) → not r ≡ false → g ≡ graphFound (j .activities) (walked bytes (j .traces) 0) (tallyOf (walked bytes (j .traces) 0))
+  pub mine-done : (g : Graph) → not r ≡ false → g ≡ graphFound (j .activities) (walked bytes (j .traces) 0)
       → _≡_ {A = Mined} (record { answer = j .answer; graph = g }) (minedOf bytes)
   unfolding minedOf
   mine-done g n hg =
       let some-graph : isDone (logOf bytes .answer) ≡ true = ap isDone (sym the-answer) ∙ sym hr ∙ not-false r n in
       let read =
       hg
-      ∙ ap (λ (x : Judged). graphFound (x .activities) (walked bytes (x .traces) 0) (tallyOf (walked bytes (x .traces) 0))) hj
-      ∙ ap (λ (K : Traces). graphFound (logOf bytes .activities) K (tallyOf K)) (walk-all bytes)
+      ∙ ap (λ (x : Judged). graphFound (x .activities) (walked bytes (x .traces) 0)) hj
+      ∙ ap (graphFound (logOf bytes .activities)) (walk-all bytes)
       ∙ pair-for-pair (logOf bytes .traces) (small bytes) (logOf bytes .activities) in
       λ i. record {
         answer = the-answer i;

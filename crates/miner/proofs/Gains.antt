@@ -13,8 +13,8 @@ use Rattle.sets.specs.declared.set.Set.{Set}
 use Rattle.sets.proofs.Tests.{T→true, F→false, split, either}
 use Rattle.sets.proofs.Members.{those-ext, those-of}
 use Rattle.sets.proofs.RowLaws.{put-out}
-use Rattle.miner.specs.Passes.{Fact, gained, gains}
-use Rattle.miner.proofs.Turns.{pastAt, past-next, seenIn, seen-more}
+use Rattle.tally.specs.Passes.{Fact, gained, gains}
+use Rattle.tally.proofs.Turns.{pastAt, past-next, seenIn, seen-more}
 
 -- the row of the event gains what passes, and below the width that is the fact; a number past it has no row
 pub gains-below : (p : Fact) (rows : List ℕ) (e : ℕ) (past rest : List ℕ) (q : ℕ → Bool) (rows′ : List ℕ)

@@ -1,4 +1,5 @@
 -- One turn of step 6's pass: what is barred, and what the row of the event gains. Assumes nothing.
+use Rattle.sets.specs.Members.{noSet}
 use mathlib.Core.Path.{_≡_, sym, ap, ap₂, _∙_, subst}
 use mathlib.Core.Bool.{Bool}
 use mathlib.Core.List.{List, [], _∷_}
@@ -11,22 +12,23 @@ use Rattle.sets.specs.Members.{width, mem, those, someBelow}
 use Rattle.sets.specs.Rows.{rowAt, inRow}
 use Rattle.sets.specs.declared.set.Set.{Set}
 use Rattle.sets.proofs.Tests.{and-l, and-r, and-i, or-e, or-l, or-r, T-ext, T→true, F→false, false→F, split, either}
-use Rattle.sets.proofs.Bits.{bit-zero}
+use Rattle.sets.proofs.Members.{mem-none}
 use Rattle.sets.proofs.Below.{some-i, some-e}
 use Rattle.sets.proofs.Members.{those-ext, those-of}
 use Rattle.sets.proofs.RowLaws.{row-out}
 use Rattle.rules.specs.Traces.{_has_}
-use Rattle.miner.specs.Passes.{gained, forward, letIn}
-use Rattle.miner.proofs.Turns.{pastAt, past-next, seenIn, forward-next}
+use Rattle.tally.specs.Passes.{gained, gains, forward}
+use Rattle.miner.specs.Facts.{letIn}
+use Rattle.tally.proofs.Turns.{pastAt, past-next, seenIn, forward-next}
 use Rattle.miner.proofs.Gains.{gains-below}
-use Rattle.miner.proofs.MadeSets.{is-those, none}
+use Rattle.sets.proofs.MadeSets.{is-those, none}
 
 -- a row that has a member is one of the rows
 row-below : (rows : List ℕ) (s x : ℕ) → T (inRow rows s x) → s < width
 unfolding inRow
 row-below rows s x t =
     either (split (ltb s width)) (λ l. ltb-true s width (T→true _ l))
-    (λ g. absurd (false→F (ap (λ (r : Set). mem r x) (sym (row-out rows s (ltb-false s width (F→false _ g)))) ∙ bit-zero x) t))
+    (λ g. absurd (false→F (ap (λ (r : Set). mem r x) (sym (row-out rows s (ltb-false s width (F→false _ g)))) ∙ mem-none x) t))
 
 module _ (unfollowed : List ℕ) where
   -- x never directly follows something that stands in the past
@@ -36,7 +38,7 @@ module _ (unfollowed : List ℕ) where
   abbrev pub barredIn : List ℕ → Set
   barredIn past = those (barredAt past)
 
-  pub barred-none : _≡_ {A = Set} (record { bits = 0 }) (barredIn [])
+  pub barred-none : _≡_ {A = Set} noSet (barredIn [])
   unfolding _has_
   barred-none = none (barredAt []) (λ x l. F→false (barredAt [] x) (λ t. let r = some-e width (λ s. [] has s and inRow unfollowed s x) t in and-l _ _ (r .2)))
 
@@ -74,12 +76,12 @@ module _ (unfollowed : List ℕ) where
         ∙ ap barredIn (sym (past-next σ i h))
 
     pub let-in-next : (after : Set) (all rows rows′ : List ℕ) → after ≡ seenIn (drop (i + 1) σ)
-        → forward (letIn unfollowed) rows (pastAt σ i) (drop i σ) ≡ all
+        → forward (gains (letIn unfollowed)) rows (pastAt σ i) (drop i σ) ≡ all
         → rows′ ≡ gained rows (getD σ i 0) (λ x. mem after x and mem barred x)
-        → forward (letIn unfollowed) rows′ (pastAt σ (i + 1)) (drop (i + 1) σ) ≡ all
+        → forward (gains (letIn unfollowed)) rows′ (pastAt σ (i + 1)) (drop (i + 1) σ) ≡ all
     unfolding letIn
     let-in-next after all rows rows′ ha inv hr =
-        forward-next (letIn unfollowed) σ all i rows rows′ h
+        forward-next (gains (letIn unfollowed)) σ all i rows rows′ h
         (gains-below (letIn unfollowed) rows (getD σ i 0) (pastAt σ i) (drop (i + 1) σ) (λ x. mem after x and mem barred x) rows′
         (λ l x k.
         ap₂ _and_ (is-those after (λ y. drop (i + 1) σ has y) ha x k) (is-those barred (barredAt (pastAt σ i)) hb x k))

@@ -16,11 +16,11 @@ use Rattle.rules.specs.Traces.{Traces, _has_, atSomeFrom, atSome, someTrace}
 use Rattle.rules.specs.Mining.{event, someEvent, followed, between, includedAfter, neverMissed, beforeFirst as rule-beforeFirst}
 use Rattle.rules.proofs.Places.{some-at, has-past, some-of, some-trace}
 use Rattle.rules.proofs.InTurn.{Small}
-use Rattle.miner.specs.Passes.{letIn, beforeFirst, stillIncluded, missed}
-use Rattle.miner.proofs.Folds.{heard}
-use Rattle.miner.proofs.Heard.{non-every}
-use Rattle.miner.proofs.LogLaws.{later-event}
-use Rattle.miner.proofs.Tautologies.{by2}
+use Rattle.miner.specs.Facts.{letIn, beforeFirst, stillIncluded, missed}
+use Rattle.tally.proofs.Folds.{heard}
+use Rattle.tally.proofs.Heard.{non-every}
+use Rattle.tally.proofs.LogLaws.{later-event}
+use Rattle.sets.proofs.Tautologies.{by2}
 
 -- ---- the places of a log where an activity stands
 
@@ -58,7 +58,7 @@ module _ (L : Traces) where
 
   -- row s: the events that never directly follow the event s
   abbrev pub neverFollowing : List ℕ
-  neverFollowing = rowsOf (λ s t. event L s and event L t and non (followed L s t))
+  neverFollowing = rowsOf (λ s t. event L s and (event L t and non (followed L s t)))
 
   -- what u lets in are the includes that the step adds
   pub let-in-is : (u t : ℕ) → t < width
@@ -73,17 +73,17 @@ module _ (L : Traces) where
       there h =
           let k = some-place u here L h in
           let r = some-e width (λ s. k .0 has s and inRow neverFollowing s t) (and-r _ _ (k .3)) in
-          let w = T-eq (in-rowsOf (λ s t. event L s and event L t and non (followed L s t)) (r .0) t (r .1) lt) (and-r _ _ (r .2)) in
+          let w = T-eq (in-rowsOf (λ s t. event L s and (event L t and non (followed L s t))) (r .0) t (r .1) lt) (and-r _ _ (r .2)) in
           let b = at-place u (λ past rest. past has r .0 and rest has t) L (k .0) (k .1) (k .2) (and-i _ _ (and-l _ _ (r .2)) (and-l _ _ (k .3))) in
-          some-i width _ (r .0) (r .1) (and-i _ _ (and-l _ _ (and-l _ _ w)) (and-i _ _ (and-r _ _ w) b))
+          some-i width _ (r .0) (r .1) (and-i _ _ (and-l _ _ w) (and-i _ _ (and-r _ _ (and-r _ _ w)) b))
 
       back : T (someBelow width (λ s. event L s and (non (followed L s t) and between L s u t))) → T (someTrace L (atSome u here))
       back h =
           let r = some-e width (λ s. event L s and (non (followed L s t) and between L s u t)) h in
           let k = some-place u (λ past rest. past has r .0 and rest has t) L (and-r _ _ (and-r _ _ (r .2))) in
           let e = later-event L (r .0) u t (and-r _ _ (and-r _ _ (r .2))) in
-          let w = T-eq (sym (in-rowsOf (λ s t. event L s and event L t and non (followed L s t)) (r .0) t (r .1) lt))
-          (and-i _ _ (and-i _ _ (and-l _ _ (r .2)) e) (and-l _ _ (and-r _ _ (r .2)))) in
+          let w = T-eq (sym (in-rowsOf (λ s t. event L s and (event L t and non (followed L s t))) (r .0) t (r .1) lt))
+          (and-i _ _ (and-l _ _ (r .2)) (and-i _ _ e (and-l _ _ (and-r _ _ (r .2))))) in
           at-place u here L (k .0) (k .1) (k .2) (and-i _ _ (and-r _ _ (k .3)) (some-i width _ (r .0) (r .1) (and-i _ _ (and-l _ _ (k .3)) w)))
 
   -- ---- step 9

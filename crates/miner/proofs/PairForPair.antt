@@ -1,70 +1,95 @@
 -- DEMAND 2, of the miner: the graph that is read from the tally and the traces of a log is, pair for pair, the one that the rules give.
 -- Assumes nothing of the log but that its activities are below the width, which acceptance gives.
 use mathlib.Core.Path.{_≡_, refl, ap, ap₂, _∙_}
+use mathlib.Core.Bool.{Bool, false}
 use mathlib.Core.List.{List, []}
-use Prim.Native.Nat.{ℕ, _<_}
-use Rattle.sets.specs.Tests.{_and_, non}
-use Rattle.sets.specs.Members.{width, those}
-use Rattle.sets.specs.Rows.{Relation, noRows, rowsOf}
+use Prim.Native.Nat.{ℕ, zero, suc, _<_}
+use native.Mathlib.Omega.{arith}
+use lib.Dec.{eqb}
+use Rattle.sets.specs.Tests.{_or_, non, when_then_else_}
+use Rattle.sets.specs.Members.{width}
+use Rattle.sets.specs.Rows.{Relation, noRows, rowsOf, turned}
+use Rattle.sets.specs.Tables.{withTable}
 use Rattle.sets.proofs.RowLaws.{rowsOf-ext}
+use Rattle.sets.proofs.TableLaws.{tablesOf-ext, empty-tablesOf, fill-tablesOf}
+use Rattle.engine.specs.Relations.{Relations, relationCount, headOf, graphOf, kept, tablesFrom}
 use Rattle.engine.specs.Markings.{openingOf}
 use Rattle.rules.specs.Traces.{Traces}
-use Rattle.rules.specs.Mining.{event, someEvent, followed, between, beforeFirst as ruleBeforeFirst, neverMissed, step9, step10, afterEight, mined}
+use Rattle.rules.specs.Mining.{beforeFirst as ruleBeforeFirst, neverMissed, step9, step10, afterFive, afterEight, mined}
 use Rattle.rules.specs.Mined.{graphFrom, minedGraph}
 use Rattle.rules.proofs.InTurn.{Small}
-use Rattle.miner.specs.Passes.{Fact, forward, through, letIn, beforeFirst, missed}
-use Rattle.miner.specs.Tallies.{tallyOf}
-use Rattle.miner.specs.Reading.{absent, turned, inEither, reducedOf, waited, conditionsOf, chainsOf, sevenOf, includesOf, waitedOf, graphFound}
-use Rattle.miner.proofs.Folds.{heard, forward-rowsOf, through-all}
-use Rattle.miner.proofs.Exclusions.{absent-rows}
-use Rattle.miner.proofs.LaterSteps.{responses-mined, conditions-mined, includes-mined, excludes-mined}
+use Rattle.tally.specs.Passes.{Fact, gains, forward, through}
+use Rattle.tally.specs.Tallies.{tallied}
+use Rattle.tally.proofs.Folds.{heard, forward-rowsOf, through-rowsOf, through-all}
+use Rattle.miner.specs.Facts.{letIn, beforeFirst, missed}
+use Rattle.miner.specs.Stages.{includesOf, sevenOf, fourTables, graphFound}
+use Rattle.miner.proofs.RowReadings.{turned-rows}
+use Rattle.miner.proofs.EarlySteps.{events, chains-read}
+use Rattle.miner.proofs.Exclusions.{never-read}
+use Rattle.miner.proofs.LaterSteps.{betweens, responses-mined, conditions-mined, includes-mined, excludes-mined}
 use Rattle.miner.proofs.OverLog.{neverFollowing, let-in-is, before-first-is, missed-is}
+
+-- the tables of four relations, put in one after the other
+four-tables : (q : Relations)
+    → fourTables (rowsOf (λ t s. q .conditions s t)) (rowsOf (q .responses)) (rowsOf (q .includes)) (rowsOf (q .excludes)) ≡ tablesFrom q
+four-tables q =
+    ap (λ (x : List ℕ). with-three (withTable x 0 (rowsOf (kept q 0)))) (empty-tablesOf relationCount none (λ k a b lk la lb. refl))
+    ∙ ap (λ (x : List ℕ). with-three x) (fill-tablesOf relationCount none 0 (kept q 0))
+    ∙ ap (λ (x : List ℕ). withTable (withTable x 2 (rowsOf (kept q 2))) 3 (rowsOf (kept q 3))) (fill-tablesOf relationCount _ 1 (kept q 1))
+    ∙ ap (λ (x : List ℕ). withTable x 3 (rowsOf (kept q 3))) (fill-tablesOf relationCount _ 2 (kept q 2))
+    ∙ fill-tablesOf relationCount _ 3 (kept q 3)
+    ∙ tablesOf-ext relationCount _ (kept q) same
+  where
+    none : ℕ → Relation
+    none k a b = false
+
+    with-three : List ℕ → List ℕ
+    with-three x = withTable (withTable (withTable x 1 (rowsOf (kept q 1))) 2 (rowsOf (kept q 2))) 3 (rowsOf (kept q 3))
+
+    same : (k a b : ℕ) → k < relationCount → a < width → b < width
+        → (when eqb k 3 then kept q 3 else when eqb k 2 then kept q 2 else when eqb k 1 then kept q 1 else when eqb k 0 then kept q 0 else none k) a b
+        ≡ kept q k a b
+    same zero a b lk la lb = refl
+    same (suc zero) a b lk la lb = refl
+    same (suc (suc zero)) a b lk la lb = refl
+    same (suc (suc (suc zero))) a b lk la lb = refl
+    same (suc (suc (suc (suc k)))) a b lk la lb = absurd (omega arith)
 
 module _ (L : Traces) where
   -- the rows that a walk leaves, by what the rules say of each pair
-  walk-is : (p : Fact) (R : Relation) → ((a x : ℕ) → a < width → x < width → heard p L a x ≡ R a x) → through (λ r σ. forward p r [] σ) noRows L ≡ rowsOf R
-  walk-is p R e = through-all p (λ r σ. forward p r [] σ) (λ r σ. forward-rowsOf p r [] σ) L ∙ rowsOf-ext (heard p L) R e
+  walk-is : (p : Fact) (R : Relation) → ((a x : ℕ) → a < width → x < width → heard p L a x ≡ R a x)
+      → through (λ r σ. forward (gains p) r [] σ) noRows L ≡ rowsOf R
+  walk-is p R e = through-all p (λ r σ. forward (gains p) r [] σ) (λ r σ. forward-rowsOf p r [] σ) L ∙ rowsOf-ext (heard p L) R e
 
-  unfollowed-is : rowsOf (absent (tallyOf L .events) (tallyOf L .followed)) ≡ neverFollowing L
-  unfolding tallyOf
-  unfollowed-is = absent-rows L (followed L)
-
-  includes-are : includesOf (tallyOf L) L ≡ rowsOf (mined L .includes)
+  -- the walk of step 6 starts from the includes of step 3
+  includes-are : includesOf (events L) (tallied L) L ≡ rowsOf (mined L .includes)
   includes-are =
-      ap (λ (rows : List ℕ). rowsOf (inEither (rowsOf (turned (chainsOf (tallyOf L)))) rows))
-      (ap (λ (never : List ℕ). through (λ r σ. forward (letIn never) r [] σ) noRows L) unfollowed-is
-      ∙ walk-is (letIn (neverFollowing L)) (λ u t. someEvent L (λ s. non (followed L s t) and between L s u t)) (λ u t lu lt. let-in-is L u t lt))
+      (λ i. through (λ r σ. forward (gains (letIn (never-read L i))) r [] σ) (rowsOf (turned (chains-read L i))) L)
+      ∙ ap (λ (rows : List ℕ). through (λ r σ. forward (gains (letIn (neverFollowing L))) r [] σ) rows L)
+      (turned-rows (λ t s. afterFive L .includes s t))
+      ∙ through-rowsOf (letIn (neverFollowing L)) _ (λ r σ. forward-rowsOf (letIn (neverFollowing L)) r [] σ) (afterFive L .includes) L
+      ∙ rowsOf-ext _ _ (λ u t lu lt. ap (λ (b : Bool). afterFive L .includes u t or b) (let-in-is L u t lt))
       ∙ includes-mined L
 
   module _ (small : Small L) where
     -- the replay of step 9 goes by the includes and excludes after step 7, which no later step changes
-    missed-are : through (λ r σ. forward (missed (tallyOf L .events) (rowsOf (mined L .includes)) (rowsOf (mined L .excludes))) r [] σ) noRows L
+    missed-are : through (λ r σ. forward
+        (gains (missed (events L) (rowsOf (mined L .includes)) (rowsOf (mined L .excludes)))) r [] σ) noRows L
         ≡ rowsOf (λ t s. non (neverMissed L (afterEight L) s t))
-    unfolding tallyOf mined step10 step9
+    unfolding mined step10 step9
     missed-are =
-        walk-is (missed (those (event L)) (rowsOf (afterEight L .includes)) (rowsOf (afterEight L .excludes))) (λ t s. non (neverMissed L (afterEight L) s t))
+        walk-is (missed (events L) (rowsOf (afterEight L .includes)) (rowsOf (afterEight L .excludes)))
+        (λ t s. non (neverMissed L (afterEight L) s t))
         (λ t s lt ls. missed-is L (afterEight L) s ls small t)
 
-    conditions-are : waitedOf (tallyOf L .events) (rowsOf (reducedOf (conditionsOf (tallyOf L)))) (includesOf (tallyOf L) L) (sevenOf (tallyOf L)) L
-        ≡ rowsOf (λ t s. mined L .conditions s t)
-    conditions-are =
-        ap₂ (λ (first unmet : List ℕ). rowsOf (reducedOf (rowsOf (waited (tallyOf L .events) (rowsOf (reducedOf (conditionsOf (tallyOf L)))) first unmet))))
-        (walk-is beforeFirst (λ t s. ruleBeforeFirst L s t) (λ t s lt ls. before-first-is L s t))
-        (ap₂ (λ (i x : List ℕ). through (λ r σ. forward (missed (tallyOf L .events) i x) r [] σ) noRows L) includes-are (excludes-mined L) ∙ missed-are)
-        ∙ conditions-mined L
-
-    pub pair-for-pair : (A : ℕ) → graphFound A L (tallyOf L) ≡ minedGraph A L
+    pub pair-for-pair : (A : ℕ) → graphFound A L ≡ minedGraph A L
     unfolding graphFound minedGraph graphFrom
-    pair-for-pair A i =
-        record {
-          activities = A;
-          events = events-are i;
-          opening = openingOf (events-are i);
-          conditions = conditions-are i;
-          responses = responses-mined L i;
-          includes = includes-are i;
-          excludes = excludes-mined L i;
-        }
-      where
-        events-are : tallyOf L .events ≡ those (event L)
-        events-are = unfold tallyOf in refl
+    pair-for-pair A =
+        let conditions-are =
+        conditions-mined L _ _ (walk-is beforeFirst (λ t s. ruleBeforeFirst L s t) (λ t s lt ls. before-first-is L s t))
+        (ap₂ (λ (x y : List ℕ). through (λ r σ. forward (gains (missed (events L) x y)) r [] σ) noRows L) includes-are
+        (excludes-mined L) ∙ missed-are) in
+        (λ i.
+        graphOf (headOf A (events L) (openingOf (events L)))
+        (fourTables (conditions-are i) (responses-mined L i) (includes-are i) (excludes-mined L i)))
+        ∙ ap (graphOf (headOf A (events L) (openingOf (events L)))) (four-tables (mined L))

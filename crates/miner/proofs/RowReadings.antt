@@ -1,4 +1,4 @@
--- The readings of rows that are some relation's rows: each is again the rows of a relation. Assumes nothing.
+-- The readings of rows that are some relation's rows: each is again the rows of a relation. A pair is read by `simp reading`. Assumes nothing.
 use mathlib.Core.Path.{_≡_, ap, ap₂, _∙_, subst}
 use mathlib.Core.Bool.{Bool}
 use Prim.Native.Nat.{ℕ, _<_, _≤_}
@@ -7,29 +7,45 @@ use borrow.Author.Tests.{ltb-true, ltb-false}
 use lib.Dec.{T, eqb, eqb→eq, ltb}
 use Rattle.sets.specs.Tests.{_and_, _or_, non}
 use Rattle.sets.specs.Members.{width, those, someBelow, leastBelow}
-use Rattle.sets.specs.Rows.{Relation, inRow, rowsOf}
-use Rattle.sets.proofs.Tests.{and-l, and-r, and-i, non-i, non-e, T-ext, T→true, F→false, false→F, eqb-of, split, either}
+use Rattle.sets.specs.Rows.{Relation, rowsOf, rowsFor, turned}
+use Rattle.sets.proofs.Tests.{and-l, and-r, and-i, non-i, non-e, non-non, T-ext, T→true, F→false, false→F, eqb-of, split, either}
 use Rattle.sets.proofs.Below.{some-i, some-e, some-ext, least-ext, least-is, least-before}
 use Rattle.sets.proofs.Members.{mem-those}
 use Rattle.sets.proofs.RowLaws.{in-rowsOf, rowsOf-ext}
 use Rattle.rules.specs.Mining.{smallestSource}
-use Rattle.miner.specs.Reading.{diagonal, smallestOf, turned, inEither, reducedOf}
+use Rattle.steps.specs.Rowwise.{smallest, unbroken, absent, inEither, reducedOf}
 
 pub turned-rows : (r : Relation) → rowsOf (turned (rowsOf r)) ≡ rowsOf (λ a x. r x a)
 unfolding turned
-turned-rows r = rowsOf-ext (turned (rowsOf r)) (λ a x. r x a) (λ a x la lx. in-rowsOf r x a lx la)
+turned-rows r = rowsOf-ext _ _ (λ a x la lx. in-rowsOf r x a lx la)
 
-pub united-rows : (r q : Relation) → rowsOf (inEither (rowsOf r) (rowsOf q)) ≡ rowsOf (λ a x. r a x or q a x)
-unfolding inEither
-united-rows r q =
-    rowsOf-ext (inEither (rowsOf r) (rowsOf q)) (λ a x. r a x or q a x) (λ a x la lx. ap₂ _or_ (in-rowsOf r a x la lx) (in-rowsOf q a x la lx))
+-- ---- at the members of a set: p are its members
 
-pub diagonal-rows : (p : ℕ → Bool) → rowsOf (diagonal (those p)) ≡ rowsOf (λ a x. eqb a x and p a)
-unfolding diagonal
-diagonal-rows p = rowsOf-ext (diagonal (those p)) (λ a x. eqb a x and p a) (λ a x la lx. ap (λ (t : Bool). eqb a x and t) (mem-those p a la))
+module _ (p : ℕ → Bool) where
+  pub unbroken-rows : (r : Relation) → rowsFor (those p) (unbroken (those p) (rowsOf (λ a x. non (r a x)))) ≡ rowsOf (λ a x. p a and (p x and non (eqb x a) and r a x))
+  unfolding unbroken rowsFor
+  unbroken-rows r = rowsOf-ext _ _ (λ a x la lx. simp (mem-those, in-rowsOf, non-non))
+
+  pub absent-rows : (r : Relation) → rowsFor (those p) (absent (those p) (rowsOf r)) ≡ rowsOf (λ a x. p a and (p x and non (r a x)))
+  unfolding absent rowsFor
+  absent-rows r = rowsOf-ext _ _ (λ a x la lx. simp (mem-those, in-rowsOf))
+
+  pub united-rows : (r q : Relation) → rowsFor (those p) (inEither (rowsOf r) (rowsOf q)) ≡ rowsOf (λ a x. p a and (r a x or q a x))
+  unfolding inEither rowsFor
+  united-rows r q = rowsOf-ext _ _ (λ a x la lx. simp (mem-those, in-rowsOf))
+
+  pub reduced-rows : (r : Relation) → rowsFor (those p) (reducedOf (rowsOf r)) ≡ rowsOf (λ a x. p a and (r a x and non (someBelow width (λ u. r a u and r u x))))
+  unfolding reducedOf rowsFor
+  reduced-rows r =
+      rowsOf-ext _ _
+      (λ a x la lx.
+      ap₂ _and_ (mem-those p a la)
+      (ap₂ (λ (b c : Bool). b and non c) (in-rowsOf r a x la lx) (some-ext width _ _ (λ u lu. simp (in-rowsOf)))))
+
+-- ---- the smallest source
 
 -- the least that passes is the one that passes with none below it
-pub least-none : (p : ℕ → Bool) (a : ℕ) → a < width → (p a and eqb a (leastBelow width p)) ≡ (p a and non (someBelow a p))
+least-none : (p : ℕ → Bool) (a : ℕ) → a < width → (p a and eqb a (leastBelow width p)) ≡ (p a and non (someBelow a p))
 least-none p a l =
     T-ext (p a and eqb a (leastBelow width p)) (p a and non (someBelow a p))
     (λ t.
@@ -57,20 +73,8 @@ least-none p a l =
     at : T (p a) → T (non (someBelow a p)) → a ≡ k
     at t n = omega (arith, up t, down t n)
 
-pub smallest-rows : (r : Relation) → rowsOf (smallestOf (rowsOf (λ t s. r s t))) ≡ rowsOf (smallestSource r)
-unfolding smallestOf smallestSource
-smallest-rows r =
-    rowsOf-ext (smallestOf (rowsOf (λ t s. r s t))) (smallestSource r)
-    (λ a x la lx.
-    ap₂ (λ (b : Bool) (n : ℕ). b and eqb a n) (in-rowsOf (λ t s. r s t) x a lx la)
-    (least-ext width (inRow (rowsOf (λ t s. r s t)) x) (λ s. r s x) (λ s ls. in-rowsOf (λ t u. r u t) x s lx ls))
-    ∙ least-none (λ s. r s x) a la)
-
-pub reduced-rows : (r : Relation) → rowsOf (reducedOf (rowsOf r)) ≡ rowsOf (λ a x. r a x and non (someBelow width (λ u. r a u and r u x)))
-unfolding reducedOf
-reduced-rows r =
-    rowsOf-ext (reducedOf (rowsOf r)) (λ a x. r a x and non (someBelow width (λ u. r a u and r u x)))
-    (λ a x la lx.
-    ap₂ (λ (b c : Bool). b and non c) (in-rowsOf r a x la lx)
-    (some-ext width (λ u. inRow (rowsOf r) a u and inRow (rowsOf r) u x) (λ u. r a u and r u x)
-    (λ u lu. ap₂ _and_ (in-rowsOf r a u la lu) (in-rowsOf r u x lu lx))))
+-- of a target's sources, as a row has them, the smallest is the rules' one
+pub smallest-read : (r : Relation) (t : ℕ) (p : ℕ → Bool) → ((s : ℕ) → s < width → p s ≡ r s t) → (s : ℕ) → s < width → smallest p s ≡ smallestSource r s t
+unfolding smallest smallestSource
+smallest-read r t p h s l =
+    ap₂ (λ (b : Bool) (n : ℕ). b and eqb s n) (h s l) (least-ext width p (λ u. r u t) h) ∙ least-none (λ u. r u t) s l

@@ -1,4 +1,3 @@
-pub mod Passes
-pub mod Tallies
-pub mod Reading
+pub mod Facts
+pub mod Stages
 pub mod Mine

@@ -1,21 +1,29 @@
 // The miner: from the bytes of a log to its graph.
 ghost use mathlib.Core.Path.{_≡_};
-ghost use mathlib.Core.List.{[]};
-ghost use Rattle.sets.specs.Rows.{noRows};
-ghost use Rattle.miner.specs.Passes.{forward, through, walked, letIn, beforeFirst, missed};
-ghost use Rattle.miner.specs.Reading.{fiveFrom, sevenFrom, includesFrom, waitedOf, graphFound};
+ghost use Rattle.tally.specs.Passes.{walked};
+ghost use Rattle.miner.specs.Stages.{fiveFrom, sevenFrom, fourTables, graphRead, graphFound};
 ghost use Rattle.miner.specs.Mine.{minedOf};
-ghost use Rattle.miner.specs.Tallies.{tallyOf};
-use crate::reduce;
-use crate::second;
-use crate::steps;
-use crate::tally;
+use crate::conditions;
+use crate::includes;
 use engine::Graph;
+use engine::Head;
 use engine::Marking;
+use engine::Relations;
+use engine::graph::CONDITIONS;
+use engine::graph::EXCLUDES;
+use engine::graph::INCLUDES;
+use engine::graph::KINDS;
+use engine::graph::RESPONSES;
 use sets::Answer;
 use sets::Rows;
 use sets::Set;
+use sets::activity::WIDTH;
 use sets::rows;
+use sets::tables;
+use steps::reduce;
+use steps::relations;
+use tally::Tally;
+use tally::log;
 
 // What mining gives: the log's answer, and its graph; the empty graph where the log is refused.
 pub struct Mined {
@@ -23,123 +31,84 @@ pub struct Mined {
     pub graph: Graph,
 }
 
-// The excludes after steps 1 to 5, where `selves` exclude themselves.
-fn excludes_five<'a>(events: Set, selves: Set, before: &'a Rows, later: &'a Rows) -> Rows
-    ensures { λ r. ⌜ r ≡ fiveFrom events selves (now (before .entry)) (now (later .entry)) ⌝ }
+// The excludes after steps 1 to 5, by source.
+fn excludes_five<'a>(events: Set, tally: &'a Tally, chains: &'a Rows) -> Rows
+    ensures { λ r. ⌜ r ≡ fiveFrom events (now (tally .entry)) (now (chains .entry)) ⌝ }
 {
-    let apart = steps::apart(events, before, later);
-    let closing = steps::closing(events, selves, before, later);
-    let itself = steps::diagonal(selves);
-    let four = steps::united(&itself, &steps::smallest(&apart));
-    steps::united(&four, &steps::smallest(&closing))
+    let excluded = relations::excluded_by(events, tally, log::BEFORE, log::LATER, chains);
+    rows::turned(&excluded)
 }
 
 // The excludes after steps 6 and 7, from those after step 5 and what never directly follows.
-fn excludes_seven<'a>(events: Set, five: &'a Rows, never: &'a Rows, unalternated: &'a Rows) -> Rows
-    ensures { λ r. ⌜ r ≡ sevenFrom events (now (five .entry)) (now (never .entry)) (now (unalternated .entry)) ⌝ }
+fn excludes_seven<'a>(events: Set, tally: &'a Tally, five: &'a Rows, never: &'a Rows) -> Rows
+    ensures { λ r. ⌜ r ≡ sevenFrom events (now (tally .entry)) (now (five .entry)) (now (never .entry)) ⌝ }
 {
-    let six = steps::united(five, never);
-    steps::not_redundant(events, &six, unalternated)
+    let six = relations::united(events, five, never);
+    relations::not_redundant(events, &six, tally, log::UNALTERNATED)
 }
 
-// What step 6 includes, over all traces.
-fn let_in<'a>(log: &'a [u8], traces: usize, never: &'a Rows) -> Rows
-    ensures { λ r. ⌜ r ≡ through (λ r σ. forward (letIn (now (never .entry))) r [] σ) noRows (walked (now (log .entry)) traces 0) ⌝ }
+// The tables of a graph, from the rows of its relations.
+fn relations_of<'a>(
+    conditions: &'a Rows,
+    responses: &'a Rows,
+    includes: &'a Rows,
+    excludes: &'a Rows,
+) -> Relations
+    ensures { λ r. ⌜ r ≡ fourTables (now (conditions .entry)) (now (responses .entry)) (now (includes .entry)) (now (excludes .entry)) ⌝ }
 {
-    let mut out = rows::empty();
-    let mut k: usize = 0;
-    while k < traces {
-        let p = calllog::trace::trace_part(log, k);
-        let start = p.start;
-        let end = start + p.length;
-        second::let_in(&log[start..end], never, &mut out);
-        k += 1;
-    }
+    let mut out: Relations = [0; KINDS as usize * WIDTH];
+    tables::put_rows(&mut out, CONDITIONS, conditions);
+    tables::put_rows(&mut out, RESPONSES, responses);
+    tables::put_rows(&mut out, INCLUDES, includes);
+    tables::put_rows(&mut out, EXCLUDES, excludes);
     out
 }
 
-// The includes, of steps 3 and 6.
-fn includes_six<'a>(log: &'a [u8], traces: usize, chains: &'a Rows, never: &'a Rows) -> Rows
-    ensures { λ r. ⌜ r ≡ includesFrom (now (chains .entry)) (now (never .entry)) (walked (now (log .entry)) traces 0) ⌝ }
-{
-    let three = steps::turned(chains);
-    let six = let_in(log, traces, never);
-    steps::united(&three, &six)
-}
-
-// What step 9 asks of all traces.
-fn replay_included<'a>(
-    log: &'a [u8],
+// The graph that a tally gives, with the traces that it is of: steps 6 and 9 ask them once more.
+fn graph_read<'a>(
+    bytes: &'a [u8],
+    activities: u8,
     traces: usize,
     events: Set,
-    includes: &'a Rows,
-    excludes: &'a Rows,
-    first: &mut Rows,
-    unmet: &mut Rows,
-)
-    ensures { λ _. ⌜ now (first .exit) ≡ through (λ r σ. forward beforeFirst r [] σ) (now (first .entry)) (walked (now (log .entry)) traces 0) ⌝ }
-    ensures { λ _. ⌜ now (unmet .exit) ≡ through (λ r σ. forward (missed events (now (includes .entry)) (now (excludes .entry))) r [] σ) (now (unmet .entry)) (walked (now (log .entry)) traces 0) ⌝ }
+    tally: &'a Tally,
+) -> Graph
+    ensures { λ r. ⌜ r ≡ graphRead activities (walked (now (bytes .entry)) traces 0) events (now (tally .entry)) ⌝ }
 {
-    let mut k: usize = 0;
-    while k < traces {
-        let p = calllog::trace::trace_part(log, k);
-        let start = p.start;
-        let end = start + p.length;
-        second::replay_included(&log[start..end], events, includes, excludes, first, unmet);
-        k += 1;
-    }
-}
-
-// The conditions, by target: steps 9 and 10 on those of step 8.
-fn conditions_ten<'a>(
-    log: &'a [u8],
-    traces: usize,
-    events: Set,
-    eight: &'a Rows,
-    includes: &'a Rows,
-    excludes: &'a Rows,
-) -> Rows
-    ensures { λ r. ⌜ r ≡ waitedOf events (now (eight .entry)) (now (includes .entry)) (now (excludes .entry)) (walked (now (log .entry)) traces 0) ⌝ }
-{
-    let mut first = rows::empty();
-    let mut unmet = rows::empty();
-    replay_included(
-        log,
+    let chains = relations::unbroken(events, tally, log::UNCHAINED);
+    let never = relations::absent(events, tally, log::FOLLOWED);
+    let five = excludes_five(events, tally, &chains);
+    let excludes = excludes_seven(events, tally, &five, &never);
+    let includes = includes::includes_six(bytes, traces, &chains, &never);
+    let two = relations::unbroken(events, tally, log::UNPRECEDED);
+    let eight = reduce::reduced(events, &two);
+    let conditions = conditions::conditions_ten(
+        bytes,
         traces,
         events,
-        includes,
-        excludes,
-        &mut first,
-        &mut unmet,
+        &eight,
+        &includes,
+        &excludes,
     );
-    let nine = steps::waited(events, eight, &first, &unmet);
-    reduce::reduced(&nine)
+    let answering = relations::unbroken(events, tally, log::UNANSWERED);
+    let responses = reduce::reduced(events, &answering);
+    let found = relations_of(&conditions, &responses, &includes, &excludes);
+    Graph {
+        head: Head {
+            activities,
+            events,
+            opening: Marking::opening(events),
+        },
+        relations: found,
+    }
 }
 
 // The graph of a log's first traces.
-fn graph_found(log: &[u8], activities: u8, traces: usize) -> Graph
-    ensures { λ r. ⌜ r ≡ graphFound activities (walked (now (log .entry)) traces 0) (tallyOf (walked (now (log .entry)) traces 0)) ⌝ }
+fn graph_found(bytes: &[u8], activities: u8, traces: usize) -> Graph
+    ensures { λ r. ⌜ r ≡ graphFound activities (walked (now (bytes .entry)) traces 0) ⌝ }
 {
-    let t = tally::counted(log, traces);
-    let events = t.events;
-    let chains = steps::unbroken(events, &t.unchained);
-    let never = steps::absent(events, &t.followed);
-    let selves = steps::selves(events, &t.before, &chains);
-    let five = excludes_five(events, selves, &t.before, &t.later);
-    let excludes = excludes_seven(events, &five, &never, &t.unalternated);
-    let includes = includes_six(log, traces, &chains, &never);
-    let eight = reduce::reduced(&steps::unbroken(events, &t.unpreceded));
-    let conditions = conditions_ten(log, traces, events, &eight, &includes, &excludes);
-    let responses = reduce::reduced(&steps::unbroken(events, &t.unanswered));
-    Graph {
-        activities,
-        events,
-        opening: Marking::opening(events),
-        conditions,
-        responses,
-        includes,
-        excludes,
-    }
+    let mut tally = log::empty();
+    let events = log::note_traces(bytes, traces, &mut tally);
+    graph_read(bytes, activities, traces, events, &tally)
 }
 
 // The graph of a log.

@@ -126,7 +126,7 @@ module _ (file trace : List ℕ) (r : Reading) (hr : r ≡ readOf file) (d : Boo
       ∙ sym (ap shown (file-done true (not-false d h)))
 
   module _ (h : not d ≡ false) (small : Bytes file) (l : length trace ≤ longestTrace) (p : Replayed)
-      (hp : p ≡ replayFrom (r .graph .events) (relationsOf (r .graph)) (r .graph .opening) 0 trace) where
+      (hp : p ≡ replayFrom (r .graph .head .events) (relationsOf (r .graph)) (r .graph .head .opening) 0 trace) where
     the-replay : p ≡ replayOf (readOf file .graph) trace
     the-replay = hp ∙ sym (replay-judged (r .graph) (read-judged file r d small hr hd h) trace l) ∙ ap (λ (x : Reading). replayOf (x .graph) trace) hr
 

@@ -84,15 +84,8 @@ pub extern "C" fn skelfora_replay(file: &[u8], trace: &[u8]) -> u64
     if Place::LIMIT < trace.len() {
         return packed(Answer::AboveLimit, 0);
     }
-    let p = engine::replay::run(
-        r.graph.events,
-        &r.graph.conditions,
-        &r.graph.responses,
-        &r.graph.includes,
-        &r.graph.excludes,
-        r.graph.opening,
-        trace,
-    );
+    let head = r.graph.head;
+    let p = engine::replay::run(head, &r.graph.relations, trace);
     let a = p.answer;
     let place = p.place.0;
     let low = packed(a, place);

@@ -108,8 +108,8 @@ module _ (bytes : List ℕ) where
   abbrev pub replay-none-gives : Replayed → Type 0
   replay-none-gives r = Holding bytes (λ log. Gives replay-none.Post (λ κ. (log, tt)) (λ κ. r))
 
-  pub replay-none-said : (r : Replayed) → replay-none-gives r → r ≡ ending Done 0 (openingOf (minedOf bytes .graph .events)) true
-  replay-none-said r c = c .2 .2 ∙ ap (λ (b : List ℕ). ending Done 0 (openingOf (minedOf b .graph .events)) true) (c .1)
+  pub replay-none-said : (r : Replayed) → replay-none-gives r → r ≡ ending Done 0 (openingOf (minedOf bytes .graph .head .events)) true
+  replay-none-said r c = c .2 .2 ∙ ap (λ (b : List ℕ). ending Done 0 (openingOf (minedOf b .graph .head .events)) true) (c .1)
 
   -- the listing, into a buffer
   abbrev pub write-listing-gives : List ℕ → Listed → List ℕ → Type 0

@@ -142,7 +142,7 @@ module _ (bytes before : List ℕ) (r : Listed) (after : List ℕ) (c : write-li
   module _ (ea ec er ei ee et rest′ : List ℕ) (ok : T (words (firstWords ea ec er ei ee et))) (h : after ≡ line (firstWords ea ec er ei ee et) ++ rest′) where
     abbrev counted : List (List ℕ)
     counted =
-        firstWords (decimal (countBelow width (mem (graph .events))))
+        firstWords (decimal (countBelow width (mem (graph .head .events))))
         (decimal (pairCount (relationsOf graph .conditions)))
         (decimal (pairCount (relationsOf graph .responses)))
         (decimal (pairCount (relationsOf graph .includes)))

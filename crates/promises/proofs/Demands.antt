@@ -114,7 +114,7 @@ module _ (g : Graph) where
 
   module _ (m : Marking) where
     abbrev asked : ℕ → Answer
-    asked e = thenAsk (judgedWith g m) (enabled (g .events) (relationsOf g) m e)
+    asked e = thenAsk (judgedWith g m) (enabled (g .head .events) (relationsOf g) m e)
 
     pub enabled-number : (e : ℕ) (a : Answer) → enabled-gives g m e a → numberOf a ≡ numberOf (asked e)
     unfolding enabledOf
@@ -140,13 +140,13 @@ module _ (g : Graph) where
     accepting-number r c = ap numberOf (the-verdict r c)
 
   pub replay-number : (σ : List ℕ) (r : Replayed) → replay-gives g σ r
-      → numberOf (r .answer) ≡ numberOf (thenAsk (judgedFor g (length σ)) (replayFrom (g .events) (relationsOf g) (g .opening) 0 σ .answer))
+      → numberOf (r .answer) ≡ numberOf (thenAsk (judgedFor g (length σ)) (replayFrom (g .head .events) (relationsOf g) (g .head .opening) 0 σ .answer))
   unfolding replayOf
   replay-number σ r c = ap (λ (x : Replayed). numberOf (x .answer)) (replay-said g σ r c) ∙ ap numberOf (within (isDone (judgedFor g (length σ))))
     where
       within : (t : Bool)
-          → (when t then replayFrom (g .events) (relationsOf g) (g .opening) 0 σ else ending (judgedFor g (length σ)) 0 emptyMarking false) .answer
-          ≡ when t then replayFrom (g .events) (relationsOf g) (g .opening) 0 σ .answer else judgedFor g (length σ)
+          → (when t then replayFrom (g .head .events) (relationsOf g) (g .head .opening) 0 σ else ending (judgedFor g (length σ)) 0 emptyMarking false) .answer
+          ≡ when t then replayFrom (g .head .events) (relationsOf g) (g .head .opening) 0 σ .answer else judgedFor g (length σ)
       within true = refl
       within false = refl
 
@@ -237,9 +237,9 @@ mine-pairs bytes r c d =
 -- ---- the bit-set engine answers as the set rules do, for a graph and a marking that are not refused
 
 module _ (g : Graph) (m : Marking) (ok : numberOf (judgedWith g m) ≡ 0) where
-  pub enabled-rules : (e : ℕ) (a : Answer) → enabled-gives g m e a → numberOf a ≡ numberOf (enabled (g .events) (relationsOf g) m e)
+  pub enabled-rules : (e : ℕ) (a : Answer) → enabled-gives g m e a → numberOf a ≡ numberOf (enabled (g .head .events) (relationsOf g) m e)
   enabled-rules e a c =
-      enabled-number g m e a c ∙ ap (λ (x : Answer). numberOf (thenAsk x (enabled (g .events) (relationsOf g) m e))) (done-by (judgedWith g m) ok)
+      enabled-number g m e a c ∙ ap (λ (x : Answer). numberOf (thenAsk x (enabled (g .head .events) (relationsOf g) m e))) (done-by (judgedWith g m) ok)
 
   pub accepting-rules : (r : Verdict) → accepting-gives g m r → r .accepting ≡ accepting m
   unfolding acceptingOf _and_
@@ -264,11 +264,11 @@ module _ (g : Graph) (m : Marking) (e : ℕ) where
 
 -- and it replays step for step: to the first refusal, or through
 module _ (g : Graph) (σ : List ℕ) (ok : numberOf (judgedFor g (length σ)) ≡ 0) (r : Replayed) (c : replay-gives g σ r) where
-  pub replay-stops : Refused (r .answer) → StopsAt (g .events) (relationsOf g) (g .opening) σ r
-  replay-stops = stops-at (g .events) (relationsOf g) (g .opening) σ r (replay-runs g σ r (replay-said g σ r c) (done-by _ ok))
+  pub replay-stops : Refused (r .answer) → StopsAt (g .head .events) (relationsOf g) (g .head .opening) σ r
+  replay-stops = stops-at (g .head .events) (relationsOf g) (g .head .opening) σ r (replay-runs g σ r (replay-said g σ r c) (done-by _ ok))
 
-  pub replay-through : numberOf (r .answer) ≡ 0 → GoesThrough (g .events) (relationsOf g) (g .opening) σ r
-  replay-through d = goes-through (g .events) (relationsOf g) (g .opening) σ r (replay-runs g σ r (replay-said g σ r c) (done-by _ ok)) (done-by _ d)
+  pub replay-through : numberOf (r .answer) ≡ 0 → GoesThrough (g .head .events) (relationsOf g) (g .head .opening) σ r
+  replay-through d = goes-through (g .head .events) (relationsOf g) (g .head .opening) σ r (replay-runs g σ r (replay-said g σ r c) (done-by _ ok)) (done-by _ d)
 
 -- ---- files and graphs go round without a change
 
@@ -323,7 +323,7 @@ module _ (bytes : List ℕ) (k : ℕ) (l : k < length (logOf bytes .traces)) whe
         record { done = ap numberOf (t .done); whole = t .whole; settled = t .settled; accepted = t .accepted }
 
     -- with every event enabled in its turn
-    pub own-turns : InTurn (m .graph .events) (relationsOf (m .graph)) (m .graph .opening) (traceOf bytes k)
+    pub own-turns : InTurn (m .graph .head .events) (relationsOf (m .graph)) (m .graph .head .opening) (traceOf bytes k)
     own-turns =
         let ok : judged (m .graph) ≡ Done = ap (λ (x : Mined). judged (x .graph)) (mine-said bytes m cm) ∙ mined-judged bytes in
         let long = judged-for (m .graph) ok (length (traceOf bytes k)) (read-within bytes .lengths k l) in

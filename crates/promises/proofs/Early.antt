@@ -41,17 +41,17 @@ enabled-late events r m e = by (non (mem events e)) (non (mem (m .included) e)) 
 
 module _ (g : Graph) (σ : List ℕ) (r : Replayed) (h : r ≡ replayOf g σ) where
   -- a graph that is not refused is replayed
-  pub replay-runs : judgedFor g (length σ) ≡ Done → r ≡ replayFrom (g .events) (relationsOf g) (g .opening) 0 σ
+  pub replay-runs : judgedFor g (length σ) ≡ Done → r ≡ replayFrom (g .head .events) (relationsOf g) (g .head .opening) 0 σ
   unfolding replayOf
   replay-runs d =
-      h ∙ ap (λ (a : Answer). when isDone a then replayFrom (g .events) (relationsOf g) (g .opening) 0 σ else ending a 0 emptyMarking false) d
+      h ∙ ap (λ (a : Answer). when isDone a then replayFrom (g .head .events) (relationsOf g) (g .head .opening) 0 σ else ending a 0 emptyMarking false) d
 
   -- and one that is refused gives nothing else
   pub replay-not : Refused (judgedFor g (length σ)) → r ≡ ending (judgedFor g (length σ)) 0 emptyMarking false
   unfolding replayOf
   replay-not n =
       h
-      ∙ ap (λ (t : Bool). when t then replayFrom (g .events) (relationsOf g) (g .opening) 0 σ else ending (judgedFor g (length σ)) 0 emptyMarking false) n
+      ∙ ap (λ (t : Bool). when t then replayFrom (g .head .events) (relationsOf g) (g .head .opening) 0 σ else ending (judgedFor g (length σ)) 0 emptyMarking false) n
 
   runs-late : judgedFor g (length σ) ≡ Done → early (r .answer) ≡ false
   unfolding early _or_
@@ -59,8 +59,8 @@ module _ (g : Graph) (σ : List ℕ) (r : Replayed) (h : r ≡ replayOf g σ) wh
       either (split (isDone (r .answer)))
       (λ y. ap early (done-is (r .answer) (T→true _ y)))
       (λ n.
-      let s = stops-at (g .events) (relationsOf g) (g .opening) σ r (replay-runs d) (F→false _ n) in
-      ap early (sym (s .refusal)) ∙ enabled-late (g .events) (relationsOf g) (r .marking) _)
+      let s = stops-at (g .head .events) (relationsOf g) (g .head .opening) σ r (replay-runs d) (F→false _ n) in
+      ap early (sym (s .refusal)) ∙ enabled-late (g .head .events) (relationsOf g) (r .marking) _)
 
   pub early-nothing : (numberOf (r .answer) ≡ 3) ⊎ (numberOf (r .answer) ≡ 5) → r ≡ ending (r .answer) 0 emptyMarking false
   unfolding early _or_

@@ -19,11 +19,18 @@ use Rattle.sets.proofs.set.Set.is_empty.Reads as Set-is-empty
 use Rattle.sets.proofs.set.Set.is_within.Reads as Set-is-within
 use Rattle.sets.proofs.set.Set.count.Reads as Set-count
 use Rattle.sets.proofs.set.Set.least.Reads as Set-least
+use Rattle.sets.proofs.set.Set.without_least.Reads as Set-without-least
+use Rattle.sets.proofs.set.Set.next.Reads as Set-next
 use Rattle.sets.proofs.rows.empty.Reads as empty
 use Rattle.sets.proofs.rows.row.Reads as row
 use Rattle.sets.proofs.rows.put.Reads as put
 use Rattle.sets.proofs.rows.join.Reads as join
-use Rattle.sets.proofs.rows.keep.Reads as keep
+use Rattle.sets.proofs.rows.turned.Reads as turned
+use Rattle.sets.proofs.tables.row.Reads as tables-row
+use Rattle.sets.proofs.tables.put.Reads as tables-put
+use Rattle.sets.proofs.tables.join.Reads as tables-join
+use Rattle.sets.proofs.tables.put_rows.Reads as tables-put-rows
+use Rattle.sets.proofs.tables.taken.Reads as tables-taken
 use Rattle.sets.proofs.opening.opens_with.Reads as opens-with
 use Rattle.engine.proofs.marking.Marking.of.Reads as Marking-of
 use Rattle.engine.proofs.marking.Marking.opening.Reads as Marking-opening
@@ -32,8 +39,6 @@ use Rattle.engine.proofs.judge.marking_within.Reads as marking-within
 use Rattle.engine.proofs.judge.rows_within.Reads as rows-within
 use Rattle.engine.proofs.judge.judge_for.Reads as judge-for
 use Rattle.engine.proofs.judge.judge_beside.Reads as judge-beside
-use Rattle.engine.proofs.judge.judge.Reads as judge
-use Rattle.engine.proofs.judge.judge_with.Reads as judge-with
 use Rattle.engine.proofs.step.ask.Reads as ask
 use Rattle.engine.proofs.step.next.Reads as next
 use Rattle.engine.proofs.step.is_accepting.Reads as is-accepting
@@ -121,6 +126,12 @@ Set-count-once κ a r r′ s s′ h h′ = h ∙ sym h′
 pub Set-least-once : Once Set-least.Post
 Set-least-once κ a r r′ s s′ h h′ = ap {B = Activity} (λ n. record { 0 = n }) (h ∙ sym h′)
 
+pub Set-without-least-once : Once Set-without-least.Post
+Set-without-least-once κ a r r′ s s′ h h′ = h ∙ sym h′
+
+pub Set-next-once : Once Set-next.Post
+Set-next-once κ a r r′ s s′ h h′ = ap {B = Activity} (λ n. record { 0 = n }) (h ∙ sym h′)
+
 -- ---- sets: rows
 
 pub empty-once : Once empty.Post
@@ -135,8 +146,25 @@ put-once κ a r r′ s s′ h h′ = h ∙ sym h′
 pub join-once : OnceLeft join.Post (λ κ s. now (s .0))
 join-once κ a r r′ s s′ h h′ = h ∙ sym h′
 
-pub keep-once : OnceLeft keep.Post (λ κ s. now (s .0))
-keep-once κ a r r′ s s′ h h′ = h ∙ sym h′
+pub turned-once : Once turned.Post
+turned-once κ a r r′ s s′ h h′ = h ∙ sym h′
+
+-- ---- sets: tables
+
+pub tables-row-once : Once tables-row.Post
+tables-row-once κ a r r′ s s′ h h′ = h ∙ sym h′
+
+pub tables-put-once : OnceLeft tables-put.Post (λ κ s. now (s .0))
+tables-put-once κ a r r′ s s′ h h′ = h ∙ sym h′
+
+pub tables-join-once : OnceLeft tables-join.Post (λ κ s. now (s .0))
+tables-join-once κ a r r′ s s′ h h′ = h ∙ sym h′
+
+pub tables-put-rows-once : OnceLeft tables-put-rows.Post (λ κ s. now (s .0))
+tables-put-rows-once κ a r r′ s s′ h h′ = h ∙ sym h′
+
+pub tables-taken-once : Once tables-taken.Post
+tables-taken-once κ a r r′ s s′ h h′ = h ∙ sym h′
 
 -- ---- sets: what files open with
 
@@ -165,12 +193,6 @@ judge-for-once κ a r r′ s s′ h h′ = h ∙ sym h′
 
 pub judge-beside-once : Once judge-beside.Post
 judge-beside-once κ a r r′ s s′ h h′ = h ∙ sym h′
-
-pub judge-once : Once judge.Post
-judge-once κ a r r′ s s′ h h′ = h ∙ sym h′
-
-pub judge-with-once : Once judge-with.Post
-judge-with-once κ a r r′ s s′ h h′ = h ∙ sym h′
 
 pub ask-once : Once ask.Post
 ask-once κ a r r′ s s′ h h′ = h ∙ sym h′

@@ -8,14 +8,15 @@ use borrow.Author.Tests.{not-true, not-false, lt-ltb, ltb-true, ltb-false}
 use lib.Dec.{ltb}
 use lib.ListN.{length, take, drop, List·getD-eq-default}
 use Rattle.sets.specs.Tests.{_and_, _or_, non, when_then_else_}
-use Rattle.sets.specs.Members.{bit, bitsOf, someBelow, everyBelow, isEmpty, within}
+use Rattle.sets.specs.Members.{bit, bitsOf, someBelow, everyBelow, isEmpty, within, mem, those}
 use Rattle.sets.specs.Rows.{rowAt}
 use Rattle.sets.specs.Answers.{isDone}
 use Rattle.sets.specs.declared.answer.Answer.{Answer}
 use Rattle.sets.specs.declared.answer.Answer.the-variants.{Done}
 use Rattle.sets.proofs.Tests.{T→true, F→false, split, either, true→T, false→F}
 use Rattle.sets.proofs.Asking.{done-is}
-use Rattle.engine.specs.Markings.{noSet, emptyMarking, openingOf}
+use Rattle.engine.specs.Markings.{emptyMarking, openingOf}
+use Rattle.sets.specs.Members.{noSet}
 use Rattle.engine.specs.Relations.{emptyGraph}
 use Rattle.engine.specs.Steps.{accepting}
 use Rattle.engine.specs.Judged.{markingWithin, rowWithin, rowsWithin, relationsWithin, graphWithin, judgedFor, judged}
@@ -56,7 +57,7 @@ module _ (bytes : List ℕ) where
 
 -- the empty graph is no reason to refuse
 pub empty-judged : judged emptyGraph ≡ Done
-unfolding judgedFor graphWithin relationsWithin rowsWithin rowWithin markingWithin within isEmpty everyBelow bitsOf bit _and_ _or_ non rowAt
+unfolding judgedFor graphWithin relationsWithin rowsWithin rowWithin markingWithin within isEmpty everyBelow bitsOf bit mem those _and_ _or_ non rowAt
 empty-judged = refl
 
 -- nor is any graph that the miner gives
@@ -142,10 +143,10 @@ module _ (log : List ℕ) (k : ℕ) (f : Found) (t : Bool) (hf : f ≡ foundOf l
 -- ---- `replay_none`: the empty trace
 
 abbrev Opens : Graph → Type 0
-Opens g = replayOf g [] ≡ ending Done 0 (openingOf (g .events)) true
+Opens g = replayOf g [] ≡ ending Done 0 (openingOf (g .head .events)) true
 
 -- a graph that is taken, with its opening marking accepting
-opens : (g : Graph) → judged g ≡ Done → g .opening ≡ openingOf (g .events) → accepting (g .opening) ≡ true → Opens g
+opens : (g : Graph) → judged g ≡ Done → g .head .opening ≡ openingOf (g .head .events) → accepting (g .head .opening) ≡ true → Opens g
 unfolding replayFrom
 opens g ok o a = replay-judged g ok [] (omega arith) ∙ (λ i. ending Done 0 (o i) (a i))
 
@@ -157,11 +158,11 @@ mined-opens bytes =
     opens g ok refl (ap (λ (r : Replayed). r .accepting) (sym (replay-judged g ok [] (omega arith))) ∙ demand3-file bytes .empty .accepted)
 
 empty-opens : Opens emptyGraph
-unfolding accepting someBelow bit _and_ _or_ non
+unfolding accepting someBelow bit mem those _and_ _or_ non
 empty-opens = opens emptyGraph empty-judged refl refl
 
 pub none-through : (log : List ℕ) (m : Mined) (r : Replayed) → m ≡ minedOf log → r ≡ replayOf (m .graph) []
-    → r ≡ ending Done 0 (openingOf (minedOf log .graph .events)) true
+    → r ≡ ending Done 0 (openingOf (minedOf log .graph .head .events)) true
 none-through log m r hm hr =
     hr
     ∙ ap (λ (x : Mined). replayOf (x .graph) []) hm

@@ -1,16 +1,20 @@
 -- Demand 2, the mined graph: pair for pair what the rules give, for all numbers. Assumes nothing.
 use mathlib.Core.Path.{_≡_, refl, sym, ap, _∙_}
-use Prim.Native.Nat.{ℕ, _<_}
+use mathlib.Core.List.{List}
+use Prim.Native.Nat.{ℕ, zero, suc, _<_}
 use native.Mathlib.Nat.{lt-of-lt-of-le}
 use borrow.Author.Tests.{ltb-true, ltb-false}
-use lib.Dec.{T, ltb}
+use lib.Dec.{T, ltb, lit≤}
 use Rattle.sets.specs.Members.{width, mem, those}
 use Rattle.sets.specs.Rows.{Relation, rowAt, inRow, rowsOf}
+use Rattle.sets.specs.Tables.{tableAt}
 use Rattle.sets.specs.declared.set.Set.{Set}
 use Rattle.sets.proofs.Tests.{T-eq, T-ext, T→true, F→false, split, either}
-use Rattle.sets.proofs.Bits.{bit-zero}
+use Rattle.sets.proofs.Members.{mem-none}
 use Rattle.sets.proofs.Members.{those-e, those-i}
-use Rattle.sets.proofs.RowLaws.{row-in, row-out, getD-rowsOf, in-rowsOf}
+use Rattle.sets.proofs.RowLaws.{row-rowsOf, row-out, in-rowsOf}
+use Rattle.sets.proofs.TableLaws.{table-tablesOf}
+use Rattle.engine.specs.Relations.{relationCount, kept, tablesFrom}
 use Rattle.rules.specs.Traces.{Traces}
 use Rattle.rules.specs.Mining.{event, mined}
 use Rattle.rules.specs.Mined.{graphFrom, minedGraph}
@@ -26,9 +30,9 @@ in-below r a b t =
     either (split (ltb a width))
     (λ h.
     let l : a < width = ltb-true a width (T→true _ h) in
-    let row : rowAt (rowsOf r) a ≡ those (r a) = sym (row-in (rowsOf r) a l) ∙ ap (λ (n : ℕ). record { bits = n }) (getD-rowsOf r a l) in
+    let row : rowAt (rowsOf r) a ≡ those (r a) = row-rowsOf r a l in
     (l, those-e (r a) b (T-eq (ap (λ (s : Set). mem s b) row) t) .0))
-    (λ h. absurd (T-eq (ap (λ (s : Set). mem s b) (sym (row-out (rowsOf r) a (ltb-false a width (F→false _ h)))) ∙ bit-zero b) t))
+    (λ h. absurd (T-eq (ap (λ (s : Set). mem s b) (sym (row-out (rowsOf r) a (ltb-false a width (F→false _ h)))) ∙ mem-none b) t))
 
 -- so the rows of a relation that holds of activities below the width alone are that relation, for all numbers
 whole : (r : Relation) → ((a b : ℕ) → T (r a b) → (a < width) × (b < width)) → (a b : ℕ) → inRow (rowsOf r) a b ≡ r a b
@@ -45,6 +49,17 @@ module _ (A : ℕ) (L : Traces) (ok : Accepted A L) where
   both-low : {s t : ℕ} → T (event L s) × T (event L t) → (s < width) × (t < width)
   both-low {s} {t} e = (event-low s (e .0), event-low t (e .1))
 
+  -- each table holds activities below the width alone
+  low : (k a b : ℕ) → T (kept (mined L) k a b) → (a < width) × (b < width)
+  low zero a b h = let l = both-low (of-conditions L b a h) in (l .1, l .0)
+  low (suc zero) a b h = both-low (of-responses L a b h)
+  low (suc (suc zero)) a b h = both-low (of-includes L a b h)
+  low (suc (suc (suc k))) a b h = both-low (of-excludes L a b h)
+
+  table : (k : ℕ) → k < relationCount → (a b : ℕ) → inRow (tableAt (tablesFrom (mined L)) k) a b ≡ kept (mined L) k a b
+  table k l a b =
+      ap (λ (rows : List ℕ). inRow rows a b) (table-tablesOf relationCount (kept (mined L)) k l) ∙ whole (kept (mined L) k) (low k) a b
+
   pub pairs : PairForPair A L (minedGraph A L)
   unfolding minedGraph graphFrom
   pairs =
@@ -52,8 +67,8 @@ module _ (A : ℕ) (L : Traces) (ok : Accepted A L) where
         activities = refl;
         events = λ a. T-ext _ _ (λ h. those-e (event L) a h .1) (λ h. those-i (event L) a (event-low a h) h);
         opening = refl;
-        conditions = λ s t. whole (λ b a. mined L .conditions a b) (λ b a h. let l = both-low (of-conditions L a b h) in (l .1, l .0)) t s;
-        responses = λ s t. whole (mined L .responses) (λ a b h. both-low (of-responses L a b h)) s t;
-        includes = λ s t. whole (mined L .includes) (λ a b h. both-low (of-includes L a b h)) s t;
-        excludes = λ s t. whole (mined L .excludes) (λ a b h. both-low (of-excludes L a b h)) s t;
+        conditions = λ s t. table 0 (lit≤ tt) t s;
+        responses = table 1 (lit≤ tt);
+        includes = table 2 (lit≤ tt);
+        excludes = table 3 (lit≤ tt);
       }

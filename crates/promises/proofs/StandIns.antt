@@ -8,8 +8,9 @@ use Prim.Native.Nat.{ℕ, _+_}
 use native.Mathlib.Nat.{add-zero}
 use lib.ListN.{length}
 use Rattle.sets.specs.Tests.{_and_, _or_, non, when_then_else_}
-use Rattle.sets.specs.Members.{mem, bit, bitsOf, someBelow, everyBelow, isEmpty, within}
+use Rattle.sets.specs.Members.{mem, those, bit, bitsOf, someBelow, everyBelow, isEmpty, within}
 use Rattle.sets.specs.Rows.{rowAt, inRow, listFrom, rowsOf}
+use Rattle.sets.specs.Tables.{tableAt, tablesOf}
 use Rattle.sets.specs.Answers.{isDone}
 use Rattle.sets.specs.declared.answer.Answer.the-variants.{Done, NotIncluded}
 use Rattle.sets.proofs.Tests.{true→T, false→F}
@@ -39,7 +40,7 @@ use Rattle.promises.proofs.Contracts.{mine-gives, mine-said, execute-gi
 
 graph-L : minedGraph 3 tracesL ≡ G
 unfolding tracesL G
-    _and_ _or_ non bit bitsOf someBelow listFrom rowsOf
+    _and_ _or_ non bit mem those bitsOf someBelow listFrom rowsOf tablesOf
     _has_ _beginsWith_ atEachFrom atSomeFrom everyTrace someTrace
     noPair noRelations smallestSource _without_ event someEvent _with_ atMostOnce precedes answers chained together before followed between alternates beforeFirst
     step1 step2 directlyBefore step3 neverTogether step4 closes step5 step6 step7 reduced step8 includedAfter neverMissed step9 step10
@@ -62,7 +63,7 @@ refuses-all f refuses meets =
 -- ---- 2. a miner that gives a graph without relations: G has the condition 0 to 1
 
 waits-in-G : relationsOf G .conditions 0 1 ≡ true
-unfolding G listFrom inRow rowAt bit
+unfolding G listFrom inRow rowAt tableAt mem bit
 waits-in-G = refl
 
 pub no-relations : (f : List ℕ → Mined) → ((bytes : List ℕ) (s t : ℕ) → relationsOf (f bytes .graph) .conditions s t ≡ false)
@@ -73,7 +74,7 @@ no-relations f none meets =
 -- ---- 3. an execute that changes nothing: Table 3 of the source paper has a step that is done, of event 4
 
 table-steps : (mem (table3-before .executed) 4 ≡ false) × (mem (steppedOf table3 table3-before 4 .marking .executed) 4 ≡ true)
-unfolding bit
+unfolding bit mem those bitsOf
 table-steps = (refl, ap (λ (r : Stepped). mem (r .marking .executed) 4) (examples .0))
 
 pub changes-nothing : (f : Graph → Marking → ℕ → Answer) → ((g : Graph) (m : Marking) (e : ℕ) → execute-gives g m e (f g m e) m) → ⊥
@@ -104,7 +105,7 @@ first-works g e = by (replayOf g (e ∷ [])) (isDone (replayOf g (e ∷ []) .ans
 -- on G, 0 is enabled once: ⟨0⟩ is done, and ⟨0,0⟩ is refused with 9
 on-G : (replayOf G (0 ∷ []) .answer ≡ Done) × (replayOf G (0 ∷ 0 ∷ []) .answer ≡ NotIncluded)
 unfolding G listFrom
-    _and_ _or_ non bit bitsOf someBelow everyBelow isEmpty within rowAt inRow
+    _and_ _or_ non bit mem those bitsOf someBelow everyBelow isEmpty within rowAt tableAt inRow
     waits enabled after accepting markingWithin rowWithin rowsWithin relationsWithin graphWithin judgedFor replayFrom replayOf
 on-G = (refl, refl)
 

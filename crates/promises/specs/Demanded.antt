@@ -28,9 +28,9 @@ Refused a = isDone a ≡ false
 -- DEMAND 2, the mined graph: A is the log's; an activity is an event where the rules say so; nothing is executed or pending and all events
 -- are included; and a pair, source first, is in a relation of the graph exactly where the ten steps leave it, whatever the two numbers
 pub record PairForPair (A : ℕ) (L : Traces) (g : Graph) : Type 0 where
-  pub activities : g .activities ≡ A
-  pub events : (a : ℕ) → mem (g .events) a ≡ event L a
-  pub opening : g .opening ≡ openingOf (g .events)
+  pub activities : g .head .activities ≡ A
+  pub events : (a : ℕ) → mem (g .head .events) a ≡ event L a
+  pub opening : g .head .opening ≡ openingOf (g .head .events)
   pub conditions : (s t : ℕ) → relationsOf g .conditions s t ≡ mined L .conditions s t
   pub responses : (s t : ℕ) → relationsOf g .responses s t ≡ mined L .responses s t
   pub includes : (s t : ℕ) → relationsOf g .includes s t ≡ mined L .includes s t

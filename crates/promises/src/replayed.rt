@@ -37,7 +37,7 @@ pub fn replay_own(log: &[u8], k: usize) -> Replayed
 
 // The empty trace, replayed on the graph that is mined of any bytes.
 pub fn replay_none(log: &[u8]) -> Replayed
-    ensures { λ r. ⌜ r ≡ ending Done 0 (openingOf (minedOf (now (log .entry)) .graph .events)) true ⌝ }
+    ensures { λ r. ⌜ r ≡ ending Done 0 (openingOf (minedOf (now (log .entry)) .graph .head .events)) true ⌝ }
 {
     let mined = mine(log);
     let graph = mined.graph;

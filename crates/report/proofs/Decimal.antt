@@ -29,7 +29,8 @@ unfolding figures value valueAfter
 reads zero n l = omega arith
 reads (suc k) n l = by (ltb n 10) refl (reads k (n / 10) (tenth n k l))
   where
-    by : (b : Bool) → ltb n 10 ≡ b → value (figures k (n / 10)) ≡ n / 10 → value ((when b then [] else figures k (n / 10)) ++ (figure n ∷ [])) ≡ n
+    by : (b : Bool) → ltb n 10 ≡ b → value (figures k (n / 10)) ≡ n / 10
+        → value ((when b then [] else figures k (n / 10)) ++ (figure n ∷ [])) ≡ n
     by true e ih = let h = ltb-true n 10 e in omega arith
     by false e ih = value-last 0 (figures k (n / 10)) (figure n) ∙ (let q : valueAfter 0 (figures k (n / 10)) ≡ n / 10 = ih in omega arith)
 
@@ -43,12 +44,14 @@ front (suc k) n p l = by (ltb n 10) refl (λ h. front k (n / 10) h (tenth n k l)
     some [] h = absurd (omega arith)
     some (d ∷ ds) h = omega arith
 
-    by : (b : Bool) → ltb n 10 ≡ b → (0 < n / 10 → 48 < getD (figures k (n / 10)) 0 0) → 48 < getD ((when b then [] else figures k (n / 10)) ++ (figure n ∷ [])) 0 0
+    by : (b : Bool) → ltb n 10 ≡ b → (0 < n / 10 → 48 < getD (figures k (n / 10)) 0 0)
+        → 48 < getD ((when b then [] else figures k (n / 10)) ++ (figure n ∷ [])) 0 0
     by true e ih = let h = ltb-true n 10 e in omega arith
     by false e ih =
         let h = ltb-false n 10 e in
         let t : 0 < n / 10 = omega arith in
-        subst (λ (x : ℕ). 48 < x) (sym (List·getD-append (figures k (n / 10)) (figure n ∷ []) 0 0 (some (figures k (n / 10)) (ih t)))) (ih t)
+        subst (λ (x : ℕ). 48 < x) (sym (List·getD-append (figures k (n / 10)) (figure n ∷ []) 0 0 (some (figures k (n / 10)) (ih t))))
+        (ih t)
 
 -- THE THEOREMS, for the numbers of a listing and more
 pub decimal-reads : (n : ℕ) → n < 100000 → value (decimal n) ≡ n

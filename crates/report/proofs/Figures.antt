@@ -25,12 +25,14 @@ module _ (k n : ℕ) where
     one-left : n < 10 → (figure n ∷ []) ≡ figures k n
     unfolding figures
     one-left l =
-        ap (λ (b : Bool). (when b then [] else figures (k - 1) (n / 10)) ++ (figure n ∷ [])) (sym (lt-ltb n 10 l)) ∙ ap (λ (j : ℕ). figures j n) (sym one-more)
+        ap (λ (b : Bool). (when b then [] else figures (k - 1) (n / 10)) ++ (figure n ∷ [])) (sym (lt-ltb n 10 l))
+        ∙ ap (λ (j : ℕ). figures j n) (sym one-more)
 
     more-left : 10 ≤ n → figures (k - 1) (n / 10) ++ (figure n ∷ []) ≡ figures k n
     unfolding figures
     more-left l =
-        ap (λ (b : Bool). (when b then [] else figures (k - 1) (n / 10)) ++ (figure n ∷ [])) (sym (le-ltb n 10 l)) ∙ ap (λ (j : ℕ). figures j n) (sym one-more)
+        ap (λ (b : Bool). (when b then [] else figures (k - 1) (n / 10)) ++ (figure n ∷ [])) (sym (le-ltb n 10 l))
+        ∙ ap (λ (j : ℕ). figures j n) (sym one-more)
 
     module _ (o : List ℕ) (a : ℕ) (room : a + length (figures k n) ≤ length o) where
       pub one-room : n < 10 → a + 1 ≤ length o
@@ -66,7 +68,8 @@ few zero j n l = omega arith
 few (suc k) j n l = by (λ i m h. few k i m h) j l (ltb n 10) refl
   where
     by : ((i m : ℕ) → m < 10 ^ suc i → length (figures k m) ≤ suc i)
-        → (j : ℕ) → n < 10 ^ suc j → (b : Bool) → ltb n 10 ≡ b → length ((when b then [] else figures k (n / 10)) ++ (figure n ∷ [])) ≤ suc j
+        → (j : ℕ) → n < 10 ^ suc j → (b : Bool) → ltb n 10 ≡ b
+        → length ((when b then [] else figures k (n / 10)) ++ (figure n ∷ [])) ≤ suc j
     by ih j l true e = omega arith
     by ih zero l false e = absurd (let g = ltb-false n 10 e in omega arith)
     by ih (suc j) l false e = omega (arith, ih j (n / 10) (tenth n (suc j) l), length-append (figures k (n / 10)) (figure n ∷ []))

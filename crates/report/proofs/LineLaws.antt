@@ -30,7 +30,8 @@ module _ (letter : List ℕ) (s t : ℕ) where
   pair-text = simp append-assoc
 
   module _ (o : List ℕ) (a : ℕ) where
-    room-as : a + length (pairLine letter (pair s t)) ≤ length o → a + length (named letter s space ++ (decimal t ++ (lineEnd ∷ []))) ≤ length o
+    room-as : a + length (pairLine letter (pair s t)) ≤ length o
+        → a + length (named letter s space ++ (decimal t ++ (lineEnd ∷ []))) ≤ length o
     room-as r = subst (λ (x : List ℕ). a + length x ≤ length o) (sym pair-text) r
 
     pub pair-room : a + length (pairLine letter (pair s t)) ≤ length o → a + length (named letter s space) ≤ length o
@@ -51,13 +52,15 @@ pub ruleset pairing = (pair-room, pair-second, pair-put)
 abbrev pub rowText : List ℕ → ℕ → Set → List ℕ
 rowText letter s targets = pairLines letter (withEach s (passing (mem targets) width 0))
 
-module _ (o : List ℕ) (a : ℕ) (whole : List ℕ) (o₁ : List ℕ) (a₁ : ℕ) (letter : List ℕ) (s : ℕ) (rest : Set) (r : Bool) (h : r ≡ isEmpty rest) (l : Left o a whole o₁ a₁ (rowText letter s rest)) where
+module _ (o : List ℕ) (a : ℕ) (whole : List ℕ) (o₁ : List ℕ) (a₁ : ℕ) (letter : List ℕ) (s : ℕ) (rest : Set) (r : Bool) (h : r
+    ≡ isEmpty rest) (l : Left o a whole o₁ a₁ (rowText letter s rest)) where
   row-text : (rest′ : Set) → not r ≡ true → rest′ ≡ those (λ b. mem rest b and non (eqb b (leastBelow width (mem rest))))
       → rowText letter s rest ≡ pairLine letter (pair s (leastBelow width (mem rest))) ++ rowText letter s rest′
   unfolding pairLines
   row-text rest′ t e = ap (λ (ts : List ℕ). pairLines letter (withEach s ts)) (members-turn rest rest′ (sym h ∙ not-true r t) e)
 
-  pub row-room : (t : ℕ) → not r ≡ true → t ≡ leastBelow width (mem rest) → a + length whole ≤ length o → a₁ + length (pairLine letter (pair s t)) ≤ length o₁
+  pub row-room : (t : ℕ) → not r ≡ true → t ≡ leastBelow width (mem rest) → a + length whole ≤ length o
+      → a₁ + length (pairLine letter (pair s t)) ≤ length o₁
   row-room t n e room =
       subst (λ (x : ℕ). a₁ + length (pairLine letter (pair s x)) ≤ length o₁) (sym e)
       (left-room l (pairLine letter (pair s (leastBelow width (mem rest)))) _ (row-text _ n refl) room)
@@ -79,12 +82,14 @@ pub ruleset members = (left-all, row-room, row-turn, row-end)
 pub lines-append : (letter : List ℕ) (ps qs : List Pair) → pairLines letter (ps ++ qs) ≡ pairLines letter ps ++ pairLines letter qs
 unfolding pairLines
 lines-append letter [] qs = refl
-lines-append letter (p ∷ ps) qs = ap (λ (x : List ℕ). pairLine letter p ++ x) (lines-append letter ps qs) ∙ sym (append-assoc (pairLine letter p) (pairLines letter ps) (pairLines letter qs))
+lines-append letter (p ∷ ps) qs = ap (λ (x : List ℕ). pairLine letter p ++ x) (lines-append letter ps qs)
+    ∙ sym (append-assoc (pairLine letter p) (pairLines letter ps) (pairLines letter qs))
 
 abbrev pub rowsText : List ℕ → List ℕ → ℕ → List ℕ
 rowsText letter rows x = pairLines letter (pairsFrom (inRow rows) (width - x) x)
 
-module _ (o : List ℕ) (a : ℕ) (whole : List ℕ) (o₁ : List ℕ) (a₁ : ℕ) (letter rows : List ℕ) (x : ℕ) (l : Left o a whole o₁ a₁ (rowsText letter rows x)) where
+module _ (o : List ℕ) (a : ℕ) (whole : List ℕ) (o₁ : List ℕ) (a₁ : ℕ) (letter rows : List ℕ) (x : ℕ)
+    (l : Left o a whole o₁ a₁ (rowsText letter rows x)) where
   module _ (s : Set) (h : x < width) (e : s ≡ rowAt rows x) where
     rows-text : rowsText letter rows x ≡ rowText letter x s ++ rowsText letter rows (x + 1)
     rows-text = ap (pairLines letter) (pairs-row rows x h s e) ∙ lines-append letter (withEach x (passing (mem s) width 0)) _
@@ -121,7 +126,8 @@ module _ (o : List ℕ) (a c r i e c′ r′ i′ e′ : ℕ) (hc : c ≡ c′) 
   counted-put o₁ a₁ p = put-as (sym counted) p
 
 -- the line of a trace, by what its replay gave
-module _ (o : List ℕ) (a k n number accepting : ℕ) (d end : Replayed) (he : d ≡ end) (hn : number ≡ numberOf (d .answer)) (ha : accepting ≡ digit (d .accepting)) where
+module _ (o : List ℕ) (a k n number accepting : ℕ) (d end : Replayed) (he : d ≡ end) (hn : number
+    ≡ numberOf (d .answer)) (ha : accepting ≡ digit (d .accepting)) where
   trace-text : traceLine k n end ≡ traceText k n number accepting
   unfolding traceLine line named four
   trace-text =

@@ -12,7 +12,8 @@ use Rattle.sets.specs.Rows.{Relation}
 use Rattle.sets.specs.Sizes.{mostTraces}
 use Rattle.sets.specs.Answers.{numberOf, isDone}
 use Rattle.sets.specs.declared.answer.Answer.{Answer}
-use Rattle.sets.specs.declared.answer.Answer.the-variants.{Done, TooShort, WrongLetters, AboveLimit, WrongOffset, Outside, BadRow, BufferTooSmall, NoEvent, NotIncluded, Waiting, NoTrace}
+use Rattle.sets.specs.declared.answer.Answer.the-variants.{Done, TooShort, WrongLetters, AboveLimit, WrongOffset, Outside, BadRow}
+use Rattle.sets.specs.declared.answer.Answer.the-variants.{BufferTooSmall, NoEvent, NotIncluded, Waiting, NoTrace}
 use Rattle.sets.proofs.Below.{count-le}
 use Rattle.engine.specs.Relations.{relationsOf}
 use Rattle.engine.specs.Replay.{replayOf}
@@ -25,7 +26,8 @@ use Rattle.rules.specs.Mined.{minedGraph}
 use Rattle.rules.proofs.FromFile.{file-accepted}
 use Rattle.report.specs.Lines.{line, C, R, I, E}
 use Rattle.report.specs.Pairs.{passing, withEach, pairsFrom, pairCount}
-use Rattle.report.specs.Listing.{firstLine, pairLine, pairLines, traceLine, traceLines, relationLines, linesOf, refusedLine, listingOf, longestListing}
+use Rattle.report.specs.Listing.{firstLine, pairLine, pairLines, traceLine, traceLines, relationLines, linesOf, refusedLine}
+use Rattle.report.specs.Listing.{listingOf, longestListing}
 use Rattle.report.proofs.Figures.{one-figure, two-figures, three-figures, four-figures}
 use Rattle.report.proofs.PairLaws.{pairs-most}
 use Rattle.report.proofs.LineLaws.{lines-append}
@@ -130,7 +132,7 @@ first-most g n l =
     simp length-append
     (omega (
       arith,
-      two-figures (countBelow width (mem (g .events))) (omega (arith, count-le width (mem (g .events)))),
+      two-figures (countBelow width (mem (g .head .events))) (omega (arith, count-le width (mem (g .head .events)))),
       four-figures (pairCount (q .conditions)) (omega (arith, pairs-most (q .conditions) width 0)),
       four-figures (pairCount (q .responses)) (omega (arith, pairs-most (q .responses) width 0)),
       four-figures (pairCount (q .includes)) (omega (arith, pairs-most (q .includes) width 0)),

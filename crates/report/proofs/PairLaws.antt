@@ -53,21 +53,25 @@ pub passing-first : (p : ℕ → Bool) (n a m : ℕ) → a ≤ m → m < a + n �
     → passing p n a ≡ m ∷ passing (λ b. p b and non (eqb b m)) n a
 unfolding passing
 passing-first p zero a m l h t f = absurd (omega arith)
-passing-first p (suc n) a m l h t f = by (λ k. passing-first p n (suc a) m k (omega (arith, add-suc a n, suc-add a n)) t (λ b i j. f b (omega arith) j)) (p a) refl
+passing-first p (suc n) a m l h t f = by
+    (λ k. passing-first p n (suc a) m k (omega (arith, add-suc a n, suc-add a n)) t (λ b i j. f b (omega arith) j)) (p a) refl
   where
     q : ℕ → Bool
     q b = p b and non (eqb b m)
 
     by : (suc a ≤ m → passing p n (suc a) ≡ m ∷ passing q n (suc a)) → (x : Bool) → p a ≡ x
-        → (when p a then a ∷ passing p n (suc a) else passing p n (suc a)) ≡ m ∷ (when q a then a ∷ passing q n (suc a) else passing q n (suc a))
+        → (when p a then a ∷ passing p n (suc a) else passing p n (suc a))
+        ≡ m ∷ (when q a then a ∷ passing q n (suc a) else passing q n (suc a))
     by ih true e =
-        let same : a ≡ m = either (split (ltb a m)) (λ lt. absurd (false→F (f a (omega arith) (ltb-true a m (T→true _ lt))) (true→T e))) (λ ge. let g = ltb-false a m (F→false _ ge) in omega arith) in
+        let same : a ≡ m = either (split (ltb a m)) (λ lt. absurd (false→F (f a (omega arith) (ltb-true a m (T→true _ lt))) (true→T e)))
+        (λ ge. let g = ltb-false a m (F→false _ ge) in omega arith) in
         let later = passing-ext p q n (suc a) (λ b i j. kept (p b) (eqb b m) (ne-eqb b m (λ x. omega arith))) in
         (λ i. when e i then a ∷ passing p n (suc a) else passing p n (suc a))
         ∙ ap₂ _∷_ same later
         ∙ sym (λ i. m ∷ (when gone (p a) (eqb a m) (eq-eqb a m same) i then a ∷ passing q n (suc a) else passing q n (suc a)))
     by ih false e =
-        let past : suc a ≤ m = either (split (eqb a m)) (λ eq. absurd (false→F (ap p (sym (eqb→eq a m eq)) ∙ e) (true→T t))) (λ ne. let g = eqb-false a m (F→false _ ne) in omega arith) in
+        let past : suc a ≤ m = either (split (eqb a m)) (λ eq. absurd (false→F (ap p (sym (eqb→eq a m eq))
+        ∙ e) (true→T t))) (λ ne. let g = eqb-false a m (F→false _ ne) in omega arith) in
         (λ i. when e i then a ∷ passing p n (suc a) else passing p n (suc a))
         ∙ ih past
         ∙ sym (λ i. m ∷ (when fails (p a) (non (eqb a m)) e i then a ∷ passing q n (suc a) else passing q n (suc a)))
@@ -75,11 +79,14 @@ passing-first p (suc n) a m l h t f = by (λ k. passing-first p n (suc a) m k (o
 pub length-passing : (p q : ℕ → Bool) (n a : ℕ) → ((b : ℕ) → b < n → q b ≡ p (a + b)) → length (passing p n a) ≡ countBelow n q
 unfolding passing countBelow
 length-passing p q zero a e = refl
-length-passing p q (suc n) a e = by (p a) (q 0) (e 0 (zero-lt-suc n) ∙ ap p (add-zero a)) (length-passing p (λ b. q (suc b)) n (suc a) (λ b l. e (suc b) (suc-le-suc l) ∙ ap p (add-suc a b ∙ sym (suc-add a b))))
+length-passing p q (suc n) a e = by (p a) (q 0) (e 0 (zero-lt-suc n)
+    ∙ ap p (add-zero a)) (length-passing p (λ b. q (suc b)) n (suc a) (λ b l. e (suc b) (suc-le-suc l) ∙ ap p (add-suc a b
+    ∙ sym (suc-add a b))))
   where
     by : (x y : Bool) → y ≡ x → length (passing p n (suc a)) ≡ countBelow n (λ b. q (suc b))
         → length (when x then a ∷ passing p n (suc a) else passing p n (suc a)) ≡ digit y + countBelow n (λ b. q (suc b))
-    by x y e h = subst (λ (z : Bool). length (when x then a ∷ passing p n (suc a) else passing p n (suc a)) ≡ digit z + countBelow n (λ b. q (suc b))) (sym e) (on x)
+    by x y e h = subst (λ (z : Bool). length (when x then a ∷ passing p n (suc a) else passing p n (suc a))
+        ≡ digit z + countBelow n (λ b. q (suc b))) (sym e) (on x)
       where
         on : (x : Bool) → length (when x then a ∷ passing p n (suc a) else passing p n (suc a)) ≡ digit x + countBelow n (λ b. q (suc b))
         on true = omega arith
@@ -97,7 +104,8 @@ passing-most p (suc n) a = by (p a) (passing-most p n (suc a))
 -- ---- a set's members, the least first
 
 module _ (s : Set) where
-  member-first : isEmpty s ≡ false → passing (mem s) width 0 ≡ leastBelow width (mem s) ∷ passing (λ b. mem s b and non (eqb b (leastBelow width (mem s)))) width 0
+  member-first : isEmpty s ≡ false
+      → passing (mem s) width 0 ≡ leastBelow width (mem s) ∷ passing (λ b. mem s b and non (eqb b (leastBelow width (mem s)))) width 0
   member-first h =
       let some : T (someBelow width (mem s)) = non-false _ (sym (empty-none s) ∙ h) in
       let low : leastBelow width (mem s) < width = least-lt width (mem s) some in
@@ -112,11 +120,13 @@ module _ (s : Set) where
   members-turn rest h e =
       let q : ℕ → Bool = λ b. mem s b and non (eqb b (leastBelow width (mem s))) in
       member-first h
-      ∙ ap (λ (l : List ℕ). leastBelow width (mem s) ∷ l) (passing-ext q (mem rest) width 0 (λ b l k. sym (ap (λ (u : Set). mem u b) e ∙ mem-those q b (omega arith))))
+      ∙ ap (λ (l : List ℕ). leastBelow width (mem s) ∷ l) (passing-ext q (mem rest) width 0 (λ b l k. sym (ap (λ (u : Set). mem u b) e
+      ∙ mem-those q b (omega arith))))
 
 -- ---- the pairs of a relation
 
-pub pairs-ext : (r q : Relation) (n s : ℕ) → s + n ≤ width → ((a b : ℕ) → a < width → b < width → r a b ≡ q a b) → pairsFrom r n s ≡ pairsFrom q n s
+pub pairs-ext : (r q : Relation) (n s : ℕ) → s + n ≤ width → ((a b : ℕ) → a < width → b < width → r a b ≡ q a b)
+    → pairsFrom r n s ≡ pairsFrom q n s
 unfolding pairsFrom
 pairs-ext r q zero s l e = refl
 pairs-ext r q (suc n) s l e =
@@ -129,7 +139,13 @@ unfolding pairsFrom
 pairs-most r zero s = omega arith
 pairs-most r (suc n) s =
     let here = length-map {B = Pair} (passing (r s) width 0) (λ (t : ℕ). record { source = s; target = t }) in
-    omega (arith, passing-most (r s) width 0, pairs-most r n (suc s), length-append (withEach s (passing (r s) width 0)) (pairsFrom r n (suc s)))
+    omega (
+      arith,
+      passing-most (r s) width 0,
+      pairs-most r n (suc s),
+      length-append (withEach s (passing (r s) width 0))
+          (pairsFrom r n (suc s)),
+    )
 
 module _ (rows : List ℕ) (a : ℕ) (l : a < width) where
   -- a relation in rows, one row further
@@ -143,10 +159,13 @@ module _ (rows : List ℕ) (a : ℕ) (l : a < width) where
       ∙ ap (λ (u : Set). withEach a (passing (mem u) width 0) ++ pairsFrom (inRow rows) (width - (a + 1)) (a + 1)) (sym e)
 
   pub count-row : (s : Set) (k n whole : ℕ) → s ≡ rowAt rows a → k ≡ countBelow width (mem s)
-      → n + length (pairsFrom (inRow rows) (width - a) a) ≡ whole → n + k + length (pairsFrom (inRow rows) (width - (a + 1)) (a + 1)) ≡ whole
+      → n + length (pairsFrom (inRow rows) (width - a) a) ≡ whole
+      → n + k + length (pairsFrom (inRow rows) (width - (a + 1)) (a + 1)) ≡ whole
   count-row s k n whole e f h =
-      let step = ap length (pairs-row s e) ∙ length-append (withEach a (passing (mem s) width 0)) (pairsFrom (inRow rows) (width - (a + 1)) (a + 1)) in
-      let here = length-map {B = Pair} (passing (mem s) width 0) (λ (t : ℕ). record { source = a; target = t }) ∙ length-passing (mem s) (mem s) width 0 (λ b i. ap (mem s) (sym (zero-add b))) in
+      let step = ap length (pairs-row s e)
+      ∙ length-append (withEach a (passing (mem s) width 0)) (pairsFrom (inRow rows) (width - (a + 1)) (a + 1)) in
+      let here = length-map {B = Pair} (passing (mem s) width 0) (λ (t : ℕ). record { source = a; target = t })
+      ∙ length-passing (mem s) (mem s) width 0 (λ b i. ap (mem s) (sym (zero-add b))) in
       omega arith
 
   pub count-most : (s : Set) (k n : ℕ) → s ≡ rowAt rows a → k ≡ countBelow width (mem s)

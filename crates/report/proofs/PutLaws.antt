@@ -13,7 +13,8 @@ use Rattle.report.specs.Puts.{Put, named, three, four}
 sets-append : (v w l : List ℕ) (i : ℕ) → sets (sets l i v) (i + length v) w ≡ sets l i (v ++ w)
 sets-append [] w l i = ap (λ (k : ℕ). sets l k w) (add-zero i)
 sets-append (a ∷ v) w l i =
-    ap (λ (k : ℕ). sets (sets (set l i a) (suc i) v) k w) (add-suc i (length v) ∙ sym (suc-add i (length v))) ∙ sets-append v w (set l i a) (suc i)
+    ap (λ (k : ℕ). sets (sets (set l i a) (suc i) v) k w) (add-suc i (length v) ∙ sym (suc-add i (length v)))
+    ∙ sets-append v w (set l i a) (suc i)
 
 pub put-length : {o o₁ v : List ℕ} {a a₁ : ℕ} → Put o a v o₁ a₁ → length o₁ ≡ length o
 put-length {o} {o₁} {v} {a} p = ap length (p .bytes) ∙ length-sets o a v
@@ -136,7 +137,8 @@ module _ (o : List ℕ) (a : ℕ) (word : List ℕ) (o₁ : List ℕ) (i : ℕ) 
   pub byte-room : i < length word → a + length word ≤ length o → Left o a word o₁ (a + i) (drop i word) → a + i < length o₁
   byte-room h r l = let n = l .long in omega arith
 
-  pub byte-next : i < length word → Left o a word o₁ (a + i) (drop i word) → Left o a word (set o₁ (a + i) (getD word i 0)) (a + (i + 1)) (drop (i + 1) word)
+  pub byte-next : i < length word → Left o a word o₁ (a + i) (drop i word)
+      → Left o a word (set o₁ (a + i) (getD word i 0)) (a + (i + 1)) (drop (i + 1) word)
   byte-next h l =
       let on : a + (i + 1) ≡ suc (a + i) = omega arith in
       let p : Put o₁ (a + i) (getD word i 0 ∷ []) (set o₁ (a + i) (getD word i 0)) (a + (i + 1)) =

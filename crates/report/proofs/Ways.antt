@@ -27,7 +27,11 @@ use Rattle.report.proofs.WholeLaws.{listing-done, listing-refused}
 -- by whether the buffer is smaller than the longest listing
 module _ (log out : List ℕ) (b : Bool) (h : ltb (length out) longestListing ≡ b) where
   listed-is : listedOf log (length out)
-      ≡ when b then record { answer = BufferTooSmall; length = 0 } else record { answer = logOf log .answer; length = length (listingOf log) }
+      ≡ when b then record { answer = BufferTooSmall; length = 0 } else record {
+        answer = logOf log .answer;
+        length = length
+            (listingOf log);
+      }
   unfolding listedOf
   listed-is = ap (λ (t : Bool). when t then record { answer = BufferTooSmall; length = 0 } else record { answer = logOf log .answer; length = length (listingOf log) }) h
 
@@ -89,7 +93,8 @@ module _ (log out : List ℕ) (big : longestListing ≤ length out) where
       graph-is =
           let done = done-is true (not-false r t) in
           listing-done log (mined .graph) done
-          (ap (λ (x : Mined). x .graph) hm ∙ ap (λ (b : Bool). when b then minedGraph (logOf log .activities) (logOf log .traces) else emptyGraph) done)
+          (ap (λ (x : Mined). x .graph) hm
+          ∙ ap (λ (b : Bool). when b then minedGraph (logOf log .activities) (logOf log .traces) else emptyGraph) done)
 
       pub graph-fits : 0 + length (graphText (mined .graph) log) ≤ length out
       graph-fits = fits _ graph-is

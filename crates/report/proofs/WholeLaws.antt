@@ -7,16 +7,18 @@ use native.Mathlib.Omega.{arith}
 use lib.ListN.{length}
 use Rattle.sets.specs.Tests.{when_then_else_}
 use Rattle.sets.specs.Members.{width, mem, countBelow}
-use Rattle.sets.specs.Rows.{inRow, rowsOf}
+use Rattle.sets.specs.Rows.{noRows, inRow, rowsOf}
+use Rattle.sets.specs.Tables.{tableAt, withTable}
 use Rattle.sets.specs.Answers.{numberOf, isDone}
 use Rattle.sets.specs.Sizes.{longestTrace}
 use Rattle.sets.specs.declared.set.Set.{Set}
 use Rattle.sets.specs.declared.answer.Answer.{Answer}
 use Rattle.sets.specs.declared.answer.Answer.the-variants.{Done}
 use Rattle.sets.proofs.RowLaws.{in-rowsOf}
-use Rattle.engine.specs.declared.marking.Marking.{Marking}
+use Rattle.sets.proofs.TableLaws.{table-rowsOf, row-taken}
+use Rattle.engine.specs.declared.graph.Head.{Head}
 use Rattle.engine.specs.declared.graph.Graph.{Graph}
-use Rattle.engine.specs.Relations.{inRows, relationsOf}
+use Rattle.engine.specs.Relations.{inTables, relationsOf}
 use Rattle.engine.specs.Judged.{judged}
 use Rattle.engine.specs.Replay.{replayFrom, replayOf}
 use Rattle.engine.proofs.Acceptable.{replay-judged}
@@ -26,13 +28,14 @@ use Rattle.rules.specs.Traces.{Traces}
 use Rattle.rules.specs.Mined.{minedGraph}
 use Rattle.rules.proofs.Acceptable.{acceptable}
 use Rattle.rules.proofs.FromFile.{file-accepted}
-use Rattle.miner.specs.Passes.{walked}
-use Rattle.miner.specs.Reading.{turned}
+use Rattle.tally.specs.Passes.{walked}
+use Rattle.sets.specs.Rows.{turned}
 use Rattle.miner.proofs.FromLog.{walk-all}
 use Rattle.report.specs.Lines.{lineEnd, line, refusedWord, C, R, I, E}
 use Rattle.report.specs.Pairs.{Pair, pairsOf, pairCount}
 use Rattle.report.specs.Listing.{firstLine, pairLines, traceLine, traceLines, relationLines, linesOf, refusedLine, listingOf}
-use Rattle.report.specs.Puts.{Put, named, three, four, countsText, headingText, relationsText, linesText, graphText}
+use Rattle.report.specs.Puts.{Put, named, three, four, countsText, pairCounts, headingText, relationsText, bySource, linesText}
+use Rattle.report.specs.Puts.{graphText}
 use Rattle.report.proofs.PutLaws.{put-as, of-three-1, of-three-2, of-three-3, put-three}
 use Rattle.report.proofs.PairLaws.{pairs-ext}
 
@@ -51,21 +54,24 @@ module _ (o : List ℕ) (x : Answer) (n : ℕ) (h : n ≡ numberOf x) where
 
 -- ---- the three parts, with the conditions turned round first
 
-module _ (events : Set) (m : Marking) (b c r i e log : List ℕ) (n : ℕ) (o : List ℕ) (h : b ≡ rowsOf (turned c)) where
+module _ (head : Head) (tables c listed log : List ℕ) (n : ℕ) (o : List ℕ)
+    (hc : c ≡ withTable noRows 0 (tableAt tables 0)) (hl : listed ≡ rowsOf (turned c)) where
   abbrev heading : List ℕ
-  heading = headingText (countBelow width (mem events)) (countsText (pairCount (inRow b)) (pairCount (inRow r)) (pairCount (inRow i)) (pairCount (inRow e))) n
+  heading = headingText (countBelow width (mem (head .events))) (pairCounts listed tables) n
 
   abbrev pairs : List ℕ
-  pairs = relationsText b r i e
+  pairs = relationsText listed tables
 
   abbrev replays : List ℕ
-  replays = traceLines (replayFrom events (inRows c r i e) m 0) 0 (walked log n 0)
+  replays = traceLines (replayFrom (head .events) (inTables tables) (head .opening) 0) 0 (walked log n 0)
 
-  by-source : three heading pairs replays ≡ linesText events m c r i e log n
+  by-source : three heading pairs replays ≡ linesText head tables log n
   by-source =
-      ap (λ (x : List ℕ). three (headingText (countBelow width (mem events)) (countsText (pairCount (inRow x)) (pairCount (inRow r)) (pairCount (inRow i)) (pairCount (inRow e))) n) (relationsText x r i e) replays) h
+      ap (λ (x : List ℕ).
+      three (headingText (countBelow width (mem (head .events))) (pairCounts x tables) n) (relationsText x tables) replays)
+      (hl ∙ ap (λ (x : List ℕ). rowsOf (turned x)) hc)
 
-  module _ (room : 0 + length (linesText events m c r i e log n) ≤ length o) where
+  module _ (room : 0 + length (linesText head tables log n) ≤ length o) where
     room-all : 0 + length (three heading pairs replays) ≤ length o
     room-all = subst (λ (x : List ℕ). 0 + length x ≤ length o) (sym by-source) room
 
@@ -79,21 +85,19 @@ module _ (events : Set) (m : Marking) (b c r i e log : List ℕ) (n : ℕ) (o : 
     lines-3 o₁ o₂ a₁ a₂ p q = of-three-3 heading pairs replays o 0 room-all o₁ o₂ a₁ a₂ p q
 
   pub lines-put : (o₁ o₂ o₃ : List ℕ) (a₁ a₂ a₃ : ℕ) → Put o 0 heading o₁ a₁ → Put o₁ a₁ pairs o₂ a₂ → Put o₂ a₂ replays o₃ a₃
-      → Put o 0 (linesText events m c r i e log n) o₃ a₃
+      → Put o 0 (linesText head tables log n) o₃ a₃
   lines-put o₁ o₂ o₃ a₁ a₂ a₃ p q s = put-as by-source (put-three heading pairs replays o 0 o₁ o₂ o₃ a₁ a₂ a₃ p q s)
 
 -- ---- all traces of a log
 
 module _ (g : Graph) (log o : List ℕ) (j : Judged) (h : j ≡ judgedOf log) where
-  all-traces : graphText g log ≡ linesText (g .events) (g .opening) (g .conditions) (g .responses) (g .includes) (g .excludes) log (j .traces)
-  all-traces =
-      ap (λ (x : Judged). linesText (g .events) (g .opening) (g .conditions) (g .responses) (g .includes) (g .excludes) log (x .traces)) (sym h)
+  all-traces : graphText g log ≡ linesText (g .head) (g .relations) log (j .traces)
+  all-traces = ap (λ (x : Judged). linesText (g .head) (g .relations) log (x .traces)) (sym h)
 
-  pub graph-room : 0 + length (graphText g log) ≤ length o
-      → 0 + length (linesText (g .events) (g .opening) (g .conditions) (g .responses) (g .includes) (g .excludes) log (j .traces)) ≤ length o
+  pub graph-room : 0 + length (graphText g log) ≤ length o → 0 + length (linesText (g .head) (g .relations) log (j .traces)) ≤ length o
   graph-room room = subst (λ (x : List ℕ). 0 + length x ≤ length o) all-traces room
 
-  pub graph-put : (o₁ : List ℕ) (a₁ : ℕ) → Put o 0 (linesText (g .events) (g .opening) (g .conditions) (g .responses) (g .includes) (g .excludes) log (j .traces)) o₁ a₁
+  pub graph-put : (o₁ : List ℕ) (a₁ : ℕ) → Put o 0 (linesText (g .head) (g .relations) log (j .traces)) o₁ a₁
       → Put o 0 (graphText g log) o₁ a₁
   graph-put o₁ a₁ p = put-as (sym all-traces) p
 
@@ -101,27 +105,35 @@ module _ (g : Graph) (log o : List ℕ) (j : Judged) (h : j ≡ judgedOf log) wh
 
 module _ (g : Graph) where
   -- the conditions by source, from their rows by target
-  turned-pairs : pairsOf (inRow (rowsOf (turned (g .conditions)))) ≡ pairsOf (relationsOf g .conditions)
-  unfolding turned
-  turned-pairs = pairs-ext (inRow (rowsOf (turned (g .conditions)))) (relationsOf g .conditions) width 0 (omega arith) (λ s t hs ht. in-rowsOf (turned (g .conditions)) s t hs ht)
+  turned-pairs : pairsOf (inRow (tableAt (bySource (g .relations)) 0)) ≡ pairsOf (relationsOf g .conditions)
+  unfolding turned inRow
+  turned-pairs =
+      let taken = withTable noRows 0 (tableAt (g .relations) 0) in
+      ap (λ (rows : List ℕ). pairsOf (inRow rows)) (table-rowsOf (turned taken))
+      ∙ pairs-ext (inRow (rowsOf (turned taken))) (relationsOf g .conditions) width 0 (omega arith)
+      (λ s t hs ht. in-rowsOf (turned taken) s t hs ht ∙ ap (λ (r : Set). mem r s) (row-taken (tableAt (g .relations) 0) t ht))
 
-  heading-is : (n : ℕ) → headingText (countBelow width (mem (g .events)))
-      (countsText (pairCount (inRow (rowsOf (turned (g .conditions))))) (pairCount (inRow (g .responses))) (pairCount (inRow (g .includes))) (pairCount (inRow (g .excludes)))) n
-      ≡ firstLine g n
+  heading-is : (n : ℕ)
+      → headingText (countBelow width (mem (g .head .events))) (pairCounts (bySource (g .relations)) (g .relations)) n ≡ firstLine g n
   unfolding firstLine line named three four
   heading-is n =
-      ap (λ (k : ℕ). headingText (countBelow width (mem (g .events))) (countsText k (pairCount (inRow (g .responses))) (pairCount (inRow (g .includes))) (pairCount (inRow (g .excludes)))) n)
+      ap (λ (k : ℕ).
+      headingText (countBelow width (mem (g .head .events)))
+      (countsText k (pairCount (relationsOf g .responses)) (pairCount (relationsOf g .includes)) (pairCount (relationsOf g .excludes))) n)
       (ap length turned-pairs)
       ∙ simp append-assoc
 
-  relations-are : relationsText (rowsOf (turned (g .conditions))) (g .responses) (g .includes) (g .excludes) ≡ relationLines g
+  relations-are : relationsText (bySource (g .relations)) (g .relations) ≡ relationLines g
   unfolding relationLines four
   relations-are =
-      ap (λ (ps : List Pair). pairLines C ps ++ pairLines R (pairsOf (inRow (g .responses))) ++ pairLines I (pairsOf (inRow (g .includes))) ++ pairLines E (pairsOf (inRow (g .excludes)))) turned-pairs
+      ap (λ (ps : List Pair).
+      pairLines C ps ++ pairLines R (pairsOf (relationsOf g .responses)) ++ pairLines I (pairsOf (relationsOf g .includes))
+      ++ pairLines E (pairsOf (relationsOf g .excludes)))
+      turned-pairs
 
   -- a graph that was judged need not be judged at each replay
   replays-are : judged g ≡ Done → (k : ℕ) (L : Traces) → ((σ : List ℕ) → List·Memᴰ σ L → length σ ≤ longestTrace)
-      → traceLines (replayFrom (g .events) (relationsOf g) (g .opening) 0) k L ≡ traceLines (replayOf g) k L
+      → traceLines (replayFrom (g .head .events) (relationsOf g) (g .head .opening) 0) k L ≡ traceLines (replayOf g) k L
   unfolding traceLines
   replays-are d k [] h = refl
   replays-are d k (σ ∷ L) h =
@@ -141,7 +153,8 @@ module _ (log : List ℕ) where
       let g = minedGraph A L in
       let ok = file-accepted log in
       ap₂ _++_ (ap₂ _++_ (heading-is g (length L)) (relations-are g))
-      (ap (traceLines (replayFrom (g .events) (relationsOf g) (g .opening) 0) 0) (walk-all log) ∙ replays-are g (acceptable A L ok) 0 L (ok .lengths))
+      (ap (traceLines (replayFrom (g .head .events) (relationsOf g) (g .head .opening) 0) 0) (walk-all log)
+      ∙ replays-are g (acceptable A L ok) 0 L (ok .lengths))
 
   -- the two ways of the definition
   pub listing-done : (g : Graph) → isDone (logOf log .answer) ≡ true → g ≡ minedGraph A L → graphText g log ≡ listingOf log

@@ -23,7 +23,7 @@ use Rattle.report.specs.Pairs.{Pair, pairsOf, pairCount}
 unfoldable pub firstLine : Graph → ℕ → List ℕ
 firstLine g n =
     line
-    (eventsWord ∷ decimal (countBelow width (mem (g .events)))
+    (eventsWord ∷ decimal (countBelow width (mem (g .head .events)))
     ∷ C ∷ decimal (pairCount (relationsOf g .conditions))
     ∷ R ∷ decimal (pairCount (relationsOf g .responses))
     ∷ I ∷ decimal (pairCount (relationsOf g .includes))

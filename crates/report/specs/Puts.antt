@@ -6,15 +6,15 @@ use Prim.Native.Nat.{ℕ, _+_}
 use lib.ListN.{length}
 use lib.Seq.{sets}
 use Rattle.sets.specs.Members.{width, mem, countBelow}
-use Rattle.sets.specs.Rows.{inRow, rowsOf}
-use Rattle.sets.specs.declared.set.Set.{Set}
-use Rattle.engine.specs.declared.marking.Marking.{Marking}
+use Rattle.sets.specs.Rows.{noRows, inRow, rowsOf}
+use Rattle.sets.specs.Tables.{tableAt, withTable}
+use Rattle.engine.specs.declared.graph.Head.{Head}
 use Rattle.engine.specs.declared.graph.Graph.{Graph}
-use Rattle.engine.specs.Relations.{inRows}
+use Rattle.engine.specs.Relations.{inTables}
 use Rattle.engine.specs.Replay.{replayFrom}
 use Rattle.calllog.specs.Logs.{logOf}
-use Rattle.miner.specs.Passes.{walked}
-use Rattle.miner.specs.Reading.{turned}
+use Rattle.tally.specs.Passes.{walked}
+use Rattle.sets.specs.Rows.{turned}
 use Rattle.report.specs.Lines.{space, lineEnd, decimal, eventsWord, tracesWord, C, R, I, E, T}
 use Rattle.report.specs.Pairs.{pairsOf, pairCount}
 use Rattle.report.specs.Listing.{pairLines, traceLines}
@@ -39,27 +39,39 @@ four u v w x = u ++ v ++ w ++ x
 abbrev pub countsText : ℕ → ℕ → ℕ → ℕ → List ℕ
 countsText c r i e = four (named C c space) (named R r space) (named I i space) (named E e space)
 
+-- the same, of the conditions by source and of a graph's other tables
+abbrev pub pairCounts : List ℕ → List ℕ → List ℕ
+pairCounts listed tables =
+    countsText (pairCount (inRow (tableAt listed 0))) (pairCount (inRow (tableAt tables 1)))
+    (pairCount (inRow (tableAt tables 2))) (pairCount (inRow (tableAt tables 3)))
+
 -- the first line, by its numbers
 abbrev pub headingText : ℕ → List ℕ → ℕ → List ℕ
 headingText n counts t = three (named eventsWord n space) counts (named tracesWord t lineEnd)
 
--- the lines of four relations in rows by source
-abbrev pub relationsText : List ℕ → List ℕ → List ℕ → List ℕ → List ℕ
-relationsText c r i e = four (pairLines C (pairsOf (inRow c))) (pairLines R (pairsOf (inRow r))) (pairLines I (pairsOf (inRow i))) (pairLines E (pairsOf (inRow e)))
+-- the lines of the four relations, likewise
+abbrev pub relationsText : List ℕ → List ℕ → List ℕ
+relationsText listed tables =
+    four (pairLines C (pairsOf (inRow (tableAt listed 0)))) (pairLines R (pairsOf (inRow (tableAt tables 1))))
+    (pairLines I (pairsOf (inRow (tableAt tables 2)))) (pairLines E (pairsOf (inRow (tableAt tables 3))))
 
 -- the line of a trace, by its numbers
 abbrev pub traceText : ℕ → ℕ → ℕ → ℕ → List ℕ
 traceText k n number accepting =
     four (named T k space) (decimal n ++ (space ∷ [])) (decimal number ++ (space ∷ [])) (decimal accepting ++ (lineEnd ∷ []))
 
--- the whole listing of a graph's parts and a log's first traces, where the conditions come in rows by target
-abbrev pub linesText : Set → Marking → List ℕ → List ℕ → List ℕ → List ℕ → List ℕ → ℕ → List ℕ
-linesText events opening c r i e log n =
-    three
-    (headingText (countBelow width (mem events)) (countsText (pairCount (inRow (rowsOf (turned c)))) (pairCount (inRow r)) (pairCount (inRow i)) (pairCount (inRow e))) n)
-    (relationsText (rowsOf (turned c)) r i e)
-    (traceLines (replayFrom events (inRows c r i e) opening 0) 0 (walked log n 0))
+-- the conditions by source
+abbrev pub bySource : List ℕ → List ℕ
+bySource tables = rowsOf (turned (withTable noRows 0 (tableAt tables 0)))
 
--- the same, of a graph and all traces of a log
+-- the whole listing of a graph and a log's first traces
+abbrev pub linesText : Head → List ℕ → List ℕ → ℕ → List ℕ
+linesText head tables log n =
+    three
+    (headingText (countBelow width (mem (head .events))) (pairCounts (bySource tables) tables) n)
+    (relationsText (bySource tables) tables)
+    (traceLines (replayFrom (head .events) (inTables tables) (head .opening) 0) 0 (walked log n 0))
+
+-- the same, of all traces of a log
 abbrev pub graphText : Graph → List ℕ → List ℕ
-graphText g log = linesText (g .events) (g .opening) (g .conditions) (g .responses) (g .includes) (g .excludes) log (length (logOf log .traces))
+graphText g log = linesText (g .head) (g .relations) log (length (logOf log .traces))

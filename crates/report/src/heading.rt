@@ -4,14 +4,17 @@ ghost use Prim.Native.Nat.{_+_, _≤_};
 ghost use lib.ListN.{length};
 ghost use Rattle.sets.specs.Members.{width, mem, countBelow};
 ghost use Rattle.sets.specs.Rows.{inRow};
+ghost use Rattle.sets.specs.Tables.{tableAt};
 ghost use Rattle.report.specs.Lines.{space, eventsWord};
 ghost use Rattle.report.specs.Pairs.{pairCount};
-ghost use Rattle.report.specs.Puts.{Put, named, countsText, headingText};
+ghost use Rattle.report.specs.Puts.{Put, named, countsText, pairCounts, headingText};
 use crate::text;
+use engine::Relations;
+use engine::graph;
 use sets::Activity;
 use sets::Rows;
 use sets::Set;
-use sets::rows;
+use sets::tables;
 
 const EVENTS: [u8; 6] = *b"events";
 
@@ -26,14 +29,14 @@ pub const INCLUDES: [u8; 1] = *b"I";
 
 pub const EXCLUDES: [u8; 1] = *b"E";
 
-// How many pairs stand in rows by source.
-fn pair_count(rows: &Rows) -> usize
-    ensures { λ r. ⌜ r ≡ pairCount (inRow (now (rows .entry))) ⌝ }
+// How many pairs stand in the rows of a table.
+fn pair_count(tables: &[u64], table: u8) -> usize
+    ensures { λ r. ⌜ r ≡ pairCount (inRow (tableAt (now (tables .entry)) table)) ⌝ }
 {
     let mut n: usize = 0;
     let mut a: u8 = 0;
     while a < Activity::LIMIT {
-        n += rows::row(rows, Activity(a)).count() as usize;
+        n += tables::row(tables, table, Activity(a)).count() as usize;
         a += 1;
     }
     n
@@ -50,22 +53,20 @@ fn put_counts(out: &mut [u8], at: usize, c: usize, r: usize, i: usize, e: usize)
     text::put_named(out, after_i, &EXCLUDES, e, text::SPACE)
 }
 
-// The same, of relations kept in rows by source.
+// The same, of the conditions by source and of the other relations.
 fn put_pair_counts<'a>(
     out: &mut [u8],
     at: usize,
-    conditions: &'a Rows,
-    responses: &'a Rows,
-    includes: &'a Rows,
-    excludes: &'a Rows,
+    listed: &'a Rows,
+    relations: &'a Relations,
 ) -> usize
-    requires { ⌜ at + length (countsText (pairCount (inRow (now conditions))) (pairCount (inRow (now responses))) (pairCount (inRow (now includes))) (pairCount (inRow (now excludes)))) ≤ length (now out) ⌝ }
-    ensures { λ n. ⌜ Put (now (out .entry)) at (countsText (pairCount (inRow (now (conditions .entry)))) (pairCount (inRow (now (responses .entry)))) (pairCount (inRow (now (includes .entry)))) (pairCount (inRow (now (excludes .entry))))) (now (out .exit)) n ⌝ }
+    requires { ⌜ at + length (pairCounts (now listed) (now relations)) ≤ length (now out) ⌝ }
+    ensures { λ n. ⌜ Put (now (out .entry)) at (pairCounts (now (listed .entry)) (now (relations .entry))) (now (out .exit)) n ⌝ }
 {
-    let c = pair_count(conditions);
-    let r = pair_count(responses);
-    let i = pair_count(includes);
-    let e = pair_count(excludes);
+    let c = pair_count(listed, 0);
+    let r = pair_count(relations, graph::RESPONSES);
+    let i = pair_count(relations, graph::INCLUDES);
+    let e = pair_count(relations, graph::EXCLUDES);
     put_counts(out, at, c, r, i, e)
 }
 
@@ -84,22 +85,13 @@ pub(crate) fn put_heading<'a>(
     at: usize,
     events: Set,
     traces: usize,
-    conditions: &'a Rows,
-    responses: &'a Rows,
-    includes: &'a Rows,
-    excludes: &'a Rows,
+    listed: &'a Rows,
+    relations: &'a Relations,
 ) -> usize
-    requires { ⌜ at + length (headingText (countBelow width (mem events)) (countsText (pairCount (inRow (now conditions))) (pairCount (inRow (now responses))) (pairCount (inRow (now includes))) (pairCount (inRow (now excludes)))) traces) ≤ length (now out) ⌝ }
-    ensures { λ n. ⌜ Put (now (out .entry)) at (headingText (countBelow width (mem events)) (countsText (pairCount (inRow (now (conditions .entry)))) (pairCount (inRow (now (responses .entry)))) (pairCount (inRow (now (includes .entry)))) (pairCount (inRow (now (excludes .entry))))) traces) (now (out .exit)) n ⌝ }
+    requires { ⌜ at + length (headingText (countBelow width (mem events)) (pairCounts (now listed) (now relations)) traces) ≤ length (now out) ⌝ }
+    ensures { λ n. ⌜ Put (now (out .entry)) at (headingText (countBelow width (mem events)) (pairCounts (now (listed .entry)) (now (relations .entry))) traces) (now (out .exit)) n ⌝ }
 {
     let after_events = put_events(out, at, events);
-    let after_counts = put_pair_counts(
-        out,
-        after_events,
-        conditions,
-        responses,
-        includes,
-        excludes,
-    );
+    let after_counts = put_pair_counts(out, after_events, listed, relations);
     text::put_named(out, after_counts, &TRACES, traces, text::LINE_END)
 }

@@ -3,16 +3,18 @@ ghost use Prim.Native.Nat.{_+_, _≤_};
 ghost use lib.ListN.{length};
 ghost use Rattle.sets.specs.Members.{width, mem};
 ghost use Rattle.sets.specs.Rows.{inRow};
+ghost use Rattle.sets.specs.Tables.{tableAt};
 ghost use Rattle.report.specs.Pairs.{passing, withEach, pairsOf};
 ghost use Rattle.report.specs.Listing.{pairLine, pairLines};
 ghost use Rattle.report.specs.Puts.{Put, relationsText};
 use crate::heading;
 use crate::text;
-use miner::without_least;
+use engine::Relations;
+use engine::graph;
 use sets::Activity;
 use sets::Rows;
 use sets::Set;
-use sets::rows;
+use sets::tables;
 
 // The line of one pair.
 fn put_pair(out: &mut [u8], at: usize, letter: &[u8], s: u8, t: u8) -> usize
@@ -33,39 +35,49 @@ fn put_row(out: &mut [u8], at: usize, letter: &[u8], s: u8, targets: Set) -> usi
     while !rest.is_empty() {
         let t = rest.least();
         next = put_pair(out, next, letter, s, t.0);
-        rest = without_least(rest);
+        rest = rest.without_least();
     }
     next
 }
 
-// The lines of a relation kept in rows by source.
-fn put_pairs<'a>(out: &mut [u8], at: usize, letter: &'a [u8], rows: &'a Rows) -> usize
-    requires { ⌜ at + length (pairLines (now letter) (pairsOf (inRow (now rows)))) ≤ length (now out) ⌝ }
-    ensures { λ r. ⌜ Put (now (out .entry)) at (pairLines (now (letter .entry)) (pairsOf (inRow (now (rows .entry))))) (now (out .exit)) r ⌝ }
+// The lines of the pairs in the rows of a table.
+fn put_pairs<'a>(out: &mut [u8], at: usize, letter: &'a [u8], tables: &'a [u64], table: u8) -> usize
+    requires { ⌜ at + length (pairLines (now letter) (pairsOf (inRow (tableAt (now tables) table)))) ≤ length (now out) ⌝ }
+    ensures { λ r. ⌜ Put (now (out .entry)) at (pairLines (now (letter .entry)) (pairsOf (inRow (tableAt (now (tables .entry)) table)))) (now (out .exit)) r ⌝ }
 {
     let mut next = at;
     let mut a: u8 = 0;
     while a < Activity::LIMIT {
-        next = put_row(out, next, letter, a, rows::row(rows, Activity(a)));
+        next = put_row(
+            out,
+            next,
+            letter,
+            a,
+            tables::row(tables, table, Activity(a)),
+        );
         a += 1;
     }
     next
 }
 
-// The lines of the four relations, all in rows by source.
+// The lines of the four relations: of the conditions by source, and of the others.
 pub(crate) fn put_relations<'a>(
     out: &mut [u8],
     at: usize,
-    conditions: &'a Rows,
-    responses: &'a Rows,
-    includes: &'a Rows,
-    excludes: &'a Rows,
+    listed: &'a Rows,
+    relations: &'a Relations,
 ) -> usize
-    requires { ⌜ at + length (relationsText (now conditions) (now responses) (now includes) (now excludes)) ≤ length (now out) ⌝ }
-    ensures { λ r. ⌜ Put (now (out .entry)) at (relationsText (now (conditions .entry)) (now (responses .entry)) (now (includes .entry)) (now (excludes .entry))) (now (out .exit)) r ⌝ }
+    requires { ⌜ at + length (relationsText (now listed) (now relations)) ≤ length (now out) ⌝ }
+    ensures { λ r. ⌜ Put (now (out .entry)) at (relationsText (now (listed .entry)) (now (relations .entry))) (now (out .exit)) r ⌝ }
 {
-    let after_c = put_pairs(out, at, &heading::CONDITIONS, conditions);
-    let after_r = put_pairs(out, after_c, &heading::RESPONSES, responses);
-    let after_i = put_pairs(out, after_r, &heading::INCLUDES, includes);
-    put_pairs(out, after_i, &heading::EXCLUDES, excludes)
+    let after_c = put_pairs(out, at, &heading::CONDITIONS, listed, 0);
+    let after_r = put_pairs(
+        out,
+        after_c,
+        &heading::RESPONSES,
+        relations,
+        graph::RESPONSES,
+    );
+    let after_i = put_pairs(out, after_r, &heading::INCLUDES, relations, graph::INCLUDES);
+    put_pairs(out, after_i, &heading::EXCLUDES, relations, graph::EXCLUDES)
 }

@@ -3,16 +3,15 @@ ghost use mathlib.Core.Path.{_≡_};
 ghost use Prim.Native.Nat.{_+_, _≤_};
 ghost use lib.ListN.{length};
 ghost use Rattle.sets.specs.Members.{digit};
-ghost use Rattle.engine.specs.Relations.{inRows};
+ghost use Rattle.engine.specs.Relations.{inTables};
 ghost use Rattle.engine.specs.Replay.{replayFrom};
-ghost use Rattle.miner.specs.Passes.{walked};
+ghost use Rattle.tally.specs.Passes.{walked};
 ghost use Rattle.report.specs.Listing.{traceLine, traceLines};
 ghost use Rattle.report.specs.Puts.{Put, traceText};
 use crate::text;
-use engine::Marking;
+use engine::Head;
+use engine::Relations;
 use engine::replay;
-use sets::Rows;
-use sets::Set;
 
 const TRACE: [u8; 1] = *b"T";
 
@@ -49,25 +48,13 @@ fn put_trace<'a>(
     at: usize,
     k: usize,
     trace: &'a [u8],
-    events: Set,
-    opening: Marking,
-    conditions: &'a Rows,
-    responses: &'a Rows,
-    includes: &'a Rows,
-    excludes: &'a Rows,
+    head: Head,
+    relations: &'a Relations,
 ) -> usize
-    requires { ⌜ at + length (traceLine k (length (now trace)) (replayFrom events (inRows (now conditions) (now responses) (now includes) (now excludes)) opening 0 (now trace))) ≤ length (now out) ⌝ }
-    ensures { λ r. ⌜ Put (now (out .entry)) at (traceLine k (length (now (trace .entry))) (replayFrom events (inRows (now (conditions .entry)) (now (responses .entry)) (now (includes .entry)) (now (excludes .entry))) opening 0 (now (trace .entry)))) (now (out .exit)) r ⌝ }
+    requires { ⌜ at + length (traceLine k (length (now trace)) (replayFrom (head .events) (inTables (now relations)) (head .opening) 0 (now trace))) ≤ length (now out) ⌝ }
+    ensures { λ r. ⌜ Put (now (out .entry)) at (traceLine k (length (now (trace .entry))) (replayFrom (head .events) (inTables (now (relations .entry))) (head .opening) 0 (now (trace .entry)))) (now (out .exit)) r ⌝ }
 {
-    let ended = replay::run(
-        events,
-        conditions,
-        responses,
-        includes,
-        excludes,
-        opening,
-        trace,
-    );
+    let ended = replay::run(head, relations, trace);
     let answer = ended.answer;
     let number = answer.number();
     let accepting = one_if(ended.accepting);
@@ -80,15 +67,11 @@ pub(crate) fn put_traces<'a>(
     at: usize,
     log: &'a [u8],
     traces: usize,
-    events: Set,
-    opening: Marking,
-    conditions: &'a Rows,
-    responses: &'a Rows,
-    includes: &'a Rows,
-    excludes: &'a Rows,
+    head: Head,
+    relations: &'a Relations,
 ) -> usize
-    requires { ⌜ at + length (traceLines (replayFrom events (inRows (now conditions) (now responses) (now includes) (now excludes)) opening 0) 0 (walked (now log) traces 0)) ≤ length (now out) ⌝ }
-    ensures { λ r. ⌜ Put (now (out .entry)) at (traceLines (replayFrom events (inRows (now (conditions .entry)) (now (responses .entry)) (now (includes .entry)) (now (excludes .entry))) opening 0) 0 (walked (now (log .entry)) traces 0)) (now (out .exit)) r ⌝ }
+    requires { ⌜ at + length (traceLines (replayFrom (head .events) (inTables (now relations)) (head .opening) 0) 0 (walked (now log) traces 0)) ≤ length (now out) ⌝ }
+    ensures { λ r. ⌜ Put (now (out .entry)) at (traceLines (replayFrom (head .events) (inTables (now (relations .entry))) (head .opening) 0) 0 (walked (now (log .entry)) traces 0)) (now (out .exit)) r ⌝ }
 {
     let mut next = at;
     let mut k: usize = 0;
@@ -96,18 +79,7 @@ pub(crate) fn put_traces<'a>(
         let p = calllog::trace::trace_part(log, k);
         let start = p.start;
         let end = start + p.length;
-        next = put_trace(
-            out,
-            next,
-            k,
-            &log[start..end],
-            events,
-            opening,
-            conditions,
-            responses,
-            includes,
-            excludes,
-        );
+        next = put_trace(out, next, k, &log[start..end], head, relations);
         k += 1;
     }
     next

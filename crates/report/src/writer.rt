@@ -9,10 +9,12 @@ use crate::relations;
 use crate::replays;
 use crate::text;
 use engine::Graph;
-use engine::Marking;
+use engine::Head;
+use engine::Relations;
+use engine::graph::CONDITIONS;
 use sets::Answer;
-use sets::Rows;
-use sets::Set;
+use sets::rows;
+use sets::tables;
 
 // No listing has more bytes: a buffer of this size is always enough.
 pub const LONGEST: usize = 147506;
@@ -34,46 +36,23 @@ fn put_refused(out: &mut [u8], answer: Answer) -> usize
     text::put_named(out, 0, &REFUSED, n as usize, text::LINE_END)
 }
 
-// The lines of a graph, by its parts, and of a log's first traces.
+// The lines of a graph and of a log's first traces.
 fn put_lines<'a>(
     out: &mut [u8],
     log: &'a [u8],
     traces: usize,
-    events: Set,
-    opening: Marking,
-    conditions: &'a Rows,
-    responses: &'a Rows,
-    includes: &'a Rows,
-    excludes: &'a Rows,
+    head: Head,
+    relations: &'a Relations,
 ) -> usize
-    requires { ⌜ 0 + length (linesText events opening (now conditions) (now responses) (now includes) (now excludes) (now log) traces) ≤ length (now out) ⌝ }
-    ensures { λ r. ⌜ Put (now (out .entry)) 0 (linesText events opening (now (conditions .entry)) (now (responses .entry)) (now (includes .entry)) (now (excludes .entry)) (now (log .entry)) traces) (now (out .exit)) r ⌝ }
+    requires { ⌜ 0 + length (linesText head (now relations) (now log) traces) ≤ length (now out) ⌝ }
+    ensures { λ r. ⌜ Put (now (out .entry)) 0 (linesText head (now (relations .entry)) (now (log .entry)) traces) (now (out .exit)) r ⌝ }
 {
-    // from here on the conditions by source, as they are listed
-    let listed = miner::turned(conditions);
-    let at = heading::put_heading(
-        out,
-        0,
-        events,
-        traces,
-        &listed,
-        responses,
-        includes,
-        excludes,
-    );
-    let end = relations::put_relations(out, at, &listed, responses, includes, excludes);
-    replays::put_traces(
-        out,
-        end,
-        log,
-        traces,
-        events,
-        opening,
-        conditions,
-        responses,
-        includes,
-        excludes,
-    )
+    // the conditions by source, as they are listed
+    let conditions = tables::taken(relations, CONDITIONS);
+    let listed = rows::turned(&conditions);
+    let at = heading::put_heading(out, 0, head.events, traces, &listed, relations);
+    let end = relations::put_relations(out, at, &listed, relations);
+    replays::put_traces(out, end, log, traces, head, relations)
 }
 
 // The lines of a graph and of all traces of a log.
@@ -82,17 +61,8 @@ fn put_graph(out: &mut [u8], log: &[u8], g: Graph) -> usize
     ensures { λ r. ⌜ Put (now (out .entry)) 0 (graphText g (now (log .entry))) (now (out .exit)) r ⌝ }
 {
     let judged = calllog::judge::judge_log(log);
-    put_lines(
-        out,
-        log,
-        judged.traces,
-        g.events,
-        g.opening,
-        &g.conditions,
-        &g.responses,
-        &g.includes,
-        &g.excludes,
-    )
+    let head = g.head;
+    put_lines(out, log, judged.traces, head, &g.relations)
 }
 
 // Lists a log: reads it, mines it, replays it on its graph.

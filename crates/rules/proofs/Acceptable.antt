@@ -1,7 +1,8 @@
 -- The mined graph of an accepted log is acceptable by the engine's own test: it is never refused with 3 or 5. Assumes nothing.
-use mathlib.Core.Path.{_≡_}
+use mathlib.Core.Path.{_≡_, sym, subst}
 use mathlib.Core.Bool.{Bool, false}
-use Prim.Native.Nat.{ℕ, _<_}
+use mathlib.Core.List.{List}
+use Prim.Native.Nat.{ℕ, zero, suc, _<_}
 use borrow.Author.Tests.{le-ltb, lt-ltb}
 use lib.Dec.{T}
 use Rattle.sets.specs.Tests.{non}
@@ -9,16 +10,18 @@ use Rattle.sets.specs.Members.{width, mem, those, isEmpty, within}
 use Rattle.sets.specs.Rows.{Relation, rowAt, inRow, rowsOf}
 use Rattle.sets.specs.declared.answer.Answer.the-variants.{Done}
 use Rattle.sets.proofs.Tests.{and-i, or-l, or-r, non-i, non-e, T-eq, true→T, F→false, split, either}
-use Rattle.sets.proofs.Bits.{bit-zero}
+use Rattle.sets.proofs.Members.{mem-none}
 use Rattle.sets.proofs.Below.{every-i}
 use Rattle.sets.proofs.Members.{those-i, those-e, within-i}
 use Rattle.sets.proofs.RowLaws.{in-rowsOf}
-use Rattle.engine.specs.Markings.{noSet}
+use Rattle.sets.proofs.TableLaws.{table-tablesOf}
+use Rattle.sets.specs.Members.{noSet}
+use Rattle.engine.specs.Relations.{relationCount, kept}
 use Rattle.engine.specs.Judged.{rowWithin, rowsWithin, relationsWithin, graphWithin, judgedFor, judged}
 use Rattle.sets.specs.Sizes.{mostActivities}
 use Rattle.engine.proofs.Acceptable.{marking-whole}
 use Rattle.rules.specs.Traces.{Traces}
-use Rattle.rules.specs.Mining.{event}
+use Rattle.rules.specs.Mining.{event, mined}
 use Rattle.rules.specs.Mined.{graphFrom, minedGraph}
 use Rattle.rules.specs.Replays.{Accepted}
 use Rattle.rules.proofs.Places.{some-trace}
@@ -47,18 +50,19 @@ module _ (A : ℕ) (L : Traces) (ok : Accepted A L) where
   unfolding graphWithin relationsWithin minedGraph graphFrom
   graph-within =
       let E = those (event L) in
-      let none : T (within noSet E) = within-i noSet E (λ a l t. absurd (T-eq (bit-zero a) t)) in
+      let none : T (within noSet E) = within-i noSet E (λ a l t. absurd (T-eq (mem-none a) t)) in
       and-i _ _
       (and-i _ _
       (within-i E _ (λ a l t. those-i _ a l (true→T (lt-ltb a A (event-below a (those-e (event L) a t .1))))))
       (marking-whole E _ none none (within-i E E (λ a l t. t))))
-      (and-i _ _
-      (and-i _ _
-      (and-i _ _
-      (rows-within (event L) _ (λ t s h. let r = of-conditions L s t h in (r .1, r .0)))
-      (rows-within (event L) _ (of-responses L)))
-      (rows-within (event L) _ (of-includes L)))
-      (rows-within (event L) _ (of-excludes L)))
+      (every-i relationCount _
+      (λ k l. subst (λ (rows : List ℕ). T (rowsWithin E rows)) (sym (table-tablesOf relationCount (kept (mined L)) k l)) (of-table k)))
+    where
+      of-table : (k : ℕ) → T (rowsWithin (those (event L)) (rowsOf (kept (mined L) k)))
+      of-table zero = rows-within (event L) _ (λ t s h. let r = of-conditions L s t h in (r .1, r .0))
+      of-table (suc zero) = rows-within (event L) _ (of-responses L)
+      of-table (suc (suc zero)) = rows-within (event L) _ (of-includes L)
+      of-table (suc (suc (suc k))) = rows-within (event L) _ (of-excludes L)
 
   pub acceptable : judged (minedGraph A L) ≡ Done
   unfolding judgedFor minedGraph graphFrom

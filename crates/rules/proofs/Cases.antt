@@ -1,13 +1,24 @@
 -- The cases of 01, "Calls to try", that are marked (P): one table, computed by antt.
+use lib.Dec.{ltb, lit≤}
+use mathlib.Core.Path.{ap}
+use Prim.Native.Nat.{_≤_}
+use lib.ListN.{length}
+use Rattle.sets.specs.Sizes.{longestTrace}
+use Rattle.sets.specs.declared.answer.Answer.the-variants.{Done}
+use Rattle.engine.specs.Judged.{judged}
+use Rattle.engine.specs.Relations.{headOf, graphOf, relationsOf}
+use Rattle.engine.proofs.Acceptable.{replay-judged, stepped-judged, opening-inside, judged-within}
+use Rattle.engine.proofs.Examples.{table-judged}
 use mathlib.Core.Path.{_≡_, refl}
 use mathlib.Core.Bool.{true, false}
-use mathlib.Core.List.{List, [], _∷_, map}
+use mathlib.Core.List.{List, [], _∷_, _++_, map}
 use Prim.Native.Nat.{ℕ}
 use Rattle.sets.specs.Tests.{_and_, _or_, non}
-use Rattle.sets.specs.Members.{bit, bitsOf, someBelow, everyBelow, isEmpty, within}
-use Rattle.sets.specs.Rows.{rowAt, withRow, inRow, listFrom, rowsOf}
+use Rattle.sets.specs.Members.{bit, bitsOf, someBelow, everyBelow, isEmpty, within, mem, those}
+use Rattle.sets.specs.Rows.{rowAt, inRow, listFrom, rowsOf}
+use Rattle.sets.specs.Tables.{tableAt, withRowIn, tablesOf}
 use Rattle.engine.specs.declared.graph.Graph.{Graph}
-use Rattle.engine.specs.Markings.{noSet, markingOf}
+use Rattle.engine.specs.Markings.{openingOf}
 use Rattle.engine.specs.Steps.{waits, enabled, after, accepting}
 use Rattle.engine.specs.Judged.{markingWithin, rowWithin, rowsWithin, relationsWithin, graphWithin, judgedFor, judgedWith}
 use Rattle.engine.specs.Replay.{enabledOf, steppedOf, replayFrom, replayOf}
@@ -20,7 +31,7 @@ use Rattle.calllog.specs.Logs.{tracesFrom, logOf}
 use Rattle.rules.specs.Traces.{Traces, _has_, _beginsWith_, atEachFrom, atSomeFrom, everyTrace, someTrace}
 use Rattle.rules.specs.Mining.{noPair, noRelations, smallestSource, _without_, event, someEvent, _with_, atMostOnce, precedes, answers, chained, together, before, followed, between, alternates, beforeFirst, step1, step2, directlyBefore, step3, neverTogether, step4, closes, step5, step6, step7, reduced, step8, includedAfter, neverMissed, step9, step10, afterFive, afterSeven, afterEight, mined}
 use Rattle.rules.specs.Mined.{graphFrom, minedGraph}
-use Rattle.rules.proofs.Listed.{_to_, listed, rows, Case, _gives_, reading, mining, replaying, stepping, log, graph, ended, stepped, asked, wanted}
+use Rattle.rules.proofs.Listed.{_to_, listed, rows, Case, _gives_, reading, mining, replaying, stepping, log, graph, ended, stepped, end, step, asked, wanted}
 
 -- the log L, and all bytes of its file
 unfoldable pub L : Traces
@@ -41,39 +52,66 @@ listing =
 -- the same in numbers: each set, and each row of a relation from row 0, as the number that the graph file holds
 unfoldable pub G : Graph
 G =
-    record {
-      activities = 3;
-      events = record { bits = 7 };
-      opening = markingOf noSet noSet (record { bits = 7 });
-      conditions = rows (0 ∷ 1 ∷ 1 ∷ []);
-      responses = rows (4 ∷ 4 ∷ []);
-      includes = rows (2 ∷ []);
-      excludes = rows (1 ∷ 2 ∷ 6 ∷ []);
-    }
+    graphOf (headOf 3 (those (λ a. ltb a 3)) (openingOf (those (λ a. ltb a 3))))
+    (rows (0 ∷ 1 ∷ 1 ∷ []) ++ (rows (4 ∷ 4 ∷ []) ++ (rows (2 ∷ []) ++ rows (1 ∷ 2 ∷ 6 ∷ []))))
 
-pub table : List Case
-table =
+part0 : List Case
+part0 =
     reading file gives log 0 3 L
-    ∷ mining 3 L gives graph listing
-    ∷ mining 3 L gives graph G
-    ∷ replaying G (0 ∷ 1 ∷ 2 ∷ []) gives ended 0 3 true
+    ∷ []
+
+part1 : List Case
+part1 =
+    mining 3 L gives graph listing
+    ∷ []
+
+part2 : List Case
+part2 =
+    mining 3 L gives graph G
+    ∷ []
+
+part3 : List Case
+part3 =
+    replaying G (0 ∷ 1 ∷ 2 ∷ []) gives ended 0 3 true
     ∷ replaying G (0 ∷ 2 ∷ []) gives ended 0 2 true
     ∷ replaying G [] gives ended 0 0 true
     ∷ replaying G (0 ∷ []) gives ended 0 1 false
-    ∷ replaying G (2 ∷ []) gives ended 10 0 false
+    ∷ []
+
+part4 : List Case
+part4 =
+    replaying G (2 ∷ []) gives ended 10 0 false
     ∷ replaying G (0 ∷ 0 ∷ []) gives ended 9 1 false
     ∷ replaying G (0 ∷ 2 ∷ 1 ∷ []) gives ended 9 2 false
     ∷ replaying G (3 ∷ []) gives ended 8 0 false
-    ∷ mining 2 ((0 ∷ 1 ∷ 0 ∷ []) ∷ []) gives graph (listed 2 (0 ∷ 1 ∷ []) (0 to 1 ∷ []) (1 to 0 ∷ []) (0 to 1 ∷ 1 to 0 ∷ []) (0 to 0 ∷ 1 to 1 ∷ []))
-    ∷ mining 2 ((0 ∷ []) ∷ (1 ∷ []) ∷ []) gives graph (listed 2 (0 ∷ 1 ∷ []) [] [] [] (0 to 0 ∷ 0 to 1 ∷ 1 to 0 ∷ 1 to 1 ∷ []))
-    ∷ mining 1 ((0 ∷ 0 ∷ []) ∷ []) gives graph (listed 1 (0 ∷ []) [] [] [] [])
-    ∷ stepping table3 table3-before 4 gives stepped 0 table3-after
     ∷ []
 
--- THE THEOREM
-pub cases : map asked table ≡ map wanted table
-unfolding table file L listing G
-    _and_ _or_ non bit bitsOf someBelow everyBelow isEmpty within rowAt withRow inRow listFrom rowsOf
+part5 : List Case
+part5 =
+    mining 2 ((0 ∷ 1 ∷ 0 ∷ []) ∷ []) gives graph (listed 2 (0 ∷ 1 ∷ []) (0 to 1 ∷ []) (1 to 0 ∷ []) (0 to 1 ∷ 1 to 0 ∷ []) (0 to 0 ∷ 1 to 1 ∷ []))
+    ∷ []
+
+part6 : List Case
+part6 =
+    mining 2 ((0 ∷ []) ∷ (1 ∷ []) ∷ []) gives graph (listed 2 (0 ∷ 1 ∷ []) [] [] [] (0 to 0 ∷ 0 to 1 ∷ 1 to 0 ∷ 1 to 1 ∷ []))
+    ∷ []
+
+part7 : List Case
+part7 =
+    mining 1 ((0 ∷ 0 ∷ []) ∷ []) gives graph (listed 1 (0 ∷ []) [] [] [] [])
+    ∷ []
+
+part8 : List Case
+part8 =
+    stepping table3 table3-before 4 gives stepped 0 table3-after
+    ∷ []
+
+pub table : List Case
+table = part0 ++ part1 ++ part2 ++ part3 ++ part4 ++ part5 ++ part6 ++ part7 ++ part8
+
+same0 : map asked part0 ≡ map wanted part0
+unfolding part0 file L listing G
+    _and_ _or_ non bit mem those bitsOf someBelow everyBelow isEmpty within rowAt tableAt withRowIn inRow listFrom rowsOf tablesOf
     waits enabled after accepting markingWithin rowWithin rowsWithin relationsWithin graphWithin judgedFor judgedWith enabledOf steppedOf replayFrom replayOf
     opensWith valueOf numberAt activitiesIn tracesIn offsetAt lengthAt bodiesStart eventsBefore
     firstRefusal allBelow judgedHead judgedEntry judgedBodies judgedContents judgedLog tracesFrom logOf
@@ -81,4 +119,88 @@ unfolding table file L listing G
     noPair noRelations smallestSource _without_ event someEvent _with_ atMostOnce precedes answers chained together before followed between alternates beforeFirst
     step1 step2 directlyBefore step3 neverTogether step4 closes step5 step6 step7 reduced step8 includedAfter neverMissed step9 step10
     afterFive afterSeven afterEight mined graphFrom minedGraph
-cases = refl
+same0 = refl
+
+same1 : map asked part1 ≡ map wanted part1
+unfolding part1 file L listing G
+    _and_ _or_ non bit mem those bitsOf someBelow everyBelow isEmpty within rowAt tableAt withRowIn inRow listFrom rowsOf tablesOf
+    waits enabled after accepting markingWithin rowWithin rowsWithin relationsWithin graphWithin judgedFor judgedWith enabledOf steppedOf replayFrom replayOf
+    opensWith valueOf numberAt activitiesIn tracesIn offsetAt lengthAt bodiesStart eventsBefore
+    firstRefusal allBelow judgedHead judgedEntry judgedBodies judgedContents judgedLog tracesFrom logOf
+    _has_ _beginsWith_ atEachFrom atSomeFrom everyTrace someTrace
+    noPair noRelations smallestSource _without_ event someEvent _with_ atMostOnce precedes answers chained together before followed between alternates beforeFirst
+    step1 step2 directlyBefore step3 neverTogether step4 closes step5 step6 step7 reduced step8 includedAfter neverMissed step9 step10
+    afterFive afterSeven afterEight mined graphFrom minedGraph
+same1 = refl
+
+same2 : map asked part2 ≡ map wanted part2
+unfolding part2 file L listing G
+    _and_ _or_ non bit mem those bitsOf someBelow everyBelow isEmpty within rowAt tableAt withRowIn inRow listFrom rowsOf tablesOf
+    waits enabled after accepting markingWithin rowWithin rowsWithin relationsWithin graphWithin judgedFor judgedWith enabledOf steppedOf replayFrom replayOf
+    opensWith valueOf numberAt activitiesIn tracesIn offsetAt lengthAt bodiesStart eventsBefore
+    firstRefusal allBelow judgedHead judgedEntry judgedBodies judgedContents judgedLog tracesFrom logOf
+    _has_ _beginsWith_ atEachFrom atSomeFrom everyTrace someTrace
+    noPair noRelations smallestSource _without_ event someEvent _with_ atMostOnce precedes answers chained together before followed between alternates beforeFirst
+    step1 step2 directlyBefore step3 neverTogether step4 closes step5 step6 step7 reduced step8 includedAfter neverMissed step9 step10
+    afterFive afterSeven afterEight mined graphFrom minedGraph
+same2 = refl
+
+judged-G : judged G ≡ Done
+unfolding G judgedFor graphWithin relationsWithin rowsWithin rowWithin markingWithin within isEmpty everyBelow bitsOf bit mem those _and_ _or_ non rowAt tableAt listFrom
+judged-G = refl
+
+on-G : (σ : List ℕ) → length σ ≤ longestTrace → end (replayOf G σ) ≡ end (replayFrom (G .head .events) (relationsOf G) (G .head .opening) 0 σ)
+on-G σ l = ap end (replay-judged G judged-G σ l)
+
+same3 : map asked part3 ≡ map wanted part3
+unfolding part3 replayFrom enabled waits after accepting someBelow bitsOf bit mem those _and_ _or_ non rowAt tableAt withRowIn inRow G listFrom
+same3 = λ i. on-G (0 ∷ 1 ∷ 2 ∷ []) (lit≤ tt) i ∷ on-G (0 ∷ 2 ∷ []) (lit≤ tt) i ∷ on-G [] (lit≤ tt) i ∷ on-G (0 ∷ []) (lit≤ tt) i ∷ []
+
+same4 : map asked part4 ≡ map wanted part4
+unfolding part4 replayFrom enabled waits after accepting someBelow bitsOf bit mem those _and_ _or_ non rowAt tableAt withRowIn inRow G listFrom
+same4 = λ i. on-G (2 ∷ []) (lit≤ tt) i ∷ on-G (0 ∷ 0 ∷ []) (lit≤ tt) i ∷ on-G (0 ∷ 2 ∷ 1 ∷ []) (lit≤ tt) i ∷ on-G (3 ∷ []) (lit≤ tt) i ∷ []
+
+same5 : map asked part5 ≡ map wanted part5
+unfolding part5 file L listing G
+    _and_ _or_ non bit mem those bitsOf someBelow everyBelow isEmpty within rowAt tableAt withRowIn inRow listFrom rowsOf tablesOf
+    waits enabled after accepting markingWithin rowWithin rowsWithin relationsWithin graphWithin judgedFor judgedWith enabledOf steppedOf replayFrom replayOf
+    opensWith valueOf numberAt activitiesIn tracesIn offsetAt lengthAt bodiesStart eventsBefore
+    firstRefusal allBelow judgedHead judgedEntry judgedBodies judgedContents judgedLog tracesFrom logOf
+    _has_ _beginsWith_ atEachFrom atSomeFrom everyTrace someTrace
+    noPair noRelations smallestSource _without_ event someEvent _with_ atMostOnce precedes answers chained together before followed between alternates beforeFirst
+    step1 step2 directlyBefore step3 neverTogether step4 closes step5 step6 step7 reduced step8 includedAfter neverMissed step9 step10
+    afterFive afterSeven afterEight mined graphFrom minedGraph
+same5 = refl
+
+same6 : map asked part6 ≡ map wanted part6
+unfolding part6 file L listing G
+    _and_ _or_ non bit mem those bitsOf someBelow everyBelow isEmpty within rowAt tableAt withRowIn inRow listFrom rowsOf tablesOf
+    waits enabled after accepting markingWithin rowWithin rowsWithin relationsWithin graphWithin judgedFor judgedWith enabledOf steppedOf replayFrom replayOf
+    opensWith valueOf numberAt activitiesIn tracesIn offsetAt lengthAt bodiesStart eventsBefore
+    firstRefusal allBelow judgedHead judgedEntry judgedBodies judgedContents judgedLog tracesFrom logOf
+    _has_ _beginsWith_ atEachFrom atSomeFrom everyTrace someTrace
+    noPair noRelations smallestSource _without_ event someEvent _with_ atMostOnce precedes answers chained together before followed between alternates beforeFirst
+    step1 step2 directlyBefore step3 neverTogether step4 closes step5 step6 step7 reduced step8 includedAfter neverMissed step9 step10
+    afterFive afterSeven afterEight mined graphFrom minedGraph
+same6 = refl
+
+same7 : map asked part7 ≡ map wanted part7
+unfolding part7 file L listing G
+    _and_ _or_ non bit mem those bitsOf someBelow everyBelow isEmpty within rowAt tableAt withRowIn inRow listFrom rowsOf tablesOf
+    waits enabled after accepting markingWithin rowWithin rowsWithin relationsWithin graphWithin judgedFor judgedWith enabledOf steppedOf replayFrom replayOf
+    opensWith valueOf numberAt activitiesIn tracesIn offsetAt lengthAt bodiesStart eventsBefore
+    firstRefusal allBelow judgedHead judgedEntry judgedBodies judgedContents judgedLog tracesFrom logOf
+    _has_ _beginsWith_ atEachFrom atSomeFrom everyTrace someTrace
+    noPair noRelations smallestSource _without_ event someEvent _with_ atMostOnce precedes answers chained together before followed between alternates beforeFirst
+    step1 step2 directlyBefore step3 neverTogether step4 closes step5 step6 step7 reduced step8 includedAfter neverMissed step9 step10
+    afterFive afterSeven afterEight mined graphFrom minedGraph
+same7 = refl
+
+same8 : map asked part8 ≡ map wanted part8
+unfolding part8 replayFrom enabled waits after accepting someBelow bitsOf bit mem those _and_ _or_ non rowAt tableAt withRowIn inRow G listFrom
+same8 = λ i. step (stepped-judged table3 table-judged table3-before (opening-inside table3 (judged-within table3 0 table-judged)) 4 i) ∷ []
+
+-- THE THEOREM
+pub cases : map asked table ≡ map wanted table
+unfolding table part0 part1 part2 part3 part4 part5 part6 part7 part8
+cases = λ i. same0 i ++ same1 i ++ same2 i ++ same3 i ++ same4 i ++ same5 i ++ same6 i ++ same7 i ++ same8 i

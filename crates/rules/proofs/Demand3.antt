@@ -7,7 +7,7 @@ use mathlib.Core.List.{List, [], _∷_, reverseAux, List·Memᴰ}
 use Prim.Native.Nat.{ℕ, suc, _+_, _<_, _≤_}
 use native.Mathlib.Nat.{add-zero, zero-add, lt-of-lt-of-le}
 use native.Mathlib.Omega.{arith}
-use lib.Dec.{T, eqb}
+use lib.Dec.{T, eqb, lit≤}
 use lib.ListN.{length}
 use Rattle.sets.specs.Tests.{_and_, _or_, non, when_then_else_}
 use Rattle.sets.specs.Members.{width, bitsOf, mem, those}
@@ -16,15 +16,17 @@ use Rattle.sets.specs.declared.set.Set.{Set}
 use Rattle.sets.specs.declared.answer.Answer.{Answer}
 use Rattle.sets.specs.declared.answer.Answer.the-variants.{Done}
 use Rattle.sets.proofs.Tests.{and-l, and-r, or-e, or-l, or-r, non-i, non-e, T-eq, T→true, F→false, T-ext, either}
-use Rattle.sets.proofs.Bits.{bit-zero}
+use Rattle.sets.proofs.Members.{mem-none}
 use Rattle.sets.proofs.Below.{some-e}
 use Rattle.sets.proofs.Members.{mem-those, those-i, those-ext}
-use Rattle.sets.proofs.RowLaws.{in-rowsOf}
+use Rattle.sets.specs.Rows.{inRow}
+use Rattle.sets.specs.Tables.{tableAt}
+use Rattle.sets.proofs.TableLaws.{in-tablesOf}
 use Rattle.engine.specs.declared.marking.Marking.{Marking}
 use Rattle.engine.specs.declared.graph.Graph.{Graph}
 use Rattle.engine.specs.declared.replay.Replayed.{Replayed}
-use Rattle.engine.specs.Markings.{noSet}
-use Rattle.engine.specs.Relations.{relationsOf}
+use Rattle.sets.specs.Members.{noSet}
+use Rattle.engine.specs.Relations.{relationCount, kept, relationsOf}
 use Rattle.engine.specs.Steps.{waits, enabled, after, accepting}
 use Rattle.sets.specs.Sizes.{longestTrace}
 use Rattle.engine.specs.Replay.{ending, replayFrom}
@@ -57,7 +59,7 @@ or-swap : (a b : Bool) → (a or b) ≡ (b or a)
 or-swap a b = T-ext _ _ (λ t. either (or-e _ _ t) (λ x. or-r _ _ x) (λ x. or-l _ _ x)) (λ t. either (or-e _ _ t) (λ x. or-r _ _ x) (λ x. or-l _ _ x))
 
 none : those (λ a. false) ≡ noSet
-unfolding bitsOf
+unfolding bitsOf those
 none = refl
 
 -- nothing is pending where nothing is left to come
@@ -70,17 +72,22 @@ unfolding accepting
 accepts m e =
     T→true _ (non-i _ (λ t.
     let r = some-e width _ t in
-    T-eq (ap (λ (s : Set). mem s (r .0)) e ∙ bit-zero (r .0)) (and-l _ _ (r .2))))
+    T-eq (ap (λ (s : Set). mem s (r .0)) e ∙ mem-none (r .0)) (and-l _ _ (r .2))))
 
 module _ (A : ℕ) (L : Traces) where
   abbrev G : Graph
   G = minedGraph A L
 
-  opens : (σ : List ℕ) → Marks L [] σ (G .opening)
+  -- a pair of the graph's table k is one of the rules
+  in-kept : (k a b : ℕ) → k < relationCount → a < width → b < width → inRow (tableAt (G .relations) k) a b ≡ kept (mined L) k a b
+  unfolding minedGraph graphFrom
+  in-kept k a b l la lb = in-tablesOf relationCount (kept (mined L)) k a b l la lb
+
+  opens : (σ : List ℕ) → Marks L [] σ (G .head .opening)
   unfolding minedGraph graphFrom includedAfter _has_
   opens σ =
       record {
-        ran = λ a l. bit-zero a;
+        ran = λ a l. mem-none a;
         open-now = λ a l. mem-those (event L) a l;
         due = λ a. false;
         pends = sym none;
@@ -93,7 +100,7 @@ module _ (A : ℕ) (L : Traces) where
     low : e < width
     low = small _ here e (has-rest e past (e ∷ rest) (has-first e rest))
 
-    an-event : T (mem (G .events) e)
+    an-event : T (mem (G .head .events) e)
     unfolding minedGraph graphFrom
     an-event = those-i (event L) e low (is-event L e here (has-rest e past (e ∷ rest) (has-first e rest)))
 
@@ -105,13 +112,13 @@ module _ (A : ℕ) (L : Traces) where
     not-waiting w =
         let r = some-e width _ w in
         let s : ℕ = r .0 in
-        let condition = T-eq (in-rowsOf (λ t s. mined L .conditions s t) e s low (r .1)) (and-l _ _ (and-l _ _ (r .2))) in
+        let condition = T-eq (in-kept 0 e s (lit≤ tt) low (r .1)) (and-l _ _ (and-l _ _ (r .2))) in
         let included = T-eq (f .open-now s (r .1)) (and-r _ _ (and-l _ _ (r .2))) in
         non-e _ (and-r _ _ (r .2)) (T-eq (sym (f .ran s (r .1))) (condition-here L s e past rest here condition included))
 
-    turn : enabled (G .events) (relationsOf G) m e ≡ Done
+    turn : enabled (G .head .events) (relationsOf G) m e ≡ Done
     unfolding enabled
-    turn = rw (passed (mem (G .events) e) an-event, passed (mem (m .included) e) is-included, F→false (waits (relationsOf G) m e) not-waiting)
+    turn = rw (passed (mem (G .head .events) e) an-event, passed (mem (m .included) e) is-included, F→false (waits (relationsOf G) m e) not-waiting)
 
     pending-next : ℕ → Bool
     pending-next a = mem (m .pending) a and non (eqb a e) or relationsOf G .responses e a
@@ -123,7 +130,7 @@ module _ (A : ℕ) (L : Traces) where
         (λ p. either (or-e _ _ (f .later a l (T-eq (ap (λ (s : Set). mem s a) (f .pends) ∙ mem-those (f .due) a l) (and-l _ _ p))))
         (λ q. absurd (non-e _ (and-r _ _ p) q))
         (λ q. q))
-        (λ q. response-here L e a past rest here (T-eq (in-rowsOf (mined L .responses) e a low l) q))
+        (λ q. response-here L e a past rest here (T-eq (in-kept 1 e a (lit≤ tt) low l) q))
 
     steps : Marks L (e ∷ past) rest (after (relationsOf G) m e)
     unfolding after pending-next minedGraph graphFrom includedAfter mined step10 step9 _has_
@@ -131,7 +138,7 @@ module _ (A : ℕ) (L : Traces) where
         record {
           ran = λ a l. mem-those _ a l ∙ or-swap _ _ ∙ ap (λ (b : Bool). eqb a e or b) (f .ran a l);
           open-now = λ a l. mem-those _ a l
-              ∙ (λ i. f .open-now a l i and non (in-rowsOf (afterEight L .excludes) e a low l i) or in-rowsOf (afterEight L .includes) e a low l i);
+              ∙ (λ i. f .open-now a l i and non (in-kept 3 e a (lit≤ tt) low l i) or in-kept 2 e a (lit≤ tt) low l i);
           due = pending-next;
           pends = refl;
           later = comes;
@@ -139,18 +146,18 @@ module _ (A : ℕ) (L : Traces) where
 
   -- ---- from place to place
 
-  ends : (past : List ℕ) (i : ℕ) (m : Marking) → Marks L past [] m → Through i (replayFrom (G .events) (relationsOf G) m i [])
+  ends : (past : List ℕ) (i : ℕ) (m : Marking) → Marks L past [] m → Through i (replayFrom (G .head .events) (relationsOf G) m i [])
   unfolding replayFrom
   ends past i m f = let e = settles L past m f in record { done = refl; whole = refl; settled = e; accepted = accepts m e }
 
-  goes-on : (e : ℕ) (rest : List ℕ) (i : ℕ) (m : Marking) → enabled (G .events) (relationsOf G) m e ≡ Done
-      → replayFrom (G .events) (relationsOf G) m i (e ∷ rest) ≡ replayFrom (G .events) (relationsOf G) (after (relationsOf G) m e) (i + 1) rest
+  goes-on : (e : ℕ) (rest : List ℕ) (i : ℕ) (m : Marking) → enabled (G .head .events) (relationsOf G) m e ≡ Done
+      → replayFrom (G .head .events) (relationsOf G) m i (e ∷ rest) ≡ replayFrom (G .head .events) (relationsOf G) (after (relationsOf G) m e) (i + 1) rest
   unfolding replayFrom
   goes-on e rest i m h =
-      ap (λ (a : Answer). when isDone a then replayFrom (G .events) (relationsOf G) (after (relationsOf G) m e) (i + 1) rest else ending a i m false) h
+      ap (λ (a : Answer). when isDone a then replayFrom (G .head .events) (relationsOf G) (after (relationsOf G) m e) (i + 1) rest else ending a i m false) h
 
   through : Small L → (past rest : List ℕ) (i : ℕ) (m : Marking) → List·Memᴰ (reverseAux past rest) L → Marks L past rest m
-      → Through (i + length rest) (replayFrom (G .events) (relationsOf G) m i rest)
+      → Through (i + length rest) (replayFrom (G .head .events) (relationsOf G) m i rest)
   through small past [] i m here f = rw add-zero (ends past i m f)
   through small past (e ∷ rest) i m here f =
       let n : i + 1 + length rest ≡ i + suc (length rest) = omega arith in
@@ -158,7 +165,7 @@ module _ (A : ℕ) (L : Traces) where
       (through small (e ∷ past) rest (i + 1) (after (relationsOf G) m e) here (steps small e past rest here m f))
 
   -- the engine takes the graph, and then replays
-  replays : Accepted A L → (σ : List ℕ) → length σ ≤ longestTrace → Through (length σ) (replayFrom (G .events) (relationsOf G) (G .opening) 0 σ) → Replays G σ
+  replays : Accepted A L → (σ : List ℕ) → length σ ≤ longestTrace → Through (length σ) (replayFrom (G .head .events) (relationsOf G) (G .head .opening) 0 σ) → Replays G σ
   replays ok σ l t =
       let taken = replay-judged G (acceptable A L ok) σ l in
       record {
@@ -173,7 +180,7 @@ pub demand3 : (A : ℕ) (L : Traces) → Accepted A L → (σ : List ℕ) → Li
 demand3 A L ok σ (inl m) =
     replays A L ok σ (ok .lengths σ m)
     (rw (← zero-add (length σ))
-    (through A L (λ τ n a h. lt-of-lt-of-le (ok .members τ n a h) (ok .activities)) [] σ 0 (minedGraph A L .opening) m (opens A L σ)))
+    (through A L (λ τ n a h. lt-of-lt-of-le (ok .members τ n a h) (ok .activities)) [] σ 0 (minedGraph A L .head .opening) m (opens A L σ)))
 demand3 A L ok σ (inr e) =
     subst (λ (τ : List ℕ). Replays (minedGraph A L) τ) (sym e)
-    (replays A L ok [] (omega arith) (ends A L [] 0 (minedGraph A L .opening) (opens A L [])))
+    (replays A L ok [] (omega arith) (ends A L [] 0 (minedGraph A L .head .opening) (opens A L [])))

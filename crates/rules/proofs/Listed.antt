@@ -1,12 +1,12 @@
 -- Graphs, logs and results as 01 writes them down: a relation by its pairs, a set by its members. For the tables of worked cases.
 use mathlib.Core.Bool.{Bool, false}
-use mathlib.Core.List.{List, [], _∷_, _++_}
+use mathlib.Core.List.{List, [], _∷_, _++_, _++_}
 use Prim.Native.Nat.{ℕ}
 use lib.Dec.{eqb}
-use lib.ListN.{getD}
+use lib.ListN.{getD, replicate}
 use Rattle.sets.specs.Tests.{_and_, _or_, when_then_else_}
 use Rattle.sets.specs.Members.{width, those}
-use Rattle.sets.specs.Rows.{Relation, listFrom, rowsOf}
+use Rattle.sets.specs.Rows.{Relation, listFrom}
 use Rattle.sets.specs.Answers.{numberOf}
 use Rattle.sets.specs.declared.set.Set.{Set}
 use Rattle.engine.specs.declared.marking.Marking.{Marking}
@@ -14,6 +14,7 @@ use Rattle.engine.specs.declared.graph.Graph.{Graph}
 use Rattle.engine.specs.declared.step.Stepped.{Stepped}
 use Rattle.engine.specs.declared.replay.Replayed.{Replayed}
 use Rattle.engine.specs.Markings.{markingOf}
+use Rattle.engine.specs.Relations.{headOf, graphOf, tablesFrom}
 use Rattle.engine.specs.Replay.{replayOf, steppedOf}
 use Rattle.calllog.specs.Logs.{logOf}
 use Rattle.rules.specs.Traces.{Traces, _has_}
@@ -38,15 +39,8 @@ setOf xs = those (λ a. xs has a)
 -- A, the events, and the pairs of the four relations as in a listing: C, R, I, E
 abbrev pub listed : ℕ → List ℕ → List Pair → List Pair → List Pair → List Pair → Graph
 listed A events c r i e =
-    record {
-      activities = A;
-      events = setOf events;
-      opening = markingOf (setOf []) (setOf []) (setOf events);
-      conditions = rowsOf (λ t s. oneOf c s t);
-      responses = rowsOf (oneOf r);
-      includes = rowsOf (oneOf i);
-      excludes = rowsOf (oneOf e);
-    }
+    graphOf (headOf A (setOf events) (markingOf (setOf []) (setOf []) (setOf events)))
+    (tablesFrom (record { conditions = oneOf c; responses = oneOf r; includes = oneOf i; excludes = oneOf e }))
 
 -- the first rows, each as the number of its set; the others are empty
 abbrev pub rows : List ℕ → List ℕ

@@ -6,7 +6,7 @@ use mathlib.Core.List.{List, [], _∷_, map}
 use Prim.Native.Nat.{ℕ}
 use lib.Dec.{eqb}
 use Rattle.sets.specs.Tests.{_and_, _or_, non, when_then_else_}
-use Rattle.sets.specs.Members.{bit, bitsOf, someBelow, those}
+use Rattle.sets.specs.Members.{bit, bitsOf, someBelow, those, mem}
 use Rattle.sets.specs.Rows.{Relation, listFrom}
 use Rattle.engine.specs.Markings.{openingOf}
 use Rattle.engine.specs.Relations.{Relations}
@@ -88,7 +88,7 @@ refusals = replayBy L (printed33 L) (0 ∷ 2 ∷ []) ∷ replayBy again (exclude
 -- THE THEOREM
 pub slipped : (map found slips ≡ map meant slips) × (refusals ≡ ended 10 1 false ∷ ended 10 1 false ∷ [])
 unfolding slips refusals L again line printed33 excludedEarlier minedBy replayBy inTurn
-    _and_ _or_ non bit bitsOf someBelow listFrom waits enabled after accepting replayFrom
+    _and_ _or_ non bit mem those bitsOf someBelow listFrom waits enabled after accepting replayFrom
     _has_ _beginsWith_ atEachFrom atSomeFrom everyTrace someTrace
     noPair noRelations smallestSource _without_ event someEvent _with_ atMostOnce precedes answers chained together before followed between alternates beforeFirst
     step1 step2 directlyBefore step3 neverTogether step4 closes step5 step6 step7 reduced step8 includedAfter neverMissed step9 step10

@@ -1,10 +1,9 @@
 -- The graph mined of a log (01, the opening of "Mining, in this order", and "Graph" for its rows).
 use Prim.Native.Nat.{ℕ}
 use Rattle.sets.specs.Members.{those}
-use Rattle.sets.specs.Rows.{rowsOf}
 use Rattle.sets.specs.declared.set.Set.{Set}
 use Rattle.engine.specs.Markings.{openingOf}
-use Rattle.engine.specs.Relations.{Relations}
+use Rattle.engine.specs.Relations.{Relations, headOf, graphOf, tablesFrom}
 use Rattle.engine.specs.declared.graph.Graph.{Graph}
 use Rattle.rules.specs.Traces.{Traces}
 use Rattle.rules.specs.Mining.{event, mined}
@@ -12,16 +11,7 @@ use Rattle.rules.specs.Mining.{event, mined}
 -- a graph that has nothing executed or pending and all events included, with its relations put down in rows: a condition in the row of its
 -- target, any other pair in the row of its source
 unfoldable pub graphFrom : ℕ → Set → Relations → Graph
-graphFrom A events r =
-    record {
-      activities = A;
-      events = events;
-      opening = openingOf events;
-      conditions = rowsOf (λ t s. r .conditions s t);
-      responses = rowsOf (r .responses);
-      includes = rowsOf (r .includes);
-      excludes = rowsOf (r .excludes);
-    }
+graphFrom A events r = graphOf (headOf A events (openingOf events)) (tablesFrom r)
 
 -- A is the log's, and the events are the activities that occur
 unfoldable pub minedGraph : ℕ → Traces → Graph

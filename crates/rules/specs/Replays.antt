@@ -7,7 +7,7 @@ use lib.Dec.{T}
 use lib.ListN.{length, getD}
 use Rattle.sets.specs.declared.answer.Answer.the-variants.{Done}
 use Rattle.engine.specs.declared.graph.Graph.{Graph}
-use Rattle.engine.specs.Markings.{noSet}
+use Rattle.sets.specs.Members.{noSet}
 use Rattle.sets.specs.Sizes.{mostActivities, longestTrace}
 use Rattle.engine.specs.Replay.{replayOf}
 use Rattle.rules.specs.Traces.{Traces, _has_}

@@ -1,5 +1,5 @@
 -- Laws of sets by their members, and the machine's operations as comprehensions. Assumes nothing.
-use mathlib.Core.Path.{_≡_, sym, ap, _∙_, subst}
+use mathlib.Core.Path.{_≡_, refl, sym, ap, _∙_, subst}
 use mathlib.Core.Bool.{Bool, true, false, not}
 use Prim.Native.Nat.{ℕ, _^_, _-_, _*_, _/_, _%_, _≤_, _<_}
 use native.Mathlib.Omega.{arith}
@@ -7,31 +7,44 @@ use native.Mathlib.Nat.{lt-of-le-of-lt}
 use borrow.Author.Tests.{ne-eqb, lt-ltb, ltb-true, ltb-false, not-true}
 use lib.Dec.{T, eqb, ltb}
 use lib.Pow.{pow-lt, pow-pos}
+use lib.Count.{ones, trailingZeros}
 use lib.Bits.{bitAnd, bitOr, and-le-l, and-mask, or-lt}
 use Rattle.sets.specs.Tests.{_and_, _or_, non}
-use Rattle.sets.specs.Members.{width, bit, bitsOf, mem, those, someBelow, everyBelow, countBelow, leastBelow, isEmpty, within}
+use Rattle.sets.specs.Members.{width, bit, bitsOf, mem, those, noSet, someBelow, everyBelow, countBelow, leastBelow, isEmpty, within}
 use Rattle.sets.specs.declared.set.Set.{Set}
-use Rattle.sets.proofs.Tests.{non-or, non-non, T→true, F→false, false→F, non-false, non-e, imp-i, imp-e, split, either}
-use Rattle.sets.proofs.Bits.{is-bitsOf, bitsOf-ext, bitsOf-bit, bit-bitsOf, bit-bitsOf-above, bit-and, bit-or, bit-non, bit-above, bit-zero, bit-pow, bit-ones, one-shl}
+use Rattle.sets.proofs.Tests.{non-or, non-non, T→true, true→T, F→false, false→F, non-false, non-i, non-e, imp-i, imp-e, split, either}
+use Rattle.sets.proofs.Bits.{is-bitsOf, bitsOf-lt, bitsOf-ext, bitsOf-bit, bit-bitsOf, bit-bitsOf-above, bit-and, bit-or, bit-non, bit-above, bit-zero, bit-pow, bit-ones, one-shl}
 use Rattle.sets.proofs.Below.{some-ext, every-i, every-e, every-ext, non-some, none-zero, count-ext, count-less, least-is, least-lt, ones-count, trailing-least}
 
 -- ---- a set and its members
 
-set-of : {x y : ℕ} → x ≡ y → _≡_ {A = Set} (record { bits = x }) (record { bits = y })
-set-of e = ap (λ (n : ℕ). record { bits = n }) e
+-- a set as the code has it: no more digits than the width
+abbrev pub Fits : Set → Type 0
+Fits s = s .bits < 2 ^ width
 
--- what has the members p is the set of p
-pub is-those : (x : ℕ) (p : ℕ → Bool) → x < 2 ^ width → ((a : ℕ) → a < width → bit x a ≡ p a) → _≡_ {A = Set} (record { bits = x }) (those p)
-is-those x p h e = set-of (is-bitsOf width x p h e)
+-- what has the members p is the set of p: every operation is shown by this
+pub is-those : (s : Set) (p : ℕ → Bool) → Fits s → ((a : ℕ) → a < width → mem s a ≡ p a) → s ≡ those p
+unfolding mem those
+is-those s p h e = let q = is-bitsOf width (s .bits) p h e in λ i. record { bits = q i }
 
 pub those-ext : (p q : ℕ → Bool) → ((a : ℕ) → a < width → p a ≡ q a) → those p ≡ those q
-those-ext p q e = set-of (bitsOf-ext width p q e)
+unfolding those
+those-ext p q e = let d = bitsOf-ext width p q e in λ i. record { bits = d i }
 
 pub mem-those : (p : ℕ → Bool) (a : ℕ) → a < width → mem (those p) a ≡ p a
+unfolding mem those
 mem-those p a h = bit-bitsOf width p a h
 
 pub mem-those-above : (p : ℕ → Bool) (a : ℕ) → width ≤ a → mem (those p) a ≡ false
+unfolding mem those
 mem-those-above p a h = bit-bitsOf-above width p a h
+
+pub mem-none : (a : ℕ) → mem noSet a ≡ false
+unfolding mem
+mem-none a = bit-zero a
+
+pub none-those : (p : ℕ → Bool) → ((a : ℕ) → a < width → p a ≡ false) → noSet ≡ those p
+none-those p e = is-those noSet p (omega arith) (λ a l. mem-none a ∙ sym (e a l))
 
 -- a member of a comprehension is below the width, and passes
 pub those-e : (p : ℕ → Bool) (a : ℕ) → T (mem (those p) a) → (a < width) × T (p a)
@@ -44,8 +57,28 @@ pub those-i : (p : ℕ → Bool) (a : ℕ) → a < width → T (p a) → T (mem 
 those-i p a l t = subst T (sym (mem-those p a l)) t
 
 -- a set is the set of its members
-pub those-mem : (s : Set) → s .bits < 2 ^ width → those (mem s) ≡ s
-those-mem s h = set-of (bitsOf-bit width (s .bits) h)
+pub those-mem : (s : Set) → Fits s → those (mem s) ≡ s
+those-mem s h = sym (is-those s (mem s) h (λ a l. refl))
+
+-- what proofs above ask of a set: that it is the set of its members, as every set of the code is
+abbrev pub Whole : Set → Type 0
+Whole s = those (mem s) ≡ s
+
+module _ (s : Set) (w : Whole s) where
+  pub whole-fits : Fits s
+  unfolding those
+  whole-fits = subst Fits w (bitsOf-lt width (mem s))
+
+  pub whole-low : (a : ℕ) → T (mem s a) → a < width
+  whole-low a t = those-e (mem s) a (subst (λ (u : Set). T (mem u a)) (sym w) t) .0
+
+  pub whole-empty : isEmpty s ≡ true → noSet ≡ s
+  unfolding isEmpty
+  whole-empty e = none-those (mem s) (λ a l. F→false _ (non-e (mem s a) (every-e width _ (true→T e) a l))) ∙ w
+
+pub empty-noSet : isEmpty noSet ≡ true
+unfolding isEmpty
+empty-noSet = T→true _ (every-i width _ (λ a l. non-i _ (false→F (mem-none a))))
 
 -- ---- a comprehension over a set that is itself one: what a caller of several operations shows, one law for each turn
 
@@ -96,61 +129,78 @@ fewer rest rest′ one a r hr ht ha ho hm =
 
 -- ---- the operations, as the machine has them: each method's `returns` is closed by its law
 
-module _ (x y : ℕ) (hx : x < 2 ^ width) (hy : y < 2 ^ width) where
-  difference-bits : bitAnd x ((2 ^ width - 1) - y) ≡ bitsOf width (λ a. bit x a and non (bit y a))
-  difference-bits =
-      is-bitsOf width (bitAnd x ((2 ^ width - 1) - y)) (λ a. bit x a and non (bit y a)) (lt-of-le-of-lt (and-le-l x ((2 ^ width - 1) - y)) hx)
-      (λ a l. bit-and x ((2 ^ width - 1) - y) a ∙ ap (λ (b : Bool). bit x a and b) (bit-non width y a hy l))
+module _ (s t : Set) (hs : s .bits < 2 ^ width) (ht : t .bits < 2 ^ width) where
+  pub union-those : _≡_ {A = Set} (record { bits = bitOr (s .bits) (t .bits) }) (those (λ a. mem s a or mem t a))
+  unfolding mem
+  union-those = is-those (record { bits = bitOr (s .bits) (t .bits) }) (λ a. mem s a or mem t a) (or-lt width (s .bits) (t .bits) hs ht) (λ a l. bit-or (s .bits) (t .bits) a)
 
-  pub union-those : _≡_ {A = Set} (record { bits = bitOr x y }) (those (λ a. bit x a or bit y a))
-  union-those = is-those (bitOr x y) (λ a. bit x a or bit y a) (or-lt width x y hx hy) (λ a l. bit-or x y a)
+  pub intersection-those : _≡_ {A = Set} (record { bits = bitAnd (s .bits) (t .bits) }) (those (λ a. mem s a and mem t a))
+  unfolding mem
+  intersection-those =
+      is-those (record { bits = bitAnd (s .bits) (t .bits) }) (λ a. mem s a and mem t a)
+      (lt-of-le-of-lt (and-le-l (s .bits) (t .bits)) hs) (λ a l. bit-and (s .bits) (t .bits) a)
 
-  pub intersection-those : _≡_ {A = Set} (record { bits = bitAnd x y }) (those (λ a. bit x a and bit y a))
-  intersection-those = is-those (bitAnd x y) (λ a. bit x a and bit y a) (lt-of-le-of-lt (and-le-l x y) hx) (λ a l. bit-and x y a)
+  pub difference-those : _≡_ {A = Set} (record { bits = bitAnd (s .bits) ((2 ^ width - 1) - t .bits) }) (those (λ a. mem s a and non (mem t a)))
+  unfolding mem
+  difference-those =
+      is-those (record { bits = bitAnd (s .bits) ((2 ^ width - 1) - t .bits) }) (λ a. mem s a and non (mem t a))
+      (lt-of-le-of-lt (and-le-l (s .bits) ((2 ^ width - 1) - t .bits)) hs)
+      (λ a l. bit-and (s .bits) ((2 ^ width - 1) - t .bits) a ∙ ap (λ (b : Bool). bit (s .bits) a and b) (bit-non width (t .bits) a ht l))
 
-  pub difference-those : _≡_ {A = Set} (record { bits = bitAnd x ((2 ^ width - 1) - y) }) (those (λ a. bit x a and non (bit y a)))
-  difference-those = set-of difference-bits
-
-  pub within-bits : eqb (bitAnd x ((2 ^ width - 1) - y)) 0 ≡ within (record { bits = x }) (record { bits = y })
-  unfolding within
+  pub within-bits : eqb (bitAnd (s .bits) ((2 ^ width - 1) - t .bits)) 0 ≡ within s t
+  unfolding within mem those
   within-bits =
-      ap (λ (n : ℕ). eqb n 0) difference-bits
-      ∙ sym (none-zero width (λ a. bit x a and non (bit y a)))
-      ∙ every-ext width (λ a. non (bit x a and non (bit y a))) (λ a. non (bit x a) or bit y a)
-      (λ a l. ap non (sym (non-or (bit x a) (bit y a))) ∙ non-non (non (bit x a) or bit y a))
+      ap (λ (u : Set). eqb (u .bits) 0) difference-those
+      ∙ sym (none-zero width (λ a. mem s a and non (mem t a)))
+      ∙ every-ext width (λ a. non (mem s a and non (mem t a))) (λ a. non (mem s a) or mem t a)
+      (λ a l. ap non (sym (non-or (mem s a) (mem t a))) ∙ non-non (non (mem s a) or mem t a))
 
-module _ (x : ℕ) (hx : x < 2 ^ width) where
-  pub complement-those : _≡_ {A = Set} (record { bits = (2 ^ width - 1) - x }) (those (λ a. non (bit x a)))
-  complement-those = is-those ((2 ^ width - 1) - x) (λ a. non (bit x a)) (omega arith) (λ a l. bit-non width x a hx l)
+module _ (s : Set) (hs : s .bits < 2 ^ width) where
+  pub complement-those : _≡_ {A = Set} (record { bits = (2 ^ width - 1) - s .bits }) (those (λ a. non (mem s a)))
+  unfolding mem
+  complement-those = is-those (record { bits = (2 ^ width - 1) - s .bits }) (λ a. non (mem s a)) (omega arith) (λ a l. bit-non width (s .bits) a hs l)
 
-  pub empty-bits : eqb x 0 ≡ isEmpty (record { bits = x })
-  unfolding isEmpty
-  empty-bits = ap (λ (n : ℕ). eqb n 0) (sym (bitsOf-bit width x hx)) ∙ sym (none-zero width (bit x))
+  pub empty-bits : eqb (s .bits) 0 ≡ isEmpty s
+  unfolding isEmpty mem
+  empty-bits = ap (λ (n : ℕ). eqb n 0) (sym (bitsOf-bit width (s .bits) hs)) ∙ sym (none-zero width (bit (s .bits)))
 
-  pub has-above : (a : ℕ) → width ≤ a → false ≡ bit x a
-  has-above a l = sym (bit-above width x a hx l)
+  pub has-above : (a : ℕ) → width ≤ a → false ≡ mem s a
+  unfolding mem
+  has-above a l = sym (bit-above width (s .bits) a hs l)
 
-pub has-bits : (x a : ℕ) → eqb (bitAnd (x / 2 ^ a) 1) 1 ≡ bit x a
-unfolding bit
-has-bits x a = ap (λ (n : ℕ). eqb n 1) (and-mask (x / 2 ^ a) 1)
+  pub ones-those : ones (s .bits) ≡ countBelow width (mem s)
+  unfolding mem
+  ones-those = ones-count width (s .bits) hs
+
+module _ (s : Set) where
+  pub has-bits : (a : ℕ) → eqb (bitAnd (s .bits / 2 ^ a) 1) 1 ≡ mem s a
+  unfolding mem bit
+  has-bits a = ap (λ (n : ℕ). eqb n 1) (and-mask (s .bits / 2 ^ a) 1)
+
+  pub least-those : trailingZeros width (s .bits) ≡ leastBelow width (mem s)
+  unfolding mem
+  least-those = trailing-least width (s .bits)
 
 module _ (k : ℕ) (h : k < width) where
   pub one-those : _≡_ {A = Set} (record { bits = 1 * 2 ^ k % 2 ^ width }) (those (λ b. eqb b k))
-  one-those = set-of (one-shl width k h) ∙ is-those (2 ^ k) (λ b. eqb b k) (pow-lt h) (λ a l. bit-pow k a)
+  unfolding mem
+  one-those = ap (λ (n : ℕ). record { bits = n }) (one-shl width k h) ∙ is-those (record { bits = 2 ^ k }) (λ b. eqb b k) (pow-lt h) (λ a l. bit-pow k a)
 
   pub below-those : _≡_ {A = Set} (record { bits = 1 * 2 ^ k % 2 ^ width - 1 }) (those (λ a. ltb a k))
+  unfolding mem
   below-those =
       ap (λ (n : ℕ). record { bits = n - 1 }) (one-shl width k h)
-      ∙ is-those (2 ^ k - 1) (λ a. ltb a k) (omega (arith, pow-lt h)) (λ a l. bit-ones k a)
+      ∙ is-those (record { bits = 2 ^ k - 1 }) (λ a. ltb a k) (omega (arith, pow-lt h)) (λ a l. bit-ones k a)
 
   pub one-pos : 1 ≤ 1 * 2 ^ k % 2 ^ width
   one-pos = rw (one-shl width k h) (pow-pos k)
 
 module _ (k : ℕ) (h : width ≤ k) where
-  pub one-above : _≡_ {A = Set} (record { bits = 0 }) (those (λ b. eqb b k))
-  one-above = is-those 0 (λ b. eqb b k) (omega arith) (λ a l. bit-zero a ∙ sym (ne-eqb a k (λ e. omega arith)))
+  pub one-above : noSet ≡ those (λ b. eqb b k)
+  one-above = none-those (λ b. eqb b k) (λ a l. ne-eqb a k (λ e. omega arith))
 
   pub below-all : _≡_ {A = Set} (record { bits = 2 ^ width - 1 }) (those (λ a. ltb a k))
-  below-all = is-those (2 ^ width - 1) (λ a. ltb a k) (omega arith) (λ a l. bit-ones width a ∙ lt-ltb a width l ∙ sym (lt-ltb a k (omega arith)))
+  unfolding mem
+  below-all = is-those (record { bits = 2 ^ width - 1 }) (λ a. ltb a k) (omega arith) (λ a l. bit-ones width a ∙ lt-ltb a width l ∙ sym (lt-ltb a k (omega arith)))
 
-pub ruleset operations = (union-those, intersection-those, difference-those, complement-those, within-bits, empty-bits, has-bits, has-above, one-those, one-above, below-those, below-all, one-pos, ones-count, trailing-least)
+pub ruleset operations = (union-those, intersection-those, difference-those, complement-those, within-bits, empty-bits, has-bits, has-above, one-those, one-above, below-those, below-all, one-pos, ones-those, least-those)

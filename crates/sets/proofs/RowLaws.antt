@@ -2,19 +2,19 @@
 use mathlib.Core.Path.{_≡_, refl, sym, ap, _∙_, subst}
 use mathlib.Core.Bool.{Bool, true, false}
 use mathlib.Core.List.{List}
-use Prim.Native.Nat.{ℕ, zero, suc, _+_, _≤_, _<_}
+use Prim.Native.Nat.{ℕ, zero, suc, _+_, _^_, _≤_, _<_}
 use native.Mathlib.Nat.{not-suc-le-zero, le-of-suc-le-suc, add-zero, add-suc, suc-add, zero-add}
 use native.Mathlib.Omega.{arith}
 use borrow.Author.Tests.{lt-ltb, le-ltb, ltb-true, ltb-false, eqb-true, eqb-false, ne-eqb}
 use lib.Dec.{eqb, ltb}
-use lib.ListN.{length, getD, set, length-set}
+use lib.ListN.{length, getD, set, length-set, getD-replicate}
 use lib.Seq.{ext-getD, getD-set-same, getD-set-other}
 use Rattle.sets.specs.Tests.{_and_, _or_, when_then_else_}
-use Rattle.sets.specs.Members.{width, bit, bitsOf, mem, those}
+use Rattle.sets.specs.Members.{width, bitsOf, mem, those, noSet}
 use Rattle.sets.specs.Rows.{Relation, noRows, rowAt, withRow, inRow, listFrom, rowsOf}
 use Rattle.sets.specs.declared.set.Set.{Set}
 use Rattle.sets.proofs.Tests.{T→true, F→false, split, either, or-false, true-and, false-and}
-use Rattle.sets.proofs.Bits.{bit-bitsOf, bitsOf-ext}
+use Rattle.sets.proofs.Members.{Whole, those-mem, those-ext, mem-those}
 
 -- ---- reading and writing a row
 
@@ -23,7 +23,7 @@ module _ (rows : List ℕ) (a : ℕ) where
   unfolding rowAt
   row-in l = rw (lt-ltb a width l)
 
-  pub row-out : width ≤ a → _≡_ {A = Set} (record { bits = 0 }) (rowAt rows a)
+  pub row-out : width ≤ a → noSet ≡ rowAt rows a
   unfolding rowAt
   row-out l = rw (le-ltb a width l)
 
@@ -35,25 +35,65 @@ module _ (rows : List ℕ) (a : ℕ) where
   unfolding withRow
   put-out s l = rw (le-ltb a width l)
 
-  -- the old row, joined with s by an operation on members
-  pub put-joined : (op : Bool → Bool → Bool) (s u : Set) → a < width
-      → u ≡ those (λ b. op (mem (record { bits = getD rows a 0 }) b) (mem s b))
-      → set rows a (u .bits) ≡ withRow rows a (those (λ b. op (mem (rowAt rows a) b) (mem s b)))
-  put-joined op s u l e =
-      ap (λ (v : Set). set rows a (v .bits)) (e ∙ ap (λ (r : Set). those (λ b. op (mem r b) (mem s b))) (row-in l))
-      ∙ put-in (those (λ b. op (mem (rowAt rows a) b) (mem s b))) l
+  pub length-put : (s : Set) → length (withRow rows a s) ≡ length rows
+  unfolding withRow
+  length-put s = by (ltb a width)
+    where
+      by : (t : Bool) → length (when t then set rows a (s .bits) else rows) ≡ length rows
+      by true = length-set rows a (s .bits)
+      by false = refl
+
+-- rows of the code's numbers hold whole sets
+pub row-whole : (rows : List ℕ) → ((i : ℕ) → getD rows i 0 < 2 ^ width) → (a : ℕ) → Whole (rowAt rows a)
+row-whole rows small a =
+    either (split (ltb a width))
+    (λ t. subst Whole (row-in rows a (ltb-true a width (T→true _ t))) (those-mem (record { bits = getD rows a 0 }) (small a)))
+    (λ f. subst Whole (row-out rows a (ltb-false a width (F→false _ f))) (those-mem noSet (omega arith)))
+
+pub row-none : (a : ℕ) → rowAt noRows a ≡ noSet
+row-none a =
+    either (split (ltb a width))
+    (λ t.
+    let l : a < width = ltb-true a width (T→true _ t) in
+    sym (row-in noRows a l) ∙ ap (λ (n : ℕ). record { bits = n }) (getD-replicate width a 0 0 l))
+    (λ f. sym (row-out noRows a (ltb-false a width (F→false _ f))))
+
+-- the row that was put is there
+pub row-put-same : (rows : List ℕ) (a : ℕ) (s : Set) → a < width → length rows ≡ width → rowAt (withRow rows a s) a ≡ s
+row-put-same rows a s l n =
+    ap (λ (q : List ℕ). rowAt q a) (sym (put-in rows a s l))
+    ∙ sym (row-in (set rows a (s .bits)) a l)
+    ∙ ap (λ (x : ℕ). record { bits = x }) (getD-set-same rows a (s .bits) 0 (omega arith))
+
+-- the others stay
+pub row-put-other : (rows : List ℕ) (k : ℕ) (s : Set) (a : ℕ) → (a ≡ k → ⊥) → rowAt (withRow rows k s) a ≡ rowAt rows a
+row-put-other rows k s a n =
+    either (split (ltb k width)) (λ h. inside (ltb-true k width (T→true _ h)))
+    (λ h. ap (λ (q : List ℕ). rowAt q a) (sym (put-out rows k s (ltb-false k width (F→false _ h)))))
+  where
+    inside : k < width → rowAt (withRow rows k s) a ≡ rowAt rows a
+    inside h =
+        either (split (ltb a width))
+        (λ t.
+        let l : a < width = ltb-true a width (T→true _ t) in
+        ap (λ (q : List ℕ). rowAt q a) (sym (put-in rows k s h))
+        ∙ sym (row-in (set rows k (s .bits)) a l)
+        ∙ ap (λ (x : ℕ). record { bits = x }) (getD-set-other rows k a (s .bits) 0 n)
+        ∙ row-in rows a l)
+        (λ t. let g = ltb-false a width (F→false _ t) in sym (row-out (withRow rows k s) a g) ∙ row-out rows a g)
+
+-- lists of rows are equal where their rows are
+pub rows-ext : (x y : List ℕ) → length x ≡ width → length y ≡ width → ((a : ℕ) → a < width → rowAt x a ≡ rowAt y a) → x ≡ y
+rows-ext x y hx hy e =
+    ext-getD 0 x y (hx ∙ sym hy)
+    (λ i h. let l : i < width = omega arith in ap (λ (s : Set). s .bits) (row-in x i l ∙ e i l ∙ sym (row-in y i l)))
 
 pub joined : (rows : List ℕ) (a : ℕ) (s u : Set) → a < width
     → u ≡ those (λ b. mem (record { bits = getD rows a 0 }) b or mem s b)
     → set rows a (u .bits) ≡ withRow rows a (those (λ b. mem (rowAt rows a) b or mem s b))
-joined rows a s u l e = put-joined rows a _or_ s u l e
+joined rows a s u l e = put-in rows a u l ∙ ap (withRow rows a) (e ∙ ap (λ (r : Set). those (λ b. mem r b or mem s b)) (row-in rows a l))
 
-pub met : (rows : List ℕ) (a : ℕ) (s u : Set) → a < width
-    → u ≡ those (λ b. mem (record { bits = getD rows a 0 }) b and mem s b)
-    → set rows a (u .bits) ≡ withRow rows a (those (λ b. mem (rowAt rows a) b and mem s b))
-met rows a s u l e = put-joined rows a _and_ s u l e
-
-pub ruleset writing = (row-in, row-out, put-in, put-out, joined, met)
+pub ruleset writing = (row-in, row-out, put-in, put-out, joined)
 
 -- ---- rows that are put down from a relation
 
@@ -68,73 +108,63 @@ getD-listFrom zero i f k h = absurd (not-suc-le-zero h)
 getD-listFrom (suc n) i f zero h = ap f (sym (add-zero i))
 getD-listFrom (suc n) i f (suc k) h = getD-listFrom n (suc i) f k (le-of-suc-le-suc h) ∙ ap f (suc-add i k ∙ sym (add-suc i k))
 
-pub getD-rowsOf : (r : Relation) (a : ℕ) → a < width → getD (rowsOf r) a 0 ≡ those (r a) .bits
-unfolding rowsOf
-getD-rowsOf r a h = getD-listFrom width 0 (λ b. those (r b) .bits) a h ∙ ap (λ (x : ℕ). those (r x) .bits) (zero-add a)
-
 pub length-rowsOf : (r : Relation) → length (rowsOf r) ≡ width
 unfolding rowsOf
 length-rowsOf r = length-listFrom width 0 (λ a. those (r a) .bits)
 
 -- a relation put down row by row is the relation
-pub in-rowsOf : (r : Relation) (a b : ℕ) → a < width → b < width → inRow (rowsOf r) a b ≡ r a b
-unfolding inRow
-in-rowsOf r a b ha hb =
-    ap (λ (s : Set). mem s b) (sym (row-in (rowsOf r) a ha)) ∙ ap (λ (x : ℕ). bit x b) (getD-rowsOf r a ha) ∙ bit-bitsOf width (r a) b hb
+pub row-rowsOf : (r : Relation) (a : ℕ) → a < width → rowAt (rowsOf r) a ≡ those (r a)
+unfolding rowsOf
+row-rowsOf r a h =
+    sym (row-in (rowsOf r) a h)
+    ∙ ap (λ (x : ℕ). record { bits = x }) (getD-listFrom width 0 (λ b. those (r b) .bits) a h)
+    ∙ ap (λ (x : ℕ). those (r x)) (zero-add a)
 
 pub row-mem : (r : Relation) (a b : ℕ) → a < width → b < width → mem (rowAt (rowsOf r) a) b ≡ r a b
+row-mem r a b ha hb = ap (λ (s : Set). mem s b) (row-rowsOf r a ha) ∙ mem-those (r a) b hb
+
+pub in-rowsOf : (r : Relation) (a b : ℕ) → a < width → b < width → inRow (rowsOf r) a b ≡ r a b
 unfolding inRow
-row-mem r a b ha hb = in-rowsOf r a b ha hb
+in-rowsOf r a b ha hb = row-mem r a b ha hb
+
+-- rows of the right length whose rows are those of a relation are its rows
+pub is-rowsOf : (rows : List ℕ) (r : Relation) → length rows ≡ width → ((a : ℕ) → a < width → rowAt rows a ≡ those (r a)) → rows ≡ rowsOf r
+is-rowsOf rows r n e = rows-ext rows (rowsOf r) n (length-rowsOf r) (λ a l. e a l ∙ sym (row-rowsOf r a l))
 
 pub rowsOf-ext : (r q : Relation) → ((a b : ℕ) → a < width → b < width → r a b ≡ q a b) → rowsOf r ≡ rowsOf q
-rowsOf-ext r q e =
-    ext-getD 0 (rowsOf r) (rowsOf q) (length-rowsOf r ∙ sym (length-rowsOf q))
-    (λ a h.
-    let l : a < width = subst (λ (n : ℕ). a < n) (length-rowsOf r) h in
-    getD-rowsOf r a l ∙ bitsOf-ext width (r a) (q a) (λ b hb. e a b l hb) ∙ sym (getD-rowsOf q a l))
+rowsOf-ext r q e = is-rowsOf (rowsOf r) q (length-rowsOf r) (λ a l. row-rowsOf r a l ∙ those-ext (r a) (q a) (λ b k. e a b l k))
 
 -- rows without a member are those of the relation without a pair
 pub empty-rowsOf : (r : Relation) → ((a b : ℕ) → a < width → b < width → r a b ≡ false) → noRows ≡ rowsOf r
-unfolding rowsOf listFrom bitsOf
+unfolding rowsOf listFrom those bitsOf
 empty-rowsOf r e = sym (rowsOf-ext r (λ a b. false) e)
 
 -- a row that is put into a relation's rows: the others stay
 pub put-rowsOf : (r : Relation) (k : ℕ) (p : ℕ → Bool) → withRow (rowsOf r) k (those p) ≡ rowsOf (λ a b. when eqb a k then p b else r a b)
-put-rowsOf r k p = either (split (ltb k width)) (λ h. inside (ltb-true k width (T→true _ h))) (λ h. past (ltb-false k width (F→false _ h)))
+put-rowsOf r k p =
+    is-rowsOf (withRow (rowsOf r) k (those p)) q (length-put (rowsOf r) k (those p) ∙ length-rowsOf r) (λ a l. at a l (eqb a k) refl)
   where
     q : Relation
     q a b = when eqb a k then p b else r a b
 
-    at : k < width → (a : ℕ) → a < width → (t : Bool) → eqb a k ≡ t → getD (set (rowsOf r) k (those p .bits)) a 0 ≡ getD (rowsOf q) a 0
-    at l a h true e =
-        let same : a ≡ k = eqb-true a k e in
-        ap (λ (n : ℕ). getD (set (rowsOf r) k (those p .bits)) n 0) same
-        ∙ getD-set-same (rowsOf r) k (those p .bits) 0 (subst (λ (n : ℕ). k < n) (sym (length-rowsOf r)) l)
-        ∙ bitsOf-ext width p (q a) (λ b hb. sym (ap (λ (t : Bool). when t then p b else r a b) e))
-        ∙ sym (getD-rowsOf q a h)
-    at l a h false e =
-        getD-set-other (rowsOf r) k a (those p .bits) 0 (eqb-false a k e)
-        ∙ getD-rowsOf r a h
-        ∙ bitsOf-ext width (r a) (q a) (λ b hb. sym (ap (λ (t : Bool). when t then p b else r a b) e))
-        ∙ sym (getD-rowsOf q a h)
-
-    inside : k < width → withRow (rowsOf r) k (those p) ≡ rowsOf q
-    inside l =
-        sym (put-in (rowsOf r) k (those p) l)
-        ∙ ext-getD 0 (set (rowsOf r) k (those p .bits)) (rowsOf q) (length-set (rowsOf r) k (those p .bits) ∙ length-rowsOf r ∙ sym (length-rowsOf q))
-        (λ a h. at l a (subst (λ (n : ℕ). a < n) (length-set (rowsOf r) k (those p .bits) ∙ length-rowsOf r) h) (eqb a k) refl)
-
-    past : width ≤ k → withRow (rowsOf r) k (those p) ≡ rowsOf q
-    past g =
-        sym (put-out (rowsOf r) k (those p) g)
-        ∙ rowsOf-ext r q (λ a b ha hb. sym (ap (λ (t : Bool). when t then p b else r a b) (ne-eqb a k (λ e. omega arith))))
+    at : (a : ℕ) → a < width → (t : Bool) → eqb a k ≡ t → rowAt (withRow (rowsOf r) k (those p)) a ≡ those (q a)
+    at a l true e =
+        let same : k ≡ a = sym (eqb-true a k e) in
+        ap (λ (n : ℕ). rowAt (withRow (rowsOf r) n (those p)) a) same
+        ∙ row-put-same (rowsOf r) a (those p) l (length-rowsOf r)
+        ∙ those-ext p (q a) (λ b hb. sym (ap (λ (t : Bool). when t then p b else r a b) e))
+    at a l false e =
+        row-put-other (rowsOf r) k (those p) a (eqb-false a k e)
+        ∙ row-rowsOf r a l
+        ∙ those-ext (r a) (q a) (λ b hb. sym (ap (λ (t : Bool). when t then p b else r a b) e))
 
 -- a row of a relation's rows that gains those that pass: what a pass over a log does at each event
 pub gain-rowsOf : (r : Relation) (k : ℕ) (p : ℕ → Bool)
     → withRow (rowsOf r) k (those (λ b. mem (rowAt (rowsOf r) k) b or p b)) ≡ rowsOf (λ a b. r a b or eqb a k and p b)
 gain-rowsOf r k p =
     put-rowsOf r k (λ b. mem (rowAt (rowsOf r) k) b or p b)
-    ∙ rowsOf-ext (λ a b. when eqb a k then (mem (rowAt (rowsOf r) k) b or p b) else r a b) (λ a b. r a b or eqb a k and p b) (λ a b ha hb. pick a b ha hb (eqb a k) refl)
+    ∙ rowsOf-ext (λ a b. when eqb a k then (mem (rowAt (rowsOf r) k) b or p b) else r a b) (λ a b. r a b or eqb a k and p b)
+    (λ a b ha hb. pick a b ha hb (eqb a k) refl)
   where
     pick : (a b : ℕ) → a < width → b < width → (t : Bool) → eqb a k ≡ t
         → (when eqb a k then (mem (rowAt (rowsOf r) k) b or p b) else r a b) ≡ (r a b or eqb a k and p b)

@@ -1,7 +1,7 @@
 -- Sets of activities, said by their members (01, "Sizes": a set is 8 bytes, bit a for activity a).
 use mathlib.Core.Bool.{Bool, true, false}
 use Prim.Native.Nat.{ℕ, zero, suc, _+_, _*_, _/_, _%_, _^_}
-use lib.Dec.{eqb}
+use lib.Dec.{eqb, ltb}
 use Rattle.sets.specs.Tests.{_and_, _or_, non}
 use Rattle.sets.specs.declared.set.Set.{Set}
 
@@ -23,12 +23,16 @@ bitsOf zero p = 0
 bitsOf (suc w) p = digit (p 0) + 2 * bitsOf w (λ a. p (suc a))
 
 -- a is a member of s
-abbrev pub mem : Set → ℕ → Bool
+unfoldable pub mem : Set → ℕ → Bool
 mem s a = bit (s .bits) a
 
 -- the set of the activities that pass
-abbrev pub those : (ℕ → Bool) → Set
+unfoldable pub those : (ℕ → Bool) → Set
 those p = record { bits = bitsOf width p }
+
+-- the set without a member
+abbrev pub noSet : Set
+noSet = record { bits = 0 }
 
 -- some number below w passes
 unfoldable pub someBelow : ℕ → (ℕ → Bool) → Bool
@@ -54,6 +58,10 @@ orNext false n = suc n
 unfoldable pub leastBelow : ℕ → (ℕ → Bool) → ℕ
 leastBelow zero p = 0
 leastBelow (suc w) p = orNext (p 0) (leastBelow w (λ a. p (suc a)))
+
+-- the least member above a, or the width where there is none
+unfoldable pub nextAbove : Set → ℕ → ℕ
+nextAbove s a = leastBelow width (λ b. mem s b and ltb a b)
 
 -- the set has no member
 unfoldable pub isEmpty : Set → Bool

@@ -1,10 +1,11 @@
 -- A relation kept as one set for each activity.
-use mathlib.Core.Bool.{Bool, cond}
+use mathlib.Core.Bool.{Bool}
 use mathlib.Core.List.{List, [], _∷_}
 use Prim.Native.Nat.{ℕ, zero, suc}
 use lib.Dec.{ltb}
 use lib.ListN.{getD, set, replicate}
-use Rattle.sets.specs.Members.{width, mem, those}
+use Rattle.sets.specs.Tests.{_and_, when_then_else_}
+use Rattle.sets.specs.Members.{width, mem, those, noSet}
 use Rattle.sets.specs.declared.set.Set.{Set}
 
 -- a relation, as a test of two activities
@@ -17,11 +18,11 @@ noRows = replicate width 0
 
 -- row a; empty past the last
 unfoldable pub rowAt : List ℕ → ℕ → Set
-rowAt rows a = record { bits = cond (ltb a width) (getD rows a 0) 0 }
+rowAt rows a = when ltb a width then record { bits = getD rows a 0 } else noSet
 
 -- the rows with s at a; the same where there is no row a
 unfoldable pub withRow : List ℕ → ℕ → Set → List ℕ
-withRow rows a s = cond (ltb a width) (set rows a (s .bits)) rows
+withRow rows a s = when ltb a width then set rows a (s .bits) else rows
 
 -- b stands in row a
 unfoldable pub inRow : List ℕ → Relation
@@ -35,3 +36,11 @@ listFrom (suc n) i f = f i ∷ listFrom n (suc i) f
 -- the rows of a relation: row a is the set of the b that it has with a
 unfoldable pub rowsOf : Relation → List ℕ
 rowsOf r = listFrom width 0 (λ a. those (r a) .bits)
+
+-- the rows of a relation at the members of a set; the others are empty
+unfoldable pub rowsFor : Set → Relation → List ℕ
+rowsFor s r = rowsOf (λ a b. mem s a and r a b)
+
+-- from rows by target to pairs by source, and back
+unfoldable pub turned : List ℕ → Relation
+turned rows a b = inRow rows b a

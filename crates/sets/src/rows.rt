@@ -3,7 +3,7 @@
 ghost use mathlib.Core.Path.{_≡_};
 ghost use Rattle.sets.specs.Tests.{_and_, _or_};
 ghost use Rattle.sets.specs.Members.{mem, those};
-ghost use Rattle.sets.specs.Rows.{noRows, rowAt, withRow};
+ghost use Rattle.sets.specs.Rows.{Relation, noRows, rowAt, withRow, rowsOf, turned};
 use crate::activity::Activity;
 use crate::activity::WIDTH;
 use crate::set::Set;
@@ -51,14 +51,27 @@ pub fn join(rows: &mut Rows, a: Activity, s: Set)
     }
 }
 
-// The activity's row keeps only members of a set.
-pub fn keep(rows: &mut Rows, a: Activity, s: Set)
-    ensures { λ _. ⌜ now (rows .exit) ≡ withRow (now (rows .entry)) (a .0) (those (λ b. mem (rowAt (now (rows .entry)) (a .0)) b and mem s b)) ⌝ }
+// The row of every member gains a set.
+fn share(rows: &mut Rows, members: Set, gain: Set)
+    ensures { λ _. ⌜ ((r : Relation) → now (rows .entry) ≡ rowsOf r → now (rows .exit) ≡ rowsOf (λ a x. r a x or mem members a and mem gain x)) ⌝ }
 {
-    let i = a.0 as usize;
-    if i < WIDTH {
-        let old = Set { bits: rows[i] };
-        let new = old.intersection(s);
-        rows[i] = new.bits;
+    let mut rest = members;
+    while !rest.is_empty() {
+        join(rows, rest.least(), gain);
+        rest = rest.without_least();
     }
+}
+
+// Rows by target from rows by source, and back.
+pub fn turned(rows: &Rows) -> Rows
+    ensures { λ r. ⌜ r ≡ rowsOf (turned (now (rows .entry))) ⌝ }
+{
+    let mut out = empty();
+    let mut x = 0;
+    while x < Activity::LIMIT {
+        let members = row(rows, Activity(x));
+        share(&mut out, members, Set::one(Activity(x)));
+        x += 1;
+    }
+    out
 }

@@ -2,7 +2,7 @@
 ghost use mathlib.Core.Path.{_≡_};
 ghost use lib.Dec.{eqb, ltb};
 ghost use Rattle.sets.specs.Tests.{_and_, _or_, non};
-ghost use Rattle.sets.specs.Members.{width, mem, those, within, isEmpty, leastBelow, countBelow};
+ghost use Rattle.sets.specs.Members.{width, mem, those, within, isEmpty, leastBelow, nextAbove, countBelow};
 use crate::activity::Activity;
 
 pub struct Set {
@@ -103,5 +103,20 @@ impl Set {
         ensures { λ r. ⌜ r .0 ≡ leastBelow width (mem self) ⌝ }
     {
         Activity(u64::trailing_zeros(self.bits) as u8)
+    }
+
+    // The set less its least member: what is left of a set that is passed member by member.
+    pub fn without_least(self) -> Set
+        ensures { λ r. ⌜ r ≡ those (λ b. mem self b and non (eqb b (leastBelow width (mem self)))) ⌝ }
+    {
+        self.difference(Set::one(self.least()))
+    }
+
+    // The least member above a; the width where there is none.
+    pub fn next(self, a: Activity) -> Activity
+        ensures { λ r. ⌜ r .0 ≡ nextAbove self (a .0) ⌝ }
+    {
+        let up = self.difference(Set::below(a.0));
+        up.difference(Set::one(a)).least()
     }
 }

@@ -1,38 +1,17 @@
 use borrow.Author.Needs.{needs}
+use Rattle.sets.proofs.Ways.{choice}
 use Rattle.engine.specs.Judged.{judgedWith}
 use Rattle.engine.proofs.Judging.{ask-stops, ask-goes}
-use Rattle.engine.proofs.Ways.{choice}
 use Rattle.engine.proofs.judge.judge_beside.Statement.{statement}
 use Rattle.engine.proofs.judge.judge_beside.Tie as tie
-
-judge-for-requires : tie.Need-judge-for-requires
-judge-for-requires c κs = search needs
-
-is-done-requires : tie.Need-is-done-requires
-is-done-requires c κs = search needs
-
-returns : tie.Need-returns
-unfolding judgedWith
-returns c = search (ask-stops, ask-goes, choice, needs)
-
-marking-within-requires : tie.Need-marking-within-requires
-marking-within-requires c κs = search needs
-
-returns-2 : tie.Need-returns-2
-unfolding judgedWith
-returns-2 c = search (ask-stops, ask-goes, choice, needs)
-
-returns-3 : tie.Need-returns-3
-unfolding judgedWith
-returns-3 c = search (ask-stops, ask-goes, choice, needs)
 
 pub judge-beside-spec : {M : Type 1} → statement M
 judge-beside-spec =
     tie.close
     (tie.spec
-    judge-for-requires
-    is-done-requires
-    returns
-    marking-within-requires
-    returns-2
-    returns-3)
+    (λ c κs. search needs)
+    (λ c κs. search needs)
+    (λ c. unfold judgedWith in search (ask-stops, ask-goes, choice, needs))
+    (λ c κs. search needs)
+    (λ c. unfold judgedWith in search (ask-stops, ask-goes, choice, needs))
+    (λ c. unfold judgedWith in search (ask-stops, ask-goes, choice, needs)))

@@ -3,14 +3,9 @@ use Rattle.engine.proofs.Stepping.{changed-by}
 use Rattle.engine.proofs.step.changed.Statement.{statement}
 use Rattle.engine.proofs.step.changed.Tie as tie
 
-difference-requires : tie.Need-difference-requires
-difference-requires c κs = search needs
-
-union-requires : tie.Need-union-requires
-union-requires c κs = search needs
-
 returns : tie.Need-returns
 returns c = let a = c .before .before .args in search (changed-by (a .s) (a .lost) (a .gained), needs)
 
 pub changed-spec : {M : Type 1} → statement M
-changed-spec = tie.close (tie.spec difference-requires union-requires returns)
+changed-spec =
+    tie.close (tie.spec (λ c κs. search needs) (λ c κs. search needs) returns)

@@ -12,37 +12,16 @@ Inv-loop bytes r rows₀ i₀ rows i = (i ≤ r) × (rows ≡ earlierRows bytes 
 abbrev μ-loop : tie.MeasureT-loop
 μ-loop bytes r rows₀ i₀ rows i = r - i
 
-loop-holds : tie.Need-loop-holds Inv-loop μ-loop
-loop-holds c = search (counting, needs)
-
-count-in-requires : tie.Need-count-in-requires Inv-loop μ-loop
-count-in-requires c κs = search needs
-
-add-rows : tie.Need-add-rows Inv-loop μ-loop
-add-rows c = search needs
-
-add-i : tie.Need-add-i Inv-loop μ-loop
-add-i c = search needs
-
-loop-less : tie.Need-loop-less Inv-loop μ-loop
-loop-less c = search needs
-
-loop-again : tie.Need-loop-again Inv-loop μ-loop
-loop-again c = search (counting, needs)
-
-returns : tie.Need-returns Inv-loop μ-loop
-returns c = search (counting, needs)
-
 pub earlier-rows-spec : {M : Type 1} → statement M
 earlier-rows-spec =
     tie.close
     (tie.spec
     Inv-loop
     μ-loop
-    loop-holds
-    count-in-requires
-    add-rows
-    add-i
-    loop-less
-    loop-again
-    returns)
+    (λ c. search (counting, needs))
+    (λ c κs. search needs)
+    (λ c. search needs)
+    (λ c. search needs)
+    (λ c. search needs)
+    (λ c. search (counting, needs))
+    (λ c. search (counting, needs)))

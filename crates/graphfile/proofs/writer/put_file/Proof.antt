@@ -3,27 +3,12 @@ use Rattle.graphfile.proofs.Stores.{file-stored}
 use Rattle.graphfile.proofs.writer.put_file.Statement.{statement}
 use Rattle.graphfile.proofs.writer.put_file.Tie as tie
 
-put-opening-requires : tie.Need-put-opening-requires
-put-opening-requires c κs = search needs
-
-put-contents-requires : tie.Need-put-contents-requires
-put-contents-requires c κs = search needs
-
-put-relations-requires : tie.Need-put-relations-requires
-put-relations-requires c κs = search needs
-
-same-length : tie.Need-same-length
-same-length c = search needs
-
-returns : tie.Need-returns
-returns c = search (file-stored, needs)
-
 pub put-file-spec : {M : Type 1} → statement M
 put-file-spec =
     tie.close
     (tie.spec
-    put-opening-requires
-    put-contents-requires
-    put-relations-requires
-    same-length
-    returns)
+    (λ c κs. search needs)
+    (λ c κs. search needs)
+    (λ c κs. search needs)
+    (λ c. search needs)
+    (λ c. search (file-stored, needs)))

@@ -3,35 +3,14 @@ use Rattle.graphfile.proofs.Stores.{marking-stored}
 use Rattle.graphfile.proofs.writer.put_marking.Statement.{statement}
 use Rattle.graphfile.proofs.writer.put_marking.Tie as tie
 
-put-number-requires : tie.Need-put-number-requires
-put-number-requires c κs = search needs
-
-add-put-number : tie.Need-add-put-number
-add-put-number c = search needs
-
-put-number-requires-2 : tie.Need-put-number-requires-2
-put-number-requires-2 c κs = search needs
-
-add-put-number-2 : tie.Need-add-put-number-2
-add-put-number-2 c = search needs
-
-put-number-requires-3 : tie.Need-put-number-requires-3
-put-number-requires-3 c κs = search needs
-
-same-length : tie.Need-same-length
-same-length c = search needs
-
-returns : tie.Need-returns
-returns c = search (marking-stored, needs)
-
 pub put-marking-spec : {M : Type 1} → statement M
 put-marking-spec =
     tie.close
     (tie.spec
-    put-number-requires
-    add-put-number
-    put-number-requires-2
-    add-put-number-2
-    put-number-requires-3
-    same-length
-    returns)
+    (λ c κs. search needs)
+    (λ c. search needs)
+    (λ c κs. search needs)
+    (λ c. search needs)
+    (λ c κs. search needs)
+    (λ c. search needs)
+    (λ c. search (marking-stored, needs)))

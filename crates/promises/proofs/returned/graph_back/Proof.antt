@@ -1,7 +1,11 @@
 use borrow.Author.Needs.{needs}
 use mir.Syntax.{w64}
 use mir.Val.{Fits}
+use Prim.Native.Nat.{ℕ, _^_, _<_}
 use lib.ListN.{getD}
+use Rattle.sets.specs.Members.{width}
+use Rattle.sets.proofs.Members.{those-mem}
+use Rattle.sets.proofs.TableLaws.{table-whole}
 use Rattle.graphfile.proofs.GraphFile.{Machine}
 use Rattle.promises.proofs.Back.{graph-refused, graph-within, graph-done}
 use Rattle.promises.proofs.returned.graph_back.Statement.{statement}
@@ -10,15 +14,15 @@ use Rattle.promises.proofs.returned.graph_back.Tie as tie
 -- what every `Graph` of the code has
 machine : (c : tie.Start) → Machine (c .args .g)
 machine c =
+    let small : (i : ℕ) → getD (c .args .g .relations) i 0 < 2 ^ width =
+    λ i. let f : Fits w64 (getD (c .args .g .relations) i 0) = search needs in f .fits in
     record {
-      events = search needs;
-      executed = search needs;
-      pending = search needs;
-      included = search needs;
-      conditions = record { many = search needs; fits = λ a. let f : Fits w64 (getD (c .args .g .conditions) a 0) = search needs in f .fits };
-      responses = record { many = search needs; fits = λ a. let f : Fits w64 (getD (c .args .g .responses) a 0) = search needs in f .fits };
-      includes = record { many = search needs; fits = λ a. let f : Fits w64 (getD (c .args .g .includes) a 0) = search needs in f .fits };
-      excludes = record { many = search needs; fits = λ a. let f : Fits w64 (getD (c .args .g .excludes) a 0) = search needs in f .fits };
+      events = those-mem _ (search needs);
+      executed = those-mem _ (search needs);
+      pending = those-mem _ (search needs);
+      included = those-mem _ (search needs);
+      many = search needs;
+      rows = λ r a. table-whole _ r a small;
     }
 
 write-requires : tie.Need-write-requires

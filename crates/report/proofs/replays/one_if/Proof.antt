@@ -2,11 +2,6 @@ use borrow.Author.Needs.{needs}
 use Rattle.report.proofs.replays.one_if.Statement.{statement}
 use Rattle.report.proofs.replays.one_if.Tie as tie
 
-returns : tie.Need-returns
-returns c = search needs
-
-returns-2 : tie.Need-returns-2
-returns-2 c = search needs
-
 pub one-if-spec : {M : Type 1} → statement M
-one-if-spec = tie.close (tie.spec returns returns-2)
+one-if-spec =
+    tie.close (tie.spec (λ c. search needs) (λ c. search needs))

@@ -1,0 +1,43 @@
+use mathlib.Core.Path.{refl}
+use mathlib.Core.List.{List, []}
+use Prim.Native.Nat.{ℕ, _-_, _≤_}
+use native.Mathlib.Omega.{arith}
+use borrow.Author.Needs.{needs}
+use Rattle.sets.specs.declared.set.Set.{Set}
+use Rattle.calllog.proofs.Traces.{part-within}
+use Rattle.tally.specs.Passes.{gains, forward}
+use Rattle.miner.specs.Facts.{beforeFirst, missed}
+use Rattle.tally.proofs.Walks.{Left, through-start, through-next, through-end}
+use Rattle.miner.proofs.conditions.replay_log.Statement.{statement}
+use Rattle.miner.proofs.conditions.replay_log.Tie as tie
+
+abbrev ahead : List ℕ → List ℕ → List ℕ
+ahead r σ = forward (gains beforeFirst) r [] σ
+
+abbrev waiting : Set → List ℕ → List ℕ → List ℕ → List ℕ → List ℕ
+waiting events includes excludes r σ = forward (gains (missed events includes excludes)) r [] σ
+
+abbrev Inv-loop : tie.InvT-loop
+Inv-loop log traces events includes excludes first₀ unmet₀ k₀ first unmet k =
+    (k ≤ traces) × Left ahead log traces k first₀ first × Left (waiting events includes excludes) log traces k unmet₀ unmet
+
+abbrev μ-loop : tie.MeasureT-loop
+μ-loop log traces events includes excludes first₀ unmet₀ k₀ first unmet k = traces - k
+
+loop-holds : tie.Need-loop-holds Inv-loop μ-loop
+loop-holds c = (search needs, through-start ahead _ _ _ _ refl, through-start (waiting _ _ _) _ _ _ _ refl)
+
+add-end : tie.Need-add-end Inv-loop μ-loop
+add-end c = omega (arith, part-within _ _ _ (c .before .trace-part .ensures))
+
+loop-again : tie.Need-loop-again Inv-loop μ-loop
+loop-again c = (search needs, search (through-next, needs), search (through-next, needs))
+
+returns : tie.Need-returns Inv-loop μ-loop
+returns c = (through-end ahead _ _ _ _ _ (c .loop-test .left) (c .before .loop .inv .1), through-end (waiting _ _ _) _ _ _ _ _ (c .loop-test .left) (c .before .loop .inv .2))
+
+pub replay-log-spec : {M : Type 1} → statement M
+replay-log-spec =
+    tie.close
+    (tie.spec Inv-loop μ-loop loop-holds (λ c κs. search needs) add-end (λ c. search needs) (λ c. search needs)
+    (λ c. search (part-within, needs)) (λ c κs. search needs) (λ c. search needs) (λ c. search needs) loop-again returns)

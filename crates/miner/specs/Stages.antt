@@ -1,0 +1,75 @@
+-- What the stages of mining put together, from the tally of a log and its events: what the functions of src/mining.rt, src/includes.rt and
+-- src/conditions.rt give. That it is the rules' graph is a theorem, so a reader of `mine` need not believe this file.
+use mathlib.Core.List.{List, []}
+use Prim.Native.Nat.{ℕ}
+use Rattle.sets.specs.Members.{those}
+use Rattle.sets.specs.Rows.{noRows, rowsOf, rowsFor, turned}
+use Rattle.sets.specs.Tables.{noTables, tableAt, withTable}
+use Rattle.sets.specs.declared.set.Set.{Set}
+use Rattle.engine.specs.Markings.{openingOf}
+use Rattle.engine.specs.Relations.{relationCount, headOf, graphOf}
+use Rattle.engine.specs.declared.graph.Graph.{Graph}
+use Rattle.rules.specs.Traces.{Traces}
+use Rattle.rules.specs.Mining.{event}
+use Rattle.steps.specs.Rowwise.{unbroken, absent, excluders, inEither, notRedundant, reducedOf, waited}
+use Rattle.tally.specs.Passes.{gains, forward, through}
+use Rattle.tally.specs.Tallies.{beforeTable, laterTable, unprecededTable, unansweredTable, unchainedTable, unalternatedTable, followedTable, tallied}
+use Rattle.miner.specs.Facts.{letIn, beforeFirst, missed}
+
+-- conditions and chains by target, responses by source (steps 2 and 3)
+abbrev pub conditionsOf : Set → List ℕ → List ℕ
+conditionsOf events tally = rowsFor events (unbroken events (tableAt tally unprecededTable))
+
+abbrev pub chainsOf : Set → List ℕ → List ℕ
+chainsOf events tally = rowsFor events (unbroken events (tableAt tally unchainedTable))
+
+abbrev pub responsesOf : Set → List ℕ → List ℕ
+responsesOf events tally = rowsFor events (unbroken events (tableAt tally unansweredTable))
+
+-- what never directly follows (step 6)
+abbrev pub neverOf : Set → List ℕ → List ℕ
+neverOf events tally = rowsFor events (absent events (tableAt tally followedTable))
+
+-- the excludes after steps 1 to 5
+abbrev pub fiveFrom : Set → List ℕ → List ℕ → List ℕ
+fiveFrom events tally chains = rowsOf (turned (rowsFor events (excluders events (tableAt tally beforeTable) (tableAt tally laterTable) chains)))
+
+-- the excludes after steps 6 and 7, from those after step 5 and what never directly follows
+abbrev pub sevenFrom : Set → List ℕ → List ℕ → List ℕ → List ℕ
+sevenFrom events tally five never = rowsFor events (notRedundant events (rowsFor events (inEither five never)) (tableAt tally unalternatedTable))
+
+abbrev pub sevenOf : Set → List ℕ → List ℕ
+sevenOf events tally = sevenFrom events tally (fiveFrom events tally (chainsOf events tally)) (neverOf events tally)
+
+-- the includes of steps 3 and 6, from the chains by target and what never directly follows
+abbrev pub includesFrom : List ℕ → List ℕ → Traces → List ℕ
+includesFrom chains never L = through (λ r σ. forward (gains (letIn never)) r [] σ) (rowsOf (turned chains)) L
+
+abbrev pub includesOf : Set → List ℕ → Traces → List ℕ
+includesOf events tally L = includesFrom (chainsOf events tally) (neverOf events tally) L
+
+-- the conditions of steps 9 and 10, from those after step 8
+abbrev pub waitedOf : Set → List ℕ → List ℕ → List ℕ → Traces → List ℕ
+waitedOf events eight includes excludes L =
+    rowsFor events
+    (reducedOf
+    (rowsFor events
+    (waited events eight (through (λ r σ. forward (gains beforeFirst) r [] σ) noRows L)
+    (through (λ r σ. forward (gains (missed events includes excludes)) r [] σ) noRows L))))
+
+-- four relations' rows, put into the tables of a graph
+abbrev pub fourTables : List ℕ → List ℕ → List ℕ → List ℕ → List ℕ
+fourTables c r i x = withTable (withTable (withTable (withTable (noTables relationCount) 0 c) 1 r) 2 i) 3 x
+
+-- the graph, from the events, the tally and the traces
+abbrev pub graphRead : ℕ → Traces → Set → List ℕ → Graph
+graphRead A L events tally =
+    graphOf (headOf A events (openingOf events))
+    (fourTables
+    (waitedOf events (rowsFor events (reducedOf (conditionsOf events tally))) (includesOf events tally L) (sevenOf events tally) L)
+    (rowsFor events (reducedOf (responsesOf events tally)))
+    (includesOf events tally L)
+    (sevenOf events tally))
+
+unfoldable pub graphFound : ℕ → Traces → Graph
+graphFound A L = graphRead A L (those (event L)) (tallied L)

@@ -1,0 +1,121 @@
+// The conditions after step 8, and those of steps 9 and 10. Step 9 asks for a replay by the includes and excludes after step 7: a pass of its
+// own over each trace, from the first place to the last, where `seen` is the set of what stands before the place.
+ghost use mathlib.Core.Path.{_≡_};
+ghost use mathlib.Core.List.{[]};
+ghost use Rattle.sets.specs.Tests.{_and_, _or_, non};
+ghost use Rattle.sets.specs.Members.{mem, those};
+ghost use Rattle.sets.specs.Rows.{inRow};
+ghost use Rattle.tally.specs.Passes.{gained, gains, forward, through, walked};
+ghost use Rattle.miner.specs.Facts.{beforeFirst, missed};
+ghost use Rattle.miner.specs.Stages.{waitedOf};
+use crate::includes::and_then;
+use sets::Activity;
+use sets::Rows;
+use sets::Set;
+use sets::rows;
+use steps::reduce;
+use steps::relations;
+
+// Where e stands for the first time in its trace: all that was seen; else nothing.
+fn at_first(seen: Set, e: Activity) -> Set
+    ensures { λ r. ⌜ r ≡ those (λ x. mem seen x and non (mem seen (e .0))) ⌝ }
+{
+    if seen.has(e) {
+        return Set::EMPTY;
+    }
+    seen
+}
+
+// One place of e: its row of `first` gains what stands before its first place, its row of `unmet` what is included and not executed.
+fn note_waiting(e: Activity, seen: Set, included: Set, first: &mut Rows, unmet: &mut Rows)
+    ensures before { λ _. ⌜ now (first .exit) ≡ gained (now (first .entry)) (e .0) (λ x. mem seen x and non (mem seen (e .0))) ⌝ }
+    ensures left { λ _. ⌜ now (unmet .exit) ≡ gained (now (unmet .entry)) (e .0) (λ x. mem included x and non (mem seen x)) ⌝ }
+{
+    let early = at_first(seen, e);
+    rows::join(first, e, early);
+    let waiting = included.difference(seen);
+    rows::join(unmet, e, waiting);
+}
+
+// What is included after e, by includes and excludes alone: e's excludes go, then its includes come.
+fn included_after<'a>(included: Set, includes: &'a Rows, excludes: &'a Rows, e: Activity) -> Set
+    ensures { λ r. ⌜ r ≡ those (λ x. mem included x and non (inRow (now (excludes .entry)) (e .0) x) or inRow (now (includes .entry)) (e .0) x) ⌝ }
+{
+    let kept = included.difference(rows::row(excludes, e));
+    kept.union(rows::row(includes, e))
+}
+
+// Replays the trace by includes and excludes alone, with all events included at first. The row of each event gains, in `first`, what
+// stands before its first place, and in `unmet` what is included and not executed at one of its places.
+fn replay_trace<'a>(
+    trace: &'a [u8],
+    events: Set,
+    includes: &'a Rows,
+    excludes: &'a Rows,
+    first: &mut Rows,
+    unmet: &mut Rows,
+)
+    ensures before { λ _. ⌜ now (first .exit) ≡ forward (gains beforeFirst) (now (first .entry)) [] (now (trace .entry)) ⌝ }
+    ensures left { λ _. ⌜ now (unmet .exit) ≡ forward (gains (missed events (now (includes .entry)) (now (excludes .entry)))) (now (unmet .entry)) [] (now (trace .entry)) ⌝ }
+{
+    let mut seen = Set::EMPTY;
+    let mut included = events;
+    let mut i: usize = 0;
+    while i < trace.len() {
+        let e = Activity(trace[i]);
+        let then = included_after(included, includes, excludes, e);
+        note_waiting(e, seen, included, first, unmet);
+        included = then;
+        seen = and_then(seen, e);
+        i += 1;
+    }
+}
+
+// What step 9 asks of all traces.
+fn replay_log<'a>(
+    log: &'a [u8],
+    traces: usize,
+    events: Set,
+    includes: &'a Rows,
+    excludes: &'a Rows,
+    first: &mut Rows,
+    unmet: &mut Rows,
+)
+    ensures { λ _. ⌜ now (first .exit) ≡ through (λ r σ. forward (gains beforeFirst) r [] σ) (now (first .entry)) (walked (now (log .entry)) traces 0) ⌝ }
+    ensures { λ _. ⌜ now (unmet .exit) ≡ through (λ r σ. forward (gains (missed events (now (includes .entry)) (now (excludes .entry)))) r [] σ) (now (unmet .entry)) (walked (now (log .entry)) traces 0) ⌝ }
+{
+    let mut k: usize = 0;
+    while k < traces {
+        let p = calllog::trace::trace_part(log, k);
+        let start = p.start;
+        let end = start + p.length;
+        replay_trace(&log[start..end], events, includes, excludes, first, unmet);
+        k += 1;
+    }
+}
+
+// The conditions, by target: steps 9 and 10 on those of step 8.
+pub fn conditions_ten<'a>(
+    log: &'a [u8],
+    traces: usize,
+    events: Set,
+    eight: &'a Rows,
+    includes: &'a Rows,
+    excludes: &'a Rows,
+) -> Rows
+    ensures { λ r. ⌜ r ≡ waitedOf events (now (eight .entry)) (now (includes .entry)) (now (excludes .entry)) (walked (now (log .entry)) traces 0) ⌝ }
+{
+    let mut first = rows::empty();
+    let mut unmet = rows::empty();
+    replay_log(
+        log,
+        traces,
+        events,
+        includes,
+        excludes,
+        &mut first,
+        &mut unmet,
+    );
+    let nine = relations::waited(events, eight, &first, &unmet);
+    reduce::reduced(events, &nine)
+}

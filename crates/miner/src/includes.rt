@@ -1,0 +1,140 @@
+// The includes of steps 3 and 6. What step 6 lets in needs the pairs that never follow, so it is asked of the log in a pass of its own: over
+// each trace from the first place to the last.
+ghost use mathlib.Core.Path.{_≡_};
+ghost use mathlib.Core.Bool.{cond};
+ghost use mathlib.Core.List.{[]};
+ghost use Prim.Native.Nat.{ℕ, _+_, _<_};
+ghost use lib.Dec.{eqb, ltb};
+ghost use lib.ListN.{length, getD, set, drop};
+ghost use Rattle.sets.specs.Tests.{_and_, _or_, non};
+ghost use Rattle.sets.specs.Members.{width, mem, those};
+ghost use Rattle.sets.specs.Rows.{inRow};
+ghost use Rattle.rules.specs.Traces.{_has_};
+ghost use Rattle.tally.specs.Passes.{gained, gains, forward, through, walked};
+ghost use Rattle.miner.specs.Facts.{letIn};
+ghost use Rattle.miner.specs.Stages.{includesFrom};
+use sets::Activity;
+use sets::Place;
+use sets::Rows;
+use sets::Set;
+use sets::activity::WIDTH;
+use sets::rows;
+
+// What was seen, with e.
+pub fn and_then(seen: Set, e: Activity) -> Set
+    ensures { λ r. ⌜ r ≡ those (λ x. mem seen x or eqb x (e .0)) ⌝ }
+{
+    seen.union(Set::one(e))
+}
+
+// A place of the trace for each activity, as a number.
+type Places = [usize; WIDTH];
+
+// Puts a place down as the activity's last so far; past the last activity nothing changes.
+fn put_place(last: &mut Places, e: Activity, at: Place)
+    ensures { λ _. ⌜ now (last .exit) ≡ cond (ltb (e .0) width) (set (now (last .entry)) (e .0) (at .0)) (now (last .entry)) ⌝ }
+{
+    let n = e.0 as usize;
+    if n < WIDTH {
+        last[n] = at.0;
+    }
+}
+
+// What stands in the trace. `last` then has the last place of each of them: a place is its activity's last where the activity does not
+// come again.
+fn last_places(trace: &[u8], last: &mut Places) -> Set
+    requires { ⌜ length (now last) ≡ width ⌝ }
+    ensures all { λ r. ⌜ r ≡ those (λ x. now (trace .entry) has x) ⌝ }
+    ensures places { λ _. ⌜ ((i : ℕ) → i < length (now (trace .entry)) → getD (now (trace .entry)) i 0 < width → eqb (getD (now (last .exit)) (getD (now (trace .entry)) i 0) 0) i ≡ non (drop (i + 1) (now (trace .entry)) has getD (now (trace .entry)) i 0)) ⌝ }
+{
+    let mut all = Set::EMPTY;
+    let mut i: usize = 0;
+    while i < trace.len() {
+        let e = Activity(trace[i]);
+        put_place(last, e, Place(i));
+        all = and_then(all, e);
+        i += 1;
+    }
+    all
+}
+
+// What stands after a place of e, given what stands from it on: less e, where this is its last place.
+fn left_after(after: Set, last: &Places, e: Activity, at: Place) -> Set
+    ensures { λ r. ⌜ r ≡ those (λ x. mem after x and non (eqb x (e .0) and eqb (getD (now (last .entry)) (e .0) 0) (at .0))) ⌝ }
+{
+    let n = e.0 as usize;
+    if n < WIDTH {
+        if last[n] == at.0 {
+            return after.difference(Set::one(e));
+        }
+    }
+    after
+}
+
+// One place of e: its row gains what comes later and is barred. Then what never directly follows e is barred too.
+fn let_in_here(e: Activity, after: Set, barred: Set, unfollowed: &Rows, out: &mut Rows) -> Set
+    ensures row { λ _. ⌜ now (out .exit) ≡ gained (now (out .entry)) (e .0) (λ x. mem after x and mem barred x) ⌝ }
+    ensures next { λ r. ⌜ r ≡ those (λ x. mem barred x or inRow (now (unfollowed .entry)) (e .0) x) ⌝ }
+{
+    let back = after.intersection(barred);
+    rows::join(out, e, back);
+    let never = rows::row(unfollowed, e);
+    barred.union(never)
+}
+
+// The forward pass, with the last places known. `barred` is what never directly follows something that was seen.
+fn let_in_along<'a>(
+    trace: &'a [u8],
+    unfollowed: &'a Rows,
+    last: &'a Places,
+    all: Set,
+    out: &mut Rows,
+)
+    requires { ⌜ all ≡ those (λ x. now trace has x) ⌝ }
+    requires { ⌜ ((i : ℕ) → i < length (now trace) → getD (now trace) i 0 < width → eqb (getD (now last) (getD (now trace) i 0) 0) i ≡ non (drop (i + 1) (now trace) has getD (now trace) i 0)) ⌝ }
+    ensures { λ _. ⌜ now (out .exit) ≡ forward (gains (letIn (now (unfollowed .entry)))) (now (out .entry)) [] (now (trace .entry)) ⌝ }
+{
+    let mut after = all;
+    let mut barred = Set::EMPTY;
+    let mut i: usize = 0;
+    while i < trace.len() {
+        let e = Activity(trace[i]);
+        let later = left_after(after, last, e, Place(i));
+        barred = let_in_here(e, later, barred, unfollowed, out);
+        after = later;
+        i += 1;
+    }
+}
+
+// Step 6: the row of each event gains what comes later in the trace and never directly follows something that stands before the event;
+// row s of `unfollowed` has what never directly follows s.
+fn let_in_trace<'a>(trace: &'a [u8], unfollowed: &'a Rows, out: &mut Rows)
+    ensures { λ _. ⌜ now (out .exit) ≡ forward (gains (letIn (now (unfollowed .entry)))) (now (out .entry)) [] (now (trace .entry)) ⌝ }
+{
+    let mut last = [0usize; WIDTH];
+    let all = last_places(trace, &mut last);
+    let_in_along(trace, unfollowed, &last, all, out);
+}
+
+// The same, of all traces.
+fn let_in_log<'a>(log: &'a [u8], traces: usize, unfollowed: &'a Rows, out: &mut Rows)
+    ensures { λ _. ⌜ now (out .exit) ≡ through (λ r σ. forward (gains (letIn (now (unfollowed .entry)))) r [] σ) (now (out .entry)) (walked (now (log .entry)) traces 0) ⌝ }
+{
+    let mut k: usize = 0;
+    while k < traces {
+        let p = calllog::trace::trace_part(log, k);
+        let start = p.start;
+        let end = start + p.length;
+        let_in_trace(&log[start..end], unfollowed, out);
+        k += 1;
+    }
+}
+
+// The includes after step 6: those of step 3, from the chains by target, and what is let in.
+pub fn includes_six<'a>(log: &'a [u8], traces: usize, chains: &'a Rows, never: &'a Rows) -> Rows
+    ensures { λ r. ⌜ r ≡ includesFrom (now (chains .entry)) (now (never .entry)) (walked (now (log .entry)) traces 0) ⌝ }
+{
+    let mut out = rows::turned(chains);
+    let_in_log(log, traces, never, &mut out);
+    out
+}

@@ -1,0 +1,181 @@
+-- A loop that passes a set member by member, the least first, until none is left. Assumes nothing.
+use Rattle.sets.specs.Members.{noSet}
+use mathlib.Core.Path.{_≡_, refl, sym, ap, _∙_, subst}
+use mathlib.Core.Bool.{Bool, true, false, not}
+use mathlib.Core.Logic.{_⊎_, inl, inr}
+use mathlib.Core.List.{List}
+use Prim.Native.Nat.{ℕ, _<_}
+use borrow.Author.Tests.{not-true, not-false}
+use lib.Dec.{T, eqb, eqb→eq, eqb-refl}
+use Rattle.sets.specs.Tests.{_and_, _or_, non}
+use Rattle.sets.specs.Members.{width, mem, those, someBelow, countBelow, leastBelow, isEmpty}
+use Rattle.sets.specs.Rows.{Relation, rowAt, withRow, inRow, rowsOf}
+use Rattle.sets.specs.declared.set.Set.{Set}
+use Rattle.sets.proofs.Tests.{and-l, and-r, and-i, or-e, or-l, or-r, non-i, non-e, T-ext, T-eq, true→T, F→false, false→F, false-and, or-false, non-false, split, either}
+use Rattle.sets.proofs.Below.{some-i, some-e, some-ext, least-is, least-lt}
+use Rattle.sets.proofs.Members.{those-ext, those-of, empty-e, empty-none, fewer}
+use Rattle.sets.proofs.RowLaws.{gain-rowsOf, rowsOf-ext}
+use Rattle.sets.proofs.Tautologies.{by3, by4}
+use Rattle.sets.proofs.MadeSets.{Is, is-those, is-row, joined, none}
+
+regroup : (q p e g : Bool) → (q or p and g or e and g) ≡ (q or (p or e) and g)
+unfolding _and_ _or_ non
+regroup = by4 (λ q p e g. q or p and g or e and g) (λ q p e g. q or (p or e) and g) tt
+
+and-last : (p q r : Bool) → (p and q and r) ≡ (p and r and q)
+unfolding _and_ _or_ non
+and-last = by3 (λ p q r. p and q and r) (λ p q r. p and r and q) tt
+
+-- a is of the whole, and is left no more
+unfoldable pub passed : Set → Set → ℕ → Bool
+passed all rest a = mem all a and non (mem rest a)
+
+-- what is left is of the whole
+abbrev pub Part : Set → Set → Type 0
+Part all rest = (a : ℕ) → a < width → T (mem rest a) → T (mem all a)
+
+-- at the start nothing is passed, at the end everything
+pub passed-none : (all : Set) (a : ℕ) → passed all all a ≡ false
+unfolding passed
+passed-none all a = F→false (mem all a and non (mem all a)) (λ t. non-e (mem all a) (and-r _ _ t) (and-l _ _ t))
+
+pub passed-all : (all rest : Set) (r : Bool) → r ≡ isEmpty rest → not r ≡ false → (a : ℕ) → a < width → passed all rest a ≡ mem all a
+unfolding passed
+passed-all all rest r hr n a l =
+    T-ext (mem all a and non (mem rest a)) (mem all a) (λ t. and-l _ _ t)
+    (λ t. and-i _ _ t (non-i (mem rest a) (λ m. empty-e rest (true→T (sym hr ∙ not-false r n)) a l m)))
+
+-- a turn: the least of what is left is passed
+module _ (rest rest′ : Set) (r : Bool) (hr : r ≡ isEmpty rest) (hn : not r ≡ true)
+    (hm : rest′ ≡ those (λ b. mem rest b and non (eqb b (leastBelow width (mem rest))))) where
+  pub least-low : leastBelow width (mem rest) < width
+  least-low = least-lt width (mem rest) (non-false _ (sym (empty-none rest) ∙ sym hr ∙ not-true r hn))
+
+  least-in : T (mem rest (leastBelow width (mem rest)))
+  least-in = least-is width (mem rest) least-low
+
+  pub fewer-left : countBelow width (mem rest′) < countBelow width (mem rest)
+  fewer-left =
+      fewer rest rest′ (those (λ b. eqb b (leastBelow width (mem rest)))) (leastBelow width (mem rest)) r hr hn refl refl
+      (hm ∙ sym (those-of (those (λ b. eqb b (leastBelow width (mem rest)))) (λ b. eqb b (leastBelow width (mem rest))) (λ b t. mem rest b and non t) refl))
+
+  left : (a : ℕ) → a < width → mem rest′ a ≡ (mem rest a and non (eqb a (leastBelow width (mem rest))))
+  left = is-those rest′ (λ b. mem rest b and non (eqb b (leastBelow width (mem rest)))) hm
+
+  pub part-turn : (all : Set) → Part all rest → Part all rest′
+  part-turn all h a l t = h a l (and-l _ _ (T-eq (left a l) t))
+
+  pub passed-turn : (all : Set) → Part all rest → (a : ℕ) → a < width → passed all rest′ a ≡ (passed all rest a or eqb a (leastBelow width (mem rest)))
+  unfolding passed
+  passed-turn all h a l =
+      T-ext (mem all a and non (mem rest′ a)) (mem all a and non (mem rest a) or eqb a (leastBelow width (mem rest)))
+      (λ t.
+      either (split (eqb a (leastBelow width (mem rest))))
+      (λ e. or-r _ _ e)
+      (λ d. or-l _ _ (and-i _ _ (and-l _ _ t) (non-i _ (λ m. non-e _ (and-r _ _ t) (T-eq (sym (left a l)) (and-i _ _ m (non-i _ d))))))))
+      (λ t. back (or-e _ _ t))
+    where
+      back : T (mem all a and non (mem rest a)) ⊎ T (eqb a (leastBelow width (mem rest))) → T (mem all a and non (mem rest′ a))
+      back (inl t) = and-i _ _ (and-l _ _ t) (non-i _ (λ m. non-e _ (and-r _ _ t) (and-l _ _ (T-eq (left a l) m))))
+      back (inr e) =
+          and-i _ _ (h a l (subst (λ (n : ℕ). T (mem rest n)) (sym (eqb→eq a _ e)) least-in))
+          (non-i _ (λ m. non-e _ (and-r _ _ (T-eq (left a l) m)) e))
+
+-- ---- rows that gain a set at each member passed
+
+abbrev pub Shared : List ℕ → Set → Set → List ℕ → Set → Type 0
+Shared rows₀ gain all rows rest = (r : Relation) → rows₀ ≡ rowsOf r → rows ≡ rowsOf (λ a x. r a x or passed all rest a and mem gain x)
+
+module _ (rows₀ : List ℕ) (gain all : Set) where
+  pub share-start : (Part all all) × Shared rows₀ gain all rows₀ all
+  share-start = (
+    λ a l t. t,
+    λ r e.
+        e ∙ rowsOf-ext r (λ a x. r a x or passed all all a and mem gain x)
+        (λ a x la lx. sym (ap (λ (t : Bool). r a x or t and mem gain x) (passed-none all a) ∙ ap (λ (t : Bool). r a x or t) (false-and (mem gain x)) ∙ or-false (r a x))),
+  )
+
+  pub share-turn : (rows rows′ : List ℕ) (rest rest′ : Set) (k : ℕ) (r : Bool) → Part all rest → Shared rows₀ gain all rows rest
+      → r ≡ isEmpty rest → not r ≡ true → k ≡ leastBelow width (mem rest)
+      → rows′ ≡ withRow rows k (those (λ b. mem (rowAt rows k) b or mem gain b))
+      → rest′ ≡ those (λ b. mem rest b and non (eqb b (leastBelow width (mem rest)))) → (Part all rest′) × Shared rows₀ gain all rows′ rest′
+  share-turn rows rows′ rest rest′ k r hp hs hr hn hk hw hm = (
+    part-turn rest rest′ r hr hn hm all hp,
+    λ q e.
+        hw
+        ∙ ap (λ (l : List ℕ). withRow l k (those (λ b. mem (rowAt l k) b or mem gain b))) (hs q e)
+        ∙ gain-rowsOf (λ a x. q a x or passed all rest a and mem gain x) k (mem gain)
+        ∙ rowsOf-ext (λ a x. q a x or passed all rest a and mem gain x or eqb a k and mem gain x) (λ a x. q a x or passed all rest′ a and mem gain x)
+        (λ a x la lx.
+        ap (λ (n : ℕ). q a x or passed all rest a and mem gain x or eqb a n and mem gain x) hk
+        ∙ regroup (q a x) (passed all rest a) (eqb a (leastBelow width (mem rest))) (mem gain x)
+        ∙ ap (λ (t : Bool). q a x or t and mem gain x) (sym (passed-turn rest rest′ r hr hn hm all hp a la))),
+  )
+
+  pub share-end : (rows : List ℕ) (rest : Set) (r : Bool) → Shared rows₀ gain all rows rest → r ≡ isEmpty rest → not r ≡ false
+      → (q : Relation) → rows₀ ≡ rowsOf q → rows ≡ rowsOf (λ a x. q a x or mem all a and mem gain x)
+  share-end rows rest r hs hr hn q e =
+      hs q e
+      ∙ rowsOf-ext (λ a x. q a x or passed all rest a and mem gain x) (λ a x. q a x or mem all a and mem gain x)
+      (λ a x la lx. ap (λ (t : Bool). q a x or t and mem gain x) (passed-all all rest r hr hn a la))
+
+-- ---- what stands in the row of some member passed
+
+abbrev pub inSome : List ℕ → (ℕ → Bool) → ℕ → Bool
+inSome rows p x = someBelow width (λ u. p u and inRow rows u x)
+
+module _ (rows : List ℕ) (all : Set) where
+  pub union-start : (Part all all) × _≡_ {A = Set} noSet (those (inSome rows (passed all all)))
+  union-start = (
+    λ a l t. t,
+    none (inSome rows (passed all all))
+        (λ x lx. F→false _ (λ t. let u = some-e width _ t in false→F (passed-none all (u .0)) (and-l _ _ (u .2)))),
+  )
+
+  pub union-turn : (out out′ row rest rest′ : Set) (r : Bool) → Part all rest → out ≡ those (inSome rows (passed all rest))
+      → r ≡ isEmpty rest → not r ≡ true → row ≡ rowAt rows (leastBelow width (mem rest)) → out′ ≡ those (λ a. mem out a or mem row a)
+      → rest′ ≡ those (λ b. mem rest b and non (eqb b (leastBelow width (mem rest)))) → (Part all rest′) × (out′ ≡ those (inSome rows (passed all rest′)))
+  union-turn out out′ row rest rest′ r hp ho hr hn hw hu hm = (
+    part-turn rest rest′ r hr hn hm all hp,
+    joined _or_ out row out′ (inSome rows (passed all rest)) (inRow rows k) (is-those out (inSome rows (passed all rest)) ho) (is-row row rows k hw) hu
+        ∙ those-ext (λ x. inSome rows (passed all rest) x or inRow rows k x) (inSome rows (passed all rest′))
+        (λ x lx. T-ext (inSome rows (passed all rest) x or inRow rows k x) (inSome rows (passed all rest′) x) (λ t. more x (or-e _ _ t)) (λ t. less x (some-e width _ t))),
+  )
+    where
+      k : ℕ
+      k = leastBelow width (mem rest)
+
+      turn : (a : ℕ) → a < width → passed all rest′ a ≡ (passed all rest a or eqb a (leastBelow width (mem rest)))
+      turn = passed-turn rest rest′ r hr hn hm all hp
+
+      more : (x : ℕ) → T (inSome rows (passed all rest) x) ⊎ T (inRow rows k x) → T (inSome rows (passed all rest′) x)
+      more x (inl t) =
+          let u = some-e width (λ v. passed all rest v and inRow rows v x) t in
+          some-i width (λ v. passed all rest′ v and inRow rows v x) (u .0) (u .1)
+          (and-i _ _ (T-eq (sym (turn (u .0) (u .1))) (or-l _ _ (and-l _ _ (u .2)))) (and-r _ _ (u .2)))
+      more x (inr t) =
+          some-i width (λ v. passed all rest′ v and inRow rows v x) k (least-low rest rest′ r hr hn hm)
+          (and-i _ _ (T-eq (sym (turn k (least-low rest rest′ r hr hn hm))) (or-r _ _ (eqb-refl k))) t)
+
+      less : (x : ℕ) → (u : ℕ) × (u < width) × T (passed all rest′ u and inRow rows u x) → T (inSome rows (passed all rest) x or inRow rows k x)
+      less x (u, l, t) = either (or-e _ _ (T-eq (turn u l) (and-l _ _ t)))
+          (λ p. or-l _ _ (some-i width (λ v. passed all rest v and inRow rows v x) u l (and-i _ _ p (and-r _ _ t))))
+          (λ e. or-r _ _ (subst (λ (n : ℕ). T (inRow rows n x)) (eqb→eq u _ e) (and-r _ _ t)))
+
+  pub union-end : (out rest : Set) (r : Bool) → out ≡ those (inSome rows (passed all rest)) → r ≡ isEmpty rest → not r ≡ false
+      → out ≡ those (inSome rows (mem all))
+  union-end out rest r ho hr hn =
+      ho
+      ∙ those-ext (inSome rows (passed all rest)) (inSome rows (mem all))
+      (λ x lx. some-ext width (λ u. passed all rest u and inRow rows u x) (λ u. mem all u and inRow rows u x)
+      (λ u l. ap (λ (t : Bool). t and inRow rows u x) (passed-all all rest r hr hn u l)))
+
+-- the members are those that pass two tests
+pub through : (rows : List ℕ) (s out : Set) (p q : ℕ → Bool) → s ≡ those (λ u. p u and q u) → out ≡ those (inSome rows (mem s))
+    → Is out (λ x. someBelow width (λ u. p u and inRow rows u x and q u))
+through rows s out p q hs ho x lx =
+    is-those out (inSome rows (mem s)) ho x lx
+    ∙ some-ext width (λ u. mem s u and inRow rows u x) (λ u. p u and inRow rows u x and q u)
+    (λ u l. ap (λ (t : Bool). t and inRow rows u x) (is-those s (λ v. p v and q v) hs u l) ∙ and-last (p u) (q u) (inRow rows u x))
+
+pub ruleset members = (share-start, share-turn, share-end, union-start, union-turn, union-end, fewer-left)

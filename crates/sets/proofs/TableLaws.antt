@@ -1,0 +1,339 @@
+-- Tables, one after another: what stands in a row of one of them, and what a put leaves. Assumes nothing.
+use mathlib.Core.Path.{_≡_, refl, sym, ap, _∙_, subst}
+use mathlib.Core.Bool.{Bool, true, false}
+use mathlib.Core.List.{List, [], _∷_, _++_}
+use Prim.Native.Nat.{ℕ, zero, suc, _+_, _*_, _-_, _^_, _≤_, _<_}
+use native.Mathlib.Nat.{not-suc-le-zero, le-of-suc-le-suc}
+use native.Mathlib.Numerals.{add-one}
+use native.Mathlib.Omega.{arith}
+use borrow.Author.Tests.{lt-ltb, le-ltb, ltb-true, ltb-false, eqb-true, eqb-false, ne-eqb}
+use lib.Arith.{lt-of-le-ne}
+use lib.Dec.{eqb, ltb, eqb-refl, eqb→eq, lt→ltb, ltb→lt}
+use lib.ListN.{length, getD, set, take, drop, length-set, length-append, length-drop, length-replicate, getD-replicate, take-append-drop}
+use lib.ListN.{List·getD-eq-default}
+use lib.Seq.{ext-getD, length-take-le, drop-set-add, drop-set-lt, take-set-le, take-set-lt, drop-drop, drop-at, take-at, getD-take}
+use lib.Seq.{getD-drop, set-out, take-all}
+use Rattle.sets.specs.Tests.{_and_, _or_, when_then_else_}
+use Rattle.sets.specs.Members.{width, mem, those, noSet}
+use Rattle.sets.specs.Rows.{Relation, noRows, rowAt, withRow, inRow, rowsOf}
+use Rattle.sets.specs.Tables.{noTables, tableAt, withRowIn, gainedIn, withRowsIn, withTable, tablesOf}
+use Rattle.sets.specs.declared.set.Set.{Set}
+use Rattle.sets.proofs.Tests.{T→true, F→false, T-ext, eqb-of, split, either, or-false, true-and, false-and}
+use Rattle.sets.proofs.Members.{Whole, those-mem}
+use Rattle.sets.proofs.RowLaws.{row-in, row-out, put-in, put-out, length-rowsOf, row-rowsOf, rowsOf-ext, empty-rowsOf, put-rowsOf}
+use Rattle.sets.proofs.RowLaws.{gain-rowsOf, in-rowsOf, row-put-same, row-put-other}
+
+-- ---- what the code reads and writes: place k * width + a, where there is one
+
+module _ (tables : List ℕ) (k a : ℕ) where
+  read-at : a < width → getD (tableAt tables k) a 0 ≡ getD tables (k * width + a) 0
+  unfolding tableAt
+  read-at l = getD-take width (drop (k * width) tables) a 0 l ∙ getD-drop (k * width) tables a 0
+
+  pub table-row : a < width → _≡_ {A = Set} (record { bits = getD tables (k * width + a) 0 }) (rowAt (tableAt tables k) a)
+  table-row l = ap (λ (n : ℕ). record { bits = n }) (sym (read-at l)) ∙ row-in (tableAt tables k) a l
+
+  pub table-row-above : width ≤ a → noSet ≡ rowAt (tableAt tables k) a
+  table-row-above l = row-out (tableAt tables k) a l
+
+  pub table-row-past : a < width → length tables ≤ k * width + a → noSet ≡ rowAt (tableAt tables k) a
+  table-row-past l h = ap (λ (n : ℕ). record { bits = n }) (sym (List·getD-eq-default tables 0 h)) ∙ table-row l
+
+  -- tables of the code's numbers hold whole sets
+  pub table-whole : ((i : ℕ) → getD tables i 0 < 2 ^ width) → Whole (rowAt (tableAt tables k) a)
+  table-whole small =
+      either (split (ltb a width))
+      (λ t. subst Whole (table-row (ltb-true a width (T→true _ t)))
+      (those-mem (record { bits = getD tables (k * width + a) 0 }) (small (k * width + a))))
+      (λ f. subst Whole (table-row-above (ltb-false a width (F→false _ f))) (those-mem noSet (omega arith)))
+
+  module _ (s : Set) where
+    pub table-put : a < width → set tables (k * width + a) (s .bits) ≡ withRowIn tables k a s
+    unfolding withRowIn
+    table-put l = rw (lt-ltb a width l)
+
+    pub table-put-above : width ≤ a → tables ≡ withRowIn tables k a s
+    unfolding withRowIn
+    table-put-above l = rw (le-ltb a width l)
+
+    pub table-put-past : a < width → length tables ≤ k * width + a → tables ≡ withRowIn tables k a s
+    table-put-past l h = sym (set-out tables (k * width + a) (s .bits) h) ∙ table-put l
+
+    pub length-put-in : length (withRowIn tables k a s) ≡ length tables
+    unfolding withRowIn
+    length-put-in = by (ltb a width)
+      where
+        by : (t : Bool) → length (when t then set tables (k * width + a) (s .bits) else tables) ≡ length tables
+        by true = length-set tables (k * width + a) (s .bits)
+        by false = refl
+
+    -- the table that is put to
+    pub table-put-same : tableAt (withRowIn tables k a s) k ≡ withRow (tableAt tables k) a s
+    unfolding tableAt
+    table-put-same =
+        either (split (ltb a width))
+        (λ t.
+        let l : a < width = ltb-true a width (T→true _ t) in
+        ap (λ (q : List ℕ). tableAt q k) (sym (table-put l))
+        ∙ ap (take width) (drop-set-add (k * width) tables a (s .bits))
+        ∙ take-set-lt width (drop (k * width) tables) a (s .bits) l
+        ∙ put-in (tableAt tables k) a s l)
+        (λ f.
+        let g = ltb-false a width (F→false _ f) in
+        ap (λ (q : List ℕ). tableAt q k) (sym (table-put-above g)) ∙ put-out (tableAt tables k) a s g)
+
+    -- the others stay
+    pub table-put-other : (j : ℕ) → (j ≡ k → ⊥) → tableAt (withRowIn tables k a s) j ≡ tableAt tables j
+    unfolding tableAt
+    table-put-other j n =
+        either (split (ltb a width))
+        (λ t.
+        let l : a < width = ltb-true a width (T→true _ t) in
+        ap (λ (q : List ℕ). tableAt q j) (sym (table-put l))
+        ∙ either (split (ltb j k))
+        (λ b. before l (ltb-true j k (T→true _ b)))
+        (λ b. let h = ltb-false j k (F→false _ b) in ap (take width)
+        (drop-set-lt (j * width) tables (k * width + a) (s .bits) (omega arith))))
+        (λ f. ap (λ (q : List ℕ). tableAt q j) (sym (table-put-above (ltb-false a width (F→false _ f)))))
+      where
+        before : a < width → j < k → tableAt (set tables (k * width + a) (s .bits)) j ≡ tableAt tables j
+        before l h =
+            let d : ℕ = (k * width + a) - j * width in
+            let e : k * width + a ≡ j * width + d = omega arith in
+            ap (λ (i : ℕ). take width (drop (j * width) (set tables i (s .bits)))) e
+            ∙ ap (take width) (drop-set-add (j * width) tables d (s .bits))
+            ∙ take-set-le width (drop (j * width) tables) d (s .bits) (omega arith)
+
+-- a row that is joined with a set
+pub table-join : (tables : List ℕ) (k a : ℕ) (s old new : Set) (out : List ℕ)
+    → old ≡ rowAt (tableAt tables k) a → new ≡ those (λ b. mem old b or mem s b) → out ≡ withRowIn tables k a new
+    → out ≡ gainedIn tables k a s
+table-join tables k a s old new out ho hn h = h ∙ ap (withRowIn tables k a) (hn ∙ ap (λ (u : Set). those (λ b. mem u b or mem s b)) ho)
+
+pub ruleset placing = (table-row, table-row-above, table-row-past, table-put, table-put-above, table-put-past)
+
+-- a loop that puts row after row
+module _ (tables : List ℕ) (k : ℕ) (rows : List ℕ) where
+  pub rows-begin : (held : List ℕ) → held ≡ tables → held ≡ withRowsIn tables k rows 0
+  unfolding withRowsIn
+  rows-begin held h = h
+
+  pub rows-next : (i : ℕ) (s : Set) (held out : List ℕ) → s ≡ rowAt rows i → held ≡ withRowsIn tables k rows i → out ≡ withRowIn held k i s
+      → out ≡ withRowsIn tables k rows (i + 1)
+  unfolding withRowsIn
+  rows-next i s held out hs hh ho =
+      ho ∙ (λ j. withRowIn (hh j) k i (hs j)) ∙ ap (withRowsIn tables k rows) (sym (add-one i))
+
+  pub rows-end : (i : ℕ) (held : List ℕ) → width ≤ i → i ≤ width → held ≡ withRowsIn tables k rows i → held ≡ withTable tables k rows
+  rows-end i held l g h = let same : i ≡ width = omega arith in h ∙ ap (withRowsIn tables k rows) same
+
+  length-rows-in : (i : ℕ) → length (withRowsIn tables k rows i) ≡ length tables
+  unfolding withRowsIn
+  length-rows-in zero = refl
+  length-rows-in (suc i) = length-put-in (withRowsIn tables k rows i) k i (rowAt rows i) ∙ length-rows-in i
+
+  pub rows-length : (i : ℕ) (held : List ℕ) → held ≡ withRowsIn tables k rows i → length held ≡ length tables
+  rows-length i held h = ap length h ∙ length-rows-in i
+
+pub ruleset putting = (rows-begin, rows-next, rows-end, rows-length)
+
+-- ---- a relation's rows are one table
+
+pub table-rowsOf : (r : Relation) → tableAt (rowsOf r) 0 ≡ rowsOf r
+unfolding tableAt
+table-rowsOf r = take-all width (rowsOf r) (omega (arith, length-rowsOf r))
+
+one-table : (rows : List ℕ) (a : ℕ) (s : Set) → withRowIn rows 0 a s ≡ withRow rows a s
+unfolding withRowIn withRow
+one-table rows a s = let same : 0 * width + a ≡ a = omega arith in ap (λ (i : ℕ). when ltb a width then set rows i (s .bits) else rows) same
+
+-- rows that were put down row by row are there
+rows-there : (rows : List ℕ) (m : ℕ) → m ≤ width → (a : ℕ) → a < m → rowAt (withRowsIn noRows 0 rows m) a ≡ rowAt rows a
+unfolding withRowsIn
+rows-there rows zero l a h = absurd (not-suc-le-zero h)
+rows-there rows (suc m) l a h =
+    let held = withRowsIn noRows 0 rows m in
+    let long : length held ≡ width = length-rows-in noRows 0 rows m ∙ length-replicate {A = ℕ} width 0 in
+    ap (λ (x : List ℕ). rowAt x a) (one-table held m (rowAt rows m))
+    ∙ either (split (eqb a m))
+    (λ t.
+    let same : a ≡ m = eqb→eq a m t in
+    ap (rowAt (withRow held m (rowAt rows m))) same ∙ row-put-same held m (rowAt rows m) l long ∙ ap (rowAt rows) (sym same))
+    (λ f. row-put-other held m (rowAt rows m) a (λ q. f (eqb-of q))
+    ∙ rows-there rows m (omega arith) a (lt-of-le-ne (le-of-suc-le-suc h) (λ q. f (eqb-of q))))
+
+pub row-taken : (rows : List ℕ) (a : ℕ) → a < width → rowAt (withTable noRows 0 rows) a ≡ rowAt rows a
+row-taken rows a l = rows-there rows width (omega arith) a l
+
+-- ---- tables are known by their rows
+
+next-table : (x : List ℕ) (k : ℕ) → tableAt (drop width x) k ≡ tableAt x (suc k)
+unfolding tableAt
+next-table x k =
+    let same : width + k * width ≡ suc k * width = omega arith in
+    ap (take width) (drop-drop (k * width) width x ∙ ap (λ (n : ℕ). drop n x) same)
+
+no-rows : (x : List ℕ) → length x ≡ 0 → x ≡ []
+no-rows [] e = refl
+no-rows (a ∷ x) e = absurd (omega arith)
+
+pub tables-ext : (n : ℕ) (x y : List ℕ) → length x ≡ n * width → length y ≡ n * width → ((k : ℕ) → k < n → tableAt x k ≡ tableAt y k)
+    → x ≡ y
+unfolding tableAt
+tables-ext zero x y hx hy e = no-rows x (omega arith) ∙ sym (no-rows y (omega arith))
+tables-ext (suc n) x y hx hy e =
+    let rest =
+    tables-ext n (drop width x) (drop width y) (length-drop width x ∙ omega arith) (length-drop width y ∙ omega arith)
+    (λ k l. next-table x k ∙ e (suc k) (omega arith) ∙ sym (next-table y k)) in
+    sym (take-append-drop width x) ∙ (λ i. e 0 (omega arith) i ++ rest i) ∙ take-append-drop width y
+
+-- ---- the tables of relations
+
+pub length-tablesOf : (n : ℕ) (r : ℕ → Relation) → length (tablesOf n r) ≡ n * width
+unfolding tablesOf
+length-tablesOf zero r = refl
+length-tablesOf (suc n) r =
+    let a = length-append (rowsOf (r 0)) (tablesOf n (λ k. r (suc k))) in
+    let b = length-rowsOf (r 0) in
+    let c = length-tablesOf n (λ k. r (suc k)) in
+    omega arith
+
+pub table-tablesOf : (n : ℕ) (r : ℕ → Relation) (k : ℕ) → k < n → tableAt (tablesOf n r) k ≡ rowsOf (r k)
+unfolding tablesOf tableAt
+table-tablesOf zero r k l = absurd (not-suc-le-zero l)
+table-tablesOf (suc n) r zero l = take-at (rowsOf (r 0)) (tablesOf n (λ k. r (suc k))) width (length-rowsOf (r 0))
+table-tablesOf (suc n) r (suc k) l =
+    sym (next-table (rowsOf (r 0) ++ tablesOf n (λ j. r (suc j))) k)
+    ∙ ap (λ (x : List ℕ). tableAt x k) (drop-at (rowsOf (r 0)) (tablesOf n (λ j. r (suc j))) width (length-rowsOf (r 0)))
+    ∙ table-tablesOf n (λ j. r (suc j)) k (le-of-suc-le-suc l)
+
+pub in-tablesOf : (n : ℕ) (r : ℕ → Relation) (k a b : ℕ) → k < n → a < width → b < width → inRow (tableAt (tablesOf n r) k) a b ≡ r k a b
+in-tablesOf n r k a b l la lb = ap (λ (rows : List ℕ). inRow rows a b) (table-tablesOf n r k l) ∙ in-rowsOf (r k) a b la lb
+
+-- tables of the right length whose rows are those of relations are their tables
+pub is-tablesOf : (n : ℕ) (x : List ℕ) (r : ℕ → Relation) → length x ≡ n * width → ((k : ℕ) → k < n → tableAt x k ≡ rowsOf (r k))
+    → x ≡ tablesOf n r
+is-tablesOf n x r h e = tables-ext n x (tablesOf n r) h (length-tablesOf n r) (λ k l. e k l ∙ sym (table-tablesOf n r k l))
+
+pub tablesOf-ext : (n : ℕ) (r q : ℕ → Relation) → ((k a b : ℕ) → k < n → a < width → b < width → r k a b ≡ q k a b)
+    → tablesOf n r ≡ tablesOf n q
+tablesOf-ext n r q e =
+    is-tablesOf n (tablesOf n r) q (length-tablesOf n r)
+    (λ k l. table-tablesOf n r k l ∙ rowsOf-ext (r k) (q k) (λ a b la lb. e k a b l la lb))
+
+pub length-table : (n : ℕ) (tables : List ℕ) (k : ℕ) → length tables ≡ n * width → k < n → length (tableAt tables k) ≡ width
+unfolding tableAt
+length-table n tables k h l =
+    let rest = length-drop (k * width) tables in
+    length-take-le width (drop (k * width) tables) (omega arith)
+
+-- a table of tables without a member
+pub table-none : (n k : ℕ) → k < n → tableAt (noTables n) k ≡ noRows
+unfolding tableAt
+table-none n k l =
+    let long = length-replicate {A = ℕ} (n * width) 0 in
+    let is = length-table n (noTables n) k long l in
+    ext-getD 0 (tableAt (noTables n) k) noRows (is ∙ sym (length-replicate {A = ℕ} width 0))
+    (λ i h.
+    let low : i < width = omega arith in
+    getD-take width (drop (k * width) (noTables n)) i 0 low
+    ∙ getD-drop (k * width) (noTables n) i 0
+    ∙ getD-replicate (n * width) (k * width + i) 0 0 (omega arith)
+    ∙ sym (getD-replicate width i 0 0 low))
+
+-- tables without a member are those of relations without a pair
+pub empty-tablesOf : (n : ℕ) (r : ℕ → Relation) → ((k a b : ℕ) → k < n → a < width → b < width → r k a b ≡ false)
+    → noTables n ≡ tablesOf n r
+empty-tablesOf n r e =
+    is-tablesOf n (noTables n) r (length-replicate {A = ℕ} (n * width) 0)
+    (λ k l. table-none n k l ∙ empty-rowsOf (r k) (λ a b la lb. e k a b l la lb))
+
+-- a row that is put into relations' tables: it is enough to know what becomes of its own table
+put-in-one : (n : ℕ) (r q : ℕ → Relation) (k a : ℕ) (s : Set)
+    → withRow (rowsOf (r k)) a s ≡ rowsOf (q k) → ((j : ℕ) → (j ≡ k → ⊥) → rowsOf (r j) ≡ rowsOf (q j))
+    → withRowIn (tablesOf n r) k a s ≡ tablesOf n q
+put-in-one n r q k a s same other =
+    is-tablesOf n (withRowIn (tablesOf n r) k a s) q (length-put-in (tablesOf n r) k a s
+    ∙ length-tablesOf n r) (λ j l. at j l (eqb j k) refl)
+  where
+    at : (j : ℕ) → j < n → (t : Bool) → eqb j k ≡ t → tableAt (withRowIn (tablesOf n r) k a s) j ≡ rowsOf (q j)
+    at j l true e =
+        let is : j ≡ k = eqb-true j k e in
+        ap (tableAt (withRowIn (tablesOf n r) k a s)) is
+        ∙ table-put-same (tablesOf n r) k a s
+        ∙ ap (λ (rows : List ℕ). withRow rows a s) (table-tablesOf n r k (omega arith))
+        ∙ same
+        ∙ ap (λ (m : ℕ). rowsOf (q m)) (sym is)
+    at j l false e =
+        let n≠ = eqb-false j k e in
+        table-put-other (tablesOf n r) k a s j n≠ ∙ table-tablesOf n r j l ∙ other j n≠
+
+module _ (n : ℕ) (r : ℕ → Relation) (k a : ℕ) (p : ℕ → Bool) where
+  -- a row of relations' tables that gains those that pass
+  pub gain-tablesOf : k < n
+      → withRowIn (tablesOf n r) k a (those (λ b. mem (rowAt (tableAt (tablesOf n r) k) a) b or p b))
+      ≡ tablesOf n (λ j x b. r j x b or eqb j k and (eqb x a and p b))
+  gain-tablesOf l =
+      put-in-one n r (λ j x b. r j x b or eqb j k and (eqb x a and p b)) k a
+      (those (λ b. mem (rowAt (tableAt (tablesOf n r) k) a) b or p b))
+      (ap (λ (rows : List ℕ). withRow (rowsOf (r k)) a (those (λ b. mem (rowAt rows a) b or p b))) (table-tablesOf n r k l)
+      ∙ gain-rowsOf (r k) a p
+      ∙ rowsOf-ext (λ x b. r k x b or eqb x a and p b) (λ x b. r k x b or eqb k k and (eqb x a and p b))
+      (λ x b lx lb. ap (λ (t : Bool). r k x b or t) (sym (true-and (eqb x a and p b))
+      ∙ ap (λ (t : Bool). t and (eqb x a and p b)) (sym (T→true _ (eqb-refl k))))))
+      (λ j ne.
+      rowsOf-ext (r j) (λ x b. r j x b or eqb j k and (eqb x a and p b))
+      (λ x b lx lb.
+      sym (or-false (r j x b))
+      ∙ ap (λ (t : Bool). r j x b or t) (sym (false-and (eqb x a and p b))
+      ∙ ap (λ (t : Bool). t and (eqb x a and p b)) (sym (ne-eqb j k ne)))))
+
+-- ---- a relation put into a table, row by row
+
+module _ (n : ℕ) (r : ℕ → Relation) (k : ℕ) (q : Relation) where
+  -- the first m rows are there
+  abbrev upTo : ℕ → ℕ → Relation
+  upTo m j a b = when eqb j k and ltb a m then q a b else r j a b
+
+  other-stays : (m j : ℕ) → (j ≡ k → ⊥) → rowsOf (r j) ≡ rowsOf (upTo m j)
+  unfolding _and_
+  other-stays m j ne =
+      rowsOf-ext (r j) (upTo m j) (λ a b la lb. sym (ap (λ (t : Bool). when t and ltb a m then q a b else r j a b) (ne-eqb j k ne)))
+
+  one-more : (m a b : ℕ) → (t : Bool) → eqb a m ≡ t → (when t then q m b else upTo m k a b) ≡ upTo (suc m) k a b
+  unfolding _and_
+  one-more m a b true e =
+      let same : a ≡ m = eqb-true a m e in
+      ap (λ (x : ℕ). q x b) (sym same)
+      ∙ sym ((λ i. when T→true (eqb k k) (eqb-refl k) i and lt-ltb a (suc m) (omega arith) i then q a b else r k a b))
+  one-more m a b false e =
+      let ne = eqb-false a m e in
+      ap (λ (t : Bool). when eqb k k and t then q a b else r k a b)
+      (T-ext (ltb a m) (ltb a (suc m)) (λ t. lt→ltb a (suc m) (omega (arith, ltb→lt a m t)))
+      (λ t. lt→ltb a m (omega (arith, ltb→lt a (suc m) t))))
+
+  none : (t : Bool) (j a b : ℕ) → r j a b ≡ when t and ltb a 0 then q a b else r j a b
+  unfolding _and_
+  none true j a b = ap (λ (t : Bool). when t then q a b else r j a b) (sym (le-ltb a 0 (omega arith)))
+  none false j a b = refl
+
+  all : (t : Bool) (j a b : ℕ) → a < width → (when t and ltb a width then q a b else r j a b) ≡ (when t then q else r j) a b
+  unfolding _and_
+  all true j a b l = ap (λ (t : Bool). when t then q a b else r j a b) (lt-ltb a width l)
+  all false j a b l = refl
+
+  rows-so-far : (m : ℕ) → m ≤ width → withRowsIn (tablesOf n r) k (rowsOf q) m ≡ tablesOf n (upTo m)
+  unfolding withRowsIn
+  rows-so-far zero l = tablesOf-ext n r (upTo 0) (λ j a b lj la lb. none (eqb j k) j a b)
+  rows-so-far (suc m) l =
+      ap (λ (x : List ℕ). withRowIn x k m (rowAt (rowsOf q) m)) (rows-so-far m (omega arith))
+      ∙ ap (withRowIn (tablesOf n (upTo m)) k m) (row-rowsOf q m (omega arith))
+      ∙ put-in-one n (upTo m) (upTo (suc m)) k m (those (q m))
+      (put-rowsOf (upTo m k) m (q m) ∙ rowsOf-ext _ (upTo (suc m) k) (λ a b la lb. one-more m a b (eqb a m) refl))
+      (λ j ne. sym (other-stays m j ne) ∙ other-stays (suc m) j ne)
+
+  -- the table of a relation that is put there; the others stay
+  pub fill-tablesOf : withTable (tablesOf n r) k (rowsOf q) ≡ tablesOf n (λ j. when eqb j k then q else r j)
+  fill-tablesOf =
+      rows-so-far width (omega arith)
+      ∙ tablesOf-ext n (upTo width) (λ j. when eqb j k then q else r j) (λ j a b lj la lb. all (eqb j k) j a b la)

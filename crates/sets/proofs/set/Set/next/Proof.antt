@@ -1,0 +1,10 @@
+use borrow.Author.Needs.{needs}
+use Rattle.sets.proofs.Loops.{next-is}
+use Rattle.sets.proofs.set.Set.next.Statement.{statement}
+use Rattle.sets.proofs.set.Set.next.Tie as tie
+
+pub next-spec : {M : Type 1} → statement M
+next-spec =
+    tie.close
+    (tie.spec (λ c κs. search needs) (λ c κs. search needs) (λ c κs. search needs) (λ c κs. search needs) (λ c κs. search needs)
+    (λ c. search (next-is, needs)))

@@ -1,0 +1,72 @@
+// Several relations kept in one array: the rows of table 0, then those of table 1, and so on. Rows past the end are empty, and
+// a put there changes nothing, so the length is no concern of a caller.
+ghost use mathlib.Core.Path.{_≡_};
+ghost use Rattle.sets.specs.Rows.{noRows, rowAt};
+ghost use Rattle.sets.specs.Tables.{tableAt, withRowIn, gainedIn, withTable};
+use crate::activity::Activity;
+use crate::activity::WIDTH;
+use crate::rows;
+use crate::rows::Rows;
+use crate::set::Set;
+
+// The activity's row of a table.
+pub fn row(tables: &[u64], table: u8, a: Activity) -> Set
+    ensures { λ r. ⌜ r ≡ rowAt (tableAt (now (tables .entry)) table) (a .0) ⌝ }
+{
+    let n = a.0 as usize;
+    if WIDTH <= n {
+        return Set::EMPTY;
+    }
+    let i = table as usize * WIDTH + n;
+    if tables.len() <= i {
+        return Set::EMPTY;
+    }
+    Set { bits: tables[i] }
+}
+
+// Puts a set into the activity's row of a table.
+pub fn put(tables: &mut [u64], table: u8, a: Activity, s: Set)
+    ensures { λ _. ⌜ now (tables .exit) ≡ withRowIn (now (tables .entry)) table (a .0) s ⌝ }
+{
+    let n = a.0 as usize;
+    if n < WIDTH {
+        let i = table as usize * WIDTH + n;
+        if i < tables.len() {
+            tables[i] = s.bits;
+        }
+    }
+}
+
+// The activity's row of a table gains the members of a set.
+pub fn join(tables: &mut [u64], table: u8, a: Activity, s: Set)
+    ensures { λ _. ⌜ now (tables .exit) ≡ gainedIn (now (tables .entry)) table (a .0) s ⌝ }
+{
+    let old = row(tables, table, a);
+    put(tables, table, a, old.union(s));
+}
+
+// Puts a relation's rows into a table.
+pub fn put_rows(tables: &mut [u64], table: u8, rows: &Rows)
+    ensures { λ _. ⌜ now (tables .exit) ≡ withTable (now (tables .entry)) table (now (rows .entry)) ⌝ }
+{
+    let mut i: u8 = 0;
+    while i < Activity::LIMIT {
+        let a = Activity(i);
+        put(tables, table, a, rows::row(rows, a));
+        i += 1;
+    }
+}
+
+// The rows of a table by themselves.
+pub fn taken(tables: &[u64], table: u8) -> Rows
+    ensures { λ r. ⌜ r ≡ withTable noRows 0 (tableAt (now (tables .entry)) table) ⌝ }
+{
+    let mut out = rows::empty();
+    let mut i: u8 = 0;
+    while i < Activity::LIMIT {
+        let a = Activity(i);
+        put(&mut out, 0, a, row(tables, table, a));
+        i += 1;
+    }
+    out
+}

@@ -1,0 +1,10 @@
+use borrow.Author.Needs.{needs}
+use Rattle.steps.proofs.Sources.{excluders-are}
+use Rattle.steps.proofs.relations.excluders.Statement.{statement}
+use Rattle.steps.proofs.relations.excluders.Tie as tie
+
+pub excluders-spec : {M : Type 1} → statement M
+excluders-spec =
+    tie.close
+    (tie.spec (λ c κs. search needs) (λ c κs. search needs) (λ c κs. search needs) (λ c κs. search needs) (λ c κs. search needs)
+    (λ c κs. search needs) (λ c κs. search needs) (λ c κs. search needs) (λ c. search (excluders-are, needs)))

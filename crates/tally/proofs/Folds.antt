@@ -1,0 +1,75 @@
+-- A pass over a trace, and over all traces, puts into row a what some place of a says: in either order of the places. Assumes nothing.
+use mathlib.Core.Path.{_≡_, refl, sym, ap, _∙_}
+use mathlib.Core.Bool.{Bool, true, false}
+use mathlib.Core.List.{List, [], _∷_}
+use Prim.Native.Nat.{ℕ}
+use borrow.Author.Tests.{eqb-true}
+use lib.Dec.{eqb}
+use Rattle.sets.specs.Tests.{_and_, _or_}
+use Rattle.sets.specs.Rows.{Relation, noRows, rowsOf}
+use Rattle.sets.proofs.Tests.{or-assoc, or-comm, or-false, false-or, false-and}
+use Rattle.sets.proofs.RowLaws.{rowsOf-ext, gain-rowsOf, empty-rowsOf}
+use Rattle.rules.specs.Traces.{Traces, atSomeFrom, atSome, someTrace}
+use Rattle.tally.specs.Passes.{Fact, gained, gains, forward, backward, through}
+
+module _ (p : Fact) where
+  -- what the places of a say, in the rest of a trace
+  abbrev pub said : List ℕ → List ℕ → Relation
+  said past rest a x = atSomeFrom a (λ q s. p a q s x) past rest
+
+  gains-rowsOf : (r : Relation) (e : ℕ) (past rest : List ℕ) → gains p (rowsOf r) e past rest ≡ rowsOf (λ a x. r a x or eqb a e and p e past rest x)
+  unfolding gains gained
+  gains-rowsOf r e past rest = gain-rowsOf r e (p e past rest)
+
+  at-e : (a e : ℕ) (past rest : List ℕ) (x : ℕ) → (eqb a e and p e past rest x) ≡ (eqb a e and p a past rest x)
+  at-e a e past rest x = pick (eqb a e) refl
+    where
+      pick : (t : Bool) → eqb a e ≡ t → (eqb a e and p e past rest x) ≡ (eqb a e and p a past rest x)
+      pick true h = ap (λ (n : ℕ). eqb a e and p n past rest x) (sym (eqb-true a e h))
+      pick false h = ap (λ (t : Bool). t and p e past rest x) h ∙ false-and _ ∙ sym (false-and _) ∙ ap (λ (t : Bool). t and p a past rest x) (sym h)
+
+  pub forward-rowsOf : (r : Relation) (past rest : List ℕ) → forward (gains p) (rowsOf r) past rest ≡ rowsOf (λ a x. r a x or said past rest a x)
+  unfolding forward atSomeFrom
+  forward-rowsOf r past [] = rowsOf-ext r (λ a x. r a x or false) (λ a x ha hx. sym (or-false (r a x)))
+  forward-rowsOf r past (e ∷ rest) =
+      ap (λ (l : List ℕ). forward (gains p) l (e ∷ past) rest) (gains-rowsOf r e past rest)
+      ∙ forward-rowsOf (λ a x. r a x or eqb a e and p e past rest x) (e ∷ past) rest
+      ∙ rowsOf-ext (λ a x. r a x or eqb a e and p e past rest x or said (e ∷ past) rest a x) (λ a x. r a x or said past (e ∷ rest) a x)
+      (λ a x ha hx.
+      or-assoc (r a x) (eqb a e and p e past rest x) (said (e ∷ past) rest a x)
+      ∙ ap (λ (b : Bool). r a x or (b or said (e ∷ past) rest a x)) (at-e a e past rest x))
+
+  pub backward-rowsOf : (r : Relation) (past rest : List ℕ) → backward (gains p) (rowsOf r) past rest ≡ rowsOf (λ a x. r a x or said past rest a x)
+  unfolding backward atSomeFrom
+  backward-rowsOf r past [] = rowsOf-ext r (λ a x. r a x or false) (λ a x ha hx. sym (or-false (r a x)))
+  backward-rowsOf r past (e ∷ rest) =
+      ap (λ (l : List ℕ). gains p l e past rest) (backward-rowsOf r (e ∷ past) rest)
+      ∙ gains-rowsOf (λ a x. r a x or said (e ∷ past) rest a x) e past rest
+      ∙ rowsOf-ext (λ a x. r a x or said (e ∷ past) rest a x or eqb a e and p e past rest x) (λ a x. r a x or said past (e ∷ rest) a x)
+      (λ a x ha hx.
+      or-assoc (r a x) (said (e ∷ past) rest a x) (eqb a e and p e past rest x)
+      ∙ ap (λ (b : Bool). r a x or b) (or-comm (said (e ∷ past) rest a x) (eqb a e and p e past rest x))
+      ∙ ap (λ (b : Bool). r a x or (b or said (e ∷ past) rest a x)) (at-e a e past rest x))
+
+  -- what some trace says
+  abbrev pub heard : Traces → Relation
+  heard L a x = someTrace L (atSome a (λ q s. p a q s x))
+
+-- one pass after another, over all traces: `pass` takes rows and a trace
+module _ (p : Fact) (pass : List ℕ → List ℕ → List ℕ)
+    (one : (r : Relation) (σ : List ℕ) → pass (rowsOf r) σ ≡ rowsOf (λ a x. r a x or said p [] σ a x)) where
+  pub through-rowsOf : (r : Relation) (L : Traces) → through pass (rowsOf r) L ≡ rowsOf (λ a x. r a x or heard p L a x)
+  unfolding through someTrace
+  through-rowsOf r [] = rowsOf-ext r (λ a x. r a x or false) (λ a x ha hx. sym (or-false (r a x)))
+  through-rowsOf r (σ ∷ L) =
+      ap (λ (l : List ℕ). through pass l L) (one r σ)
+      ∙ through-rowsOf (λ a x. r a x or said p [] σ a x) L
+      ∙ rowsOf-ext (λ a x. r a x or said p [] σ a x or heard p L a x) (λ a x. r a x or heard p (σ ∷ L) a x)
+      (λ a x ha hx. or-assoc (r a x) (said p [] σ a x) (heard p L a x))
+
+  -- from rows without a member: the fact's own rows
+  pub through-all : (L : Traces) → through pass noRows L ≡ rowsOf (heard p L)
+  through-all L =
+      ap (λ (l : List ℕ). through pass l L) (empty-rowsOf (λ a x. false) (λ a x ha hx. refl))
+      ∙ through-rowsOf (λ a x. false) L
+      ∙ rowsOf-ext (λ a x. false or heard p L a x) (heard p L) (λ a x ha hx. false-or (heard p L a x))

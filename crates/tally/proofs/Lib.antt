@@ -1,0 +1,9 @@
+-- The modules of `proofs/` that belong to no one function.
+pub mod Turns
+pub mod Folds
+pub mod Since
+pub mod Alternate
+pub mod Walks
+pub mod LogLaws
+pub mod Heard
+pub mod Tallying

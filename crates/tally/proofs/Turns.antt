@@ -1,0 +1,179 @@
+-- One turn of a pass over a trace: what stands before place i, the set of it, and what the row of the event gains. Assumes nothing.
+use Rattle.sets.specs.Members.{noSet}
+use mathlib.Core.Path.{_≡_, refl, sym, ap, _∙_}
+use mathlib.Core.Bool.{Bool, true, false}
+use mathlib.Core.List.{List, [], _∷_, _++_, reverseAux}
+use Prim.Native.Nat.{ℕ, _+_, _≤_, _<_}
+use native.Mathlib.Omega.{arith}
+use native.Mathlib.Numerals.{add-one}
+use lib.Dec.{eqb}
+use lib.ListN.{length, getD, take, drop, drop-of-length-le}
+use lib.Seq.{take-suc, take-all, drop-cons}
+use Rattle.sets.specs.Tests.{_or_, non}
+use Rattle.sets.specs.Members.{width, bitsOf, mem, those}
+use Rattle.sets.specs.Rows.{rowAt, withRow}
+use Rattle.sets.specs.Tables.{tableAt, withRowIn, gainedIn}
+use Rattle.sets.specs.declared.set.Set.{Set}
+use Rattle.sets.proofs.Tests.{or-comm, or-false}
+use Rattle.sets.proofs.Members.{those-ext, those-of}
+use Rattle.sets.proofs.MadeSets.{Is, is-those}
+use Rattle.rules.specs.Traces.{_has_, _beginsWith_}
+use Rattle.tally.specs.Passes.{Fact, Turn, gained, gains, notedIn, forward, backward}
+
+-- what stands before place i, the nearest first
+abbrev pub pastAt : List ℕ → ℕ → List ℕ
+pastAt σ i = reverseAux (take i σ) []
+
+past-snoc : (xs : List ℕ) (x : ℕ) (ys : List ℕ) → reverseAux (xs ++ x ∷ []) ys ≡ x ∷ reverseAux xs ys
+past-snoc [] x ys = refl
+past-snoc (z ∷ xs) x ys = past-snoc xs x (z ∷ ys)
+
+pub past-next : (σ : List ℕ) (i : ℕ) → i < length σ → pastAt σ (i + 1) ≡ getD σ i 0 ∷ pastAt σ i
+past-next σ i h =
+    ap (λ (n : ℕ). pastAt σ n) (add-one i) ∙ ap (λ (l : List ℕ). reverseAux l []) (take-suc σ i 0 h) ∙ past-snoc (take i σ) (getD σ i 0) []
+
+pub rest-next : (σ : List ℕ) (i : ℕ) → i < length σ → drop i σ ≡ getD σ i 0 ∷ drop (i + 1) σ
+rest-next σ i h = drop-cons σ i 0 h ∙ ap (λ (n : ℕ). getD σ i 0 ∷ drop n σ) (sym (add-one i))
+
+-- the set of what stands in a list
+abbrev pub seenIn : List ℕ → Set
+seenIn past = those (λ x. past has x)
+
+-- the set of what stands at its front
+abbrev pub lastIn : List ℕ → Set
+lastIn past = those (λ x. past beginsWith x)
+
+-- of an empty list both are the empty set
+pub seen-none : _≡_ {A = Set} noSet (seenIn [])
+unfolding _has_ bitsOf those
+seen-none = refl
+
+pub last-none : _≡_ {A = Set} noSet (lastIn [])
+unfolding _beginsWith_ bitsOf those
+last-none = refl
+
+-- order does not matter to what stands in a list
+pub has-past : (x : ℕ) (xs ys : List ℕ) → reverseAux xs ys has x ≡ (xs has x or ys has x)
+unfolding _has_ _or_
+has-past x [] ys = refl
+has-past x (y ∷ xs) ys = has-past x xs (y ∷ ys) ∙ swap (eqb x y) (xs has x) (ys has x)
+  where
+    swap : (a b c : Bool) → (b or (a or c)) ≡ ((a or b) or c)
+    swap true true c = refl
+    swap true false c = refl
+    swap false true c = refl
+    swap false false c = refl
+
+-- after the last turn all of the trace was seen
+pub seen-all : (σ : List ℕ) (i : ℕ) (seen : Set) → length σ ≤ i → seen ≡ seenIn (pastAt σ i) → seen ≡ those (λ x. σ has x)
+unfolding _has_
+seen-all σ i seen h e =
+    e
+    ∙ those-ext (λ x. pastAt σ i has x) (λ x. σ has x)
+    (λ x l. has-past x (take i σ) [] ∙ or-false _ ∙ ap (λ (l : List ℕ). l has x) (take-all i σ h))
+
+-- a set of what was seen gains an event
+pub seen-more : (past : List ℕ) (e : ℕ) (seen one seen′ : Set) → seen ≡ seenIn past → one ≡ those (λ b. eqb b e)
+    → seen′ ≡ those (λ a. mem seen a or mem one a) → seen′ ≡ seenIn (e ∷ past)
+unfolding _has_
+seen-more past e seen one seen′ hs ho hu =
+    hu ∙ those-of one (λ b. eqb b e) (λ a t. mem seen a or t) ho ∙ those-of seen (λ x. past has x) (λ a t. t or eqb a e) hs
+    ∙ those-ext (λ a. past has a or eqb a e) (λ a. (e ∷ past) has a) (λ a l. or-comm (past has a) (eqb a e))
+
+-- a row joined with a set that is known
+pub joined-by : (rows : List ℕ) (e : ℕ) (q : ℕ → Bool) (s : Set) (rows′ : List ℕ) → s ≡ those q
+    → rows′ ≡ withRow rows e (those (λ b. mem (rowAt rows e) b or mem s b)) → rows′ ≡ gained rows e q
+unfolding gained
+joined-by rows e q s rows′ hs h = h ∙ ap (withRow rows e) (those-of s q (λ b t. mem (rowAt rows e) b or t) hs)
+
+-- a row joined with a set, as it is
+pub joined-with : (rows : List ℕ) (e : ℕ) (s : Set) (rows′ : List ℕ)
+    → rows′ ≡ withRow rows e (those (λ b. mem (rowAt rows e) b or mem s b)) → rows′ ≡ gained rows e (mem s)
+unfolding gained
+joined-with rows e s rows′ h = h
+
+-- what a turn's function says: the row of the event gains f of the members of a set that is known
+pub gained-by : (p : Fact) (f : ℕ → Bool → Bool) (q : ℕ → Bool) (rows : List ℕ) (e : ℕ) (past rest : List ℕ) (s : Set) (rows′ : List ℕ) → s ≡ those q
+    → ((x : ℕ) → f x (q x) ≡ p e past rest x) → rows′ ≡ gained rows e (λ x. f x (mem s x)) → rows′ ≡ gains p rows e past rest
+unfolding gains gained
+gained-by p f q rows e past rest s rows′ hs hp h =
+    h
+    ∙ ap (withRow rows e)
+    (those-of s q (λ x t. mem (rowAt rows e) x or f x t) hs
+    ∙ those-ext (λ x. mem (rowAt rows e) x or f x (q x)) (λ x. mem (rowAt rows e) x or p e past rest x) (λ x l. ap (λ (t : Bool). mem (rowAt rows e) x or t) (hp x)))
+
+-- ---- the same of tables
+
+module _ (tables : List ℕ) (k e : ℕ) where
+  noted-as : (p q : ℕ → Bool) → ((x : ℕ) → x < width → p x ≡ q x) → notedIn tables k e p ≡ notedIn tables k e q
+  unfolding notedIn
+  noted-as p q h =
+      ap (withRowIn tables k e)
+      (those-ext (λ x. mem (rowAt (tableAt tables k) e) x or p x) (λ x. mem (rowAt (tableAt tables k) e) x or q x)
+      (λ x l. ap (λ (t : Bool). mem (rowAt (tableAt tables k) e) x or t) (h x l)))
+
+  -- a join with a set whose members are known
+  noted-by : (s : Set) (p : ℕ → Bool) (out : List ℕ) → Is s p → out ≡ gainedIn tables k e s → out ≡ notedIn tables k e p
+  unfolding notedIn
+  noted-by s p out hs h = h ∙ noted-as (mem s) p hs
+
+-- three of them, one after another
+module _ (tables : List ℕ) (j k l e : ℕ) where
+  abbrev thrice : (ℕ → Bool) → (ℕ → Bool) → (ℕ → Bool) → List ℕ
+  thrice p q r = notedIn (notedIn (notedIn tables j e p) k e q) l e r
+
+  joined-thrice : (s u v : Set) (p q r : ℕ → Bool) (one two out : List ℕ) → Is s p → Is u q → Is v r
+      → one ≡ gainedIn tables j e s → two ≡ gainedIn one k e u → out ≡ gainedIn two l e v → out ≡ thrice p q r
+  joined-thrice s u v p q r one two out hs hu hv h1 h2 h3 =
+      noted-by two l e v r out hv h3
+      ∙ ap (λ (x : List ℕ). notedIn x l e r) (noted-by one k e u q two hu h2 ∙ ap (λ (x : List ℕ). notedIn x k e q) (noted-by tables j e s p one hs h1))
+
+  pub thrice-as : (p q r p′ q′ r′ : ℕ → Bool) → ((x : ℕ) → x < width → p x ≡ p′ x) → ((x : ℕ) → x < width → q x ≡ q′ x)
+      → ((x : ℕ) → x < width → r x ≡ r′ x) → thrice p q r ≡ thrice p′ q′ r′
+  thrice-as p q r p′ q′ r′ hp hq hr =
+      noted-as (notedIn (notedIn tables j e p) k e q) l e r r′ hr
+      ∙ ap (λ (x : List ℕ). notedIn x l e r′)
+      (noted-as (notedIn tables j e p) k e q q′ hq ∙ ap (λ (x : List ℕ). notedIn x k e q′) (noted-as tables j e p p′ hp))
+
+  -- a set, what is not in it, and another or what is not in that
+  pub past-joined : (s u c d : Set) (one two out : List ℕ) → one ≡ gainedIn tables j e s → c ≡ those (λ a. non (mem s a)) → two ≡ gainedIn one k e c
+      → d ≡ those (λ a. non (mem u a)) → out ≡ gainedIn two l e d → out ≡ thrice (mem s) (λ x. non (mem s x)) (λ x. non (mem u x))
+  past-joined s u c d one two out h1 hc h2 hd h3 =
+      joined-thrice s c d (mem s) (λ x. non (mem s x)) (λ x. non (mem u x)) one two out (λ x l. refl) (is-those c _ hc) (is-those d _ hd) h1 h2 h3
+
+  pub rest-joined : (s u c : Set) (one two out : List ℕ) → one ≡ gainedIn tables j e s → c ≡ those (λ a. non (mem s a)) → two ≡ gainedIn one k e c
+      → out ≡ gainedIn two l e u → out ≡ thrice (mem s) (λ x. non (mem s x)) (mem u)
+  rest-joined s u c one two out h1 hc h2 h3 =
+      joined-thrice s c u (mem s) (λ x. non (mem s x)) (mem u) one two out (λ x l. refl) (is-those c _ hc) (λ x l. refl) h1 h2 h3
+
+-- the forward loop: before the first turn, one turn further, after the last
+module _ (turn : Turn) (σ all : List ℕ) where
+  pub forward-next : (i : ℕ) (rows rows′ : List ℕ) → i < length σ → rows′ ≡ turn rows (getD σ i 0) (pastAt σ i) (drop (i + 1) σ)
+      → forward turn rows (pastAt σ i) (drop i σ) ≡ all → forward turn rows′ (pastAt σ (i + 1)) (drop (i + 1) σ) ≡ all
+  unfolding forward
+  forward-next i rows rows′ h hr inv =
+      ap (λ (l : List ℕ). forward turn rows′ l (drop (i + 1) σ)) (past-next σ i h)
+      ∙ ap (λ (r : List ℕ). forward turn r (getD σ i 0 ∷ pastAt σ i) (drop (i + 1) σ)) hr
+      ∙ ap (forward turn rows (pastAt σ i)) (sym (rest-next σ i h))
+      ∙ inv
+
+  pub forward-end : (i : ℕ) (rows : List ℕ) → length σ ≤ i → forward turn rows (pastAt σ i) (drop i σ) ≡ all → rows ≡ all
+  unfolding forward
+  forward-end i rows h inv = ap (forward turn rows (pastAt σ i)) (sym (drop-of-length-le σ h)) ∙ inv
+
+pub rest-none : (σ : List ℕ) → drop (length σ) σ ≡ []
+rest-none σ = let all : length σ ≤ length σ = omega arith in drop-of-length-le σ all
+
+-- the backward loop: before the first turn, one turn further
+module _ (turn : Turn) (σ rows₀ : List ℕ) where
+  pub backward-start : rows₀ ≡ backward turn rows₀ (pastAt σ (length σ)) (drop (length σ) σ)
+  unfolding backward
+  backward-start = ap (backward turn rows₀ (pastAt σ (length σ))) (sym (rest-none σ))
+
+  pub backward-next : (i : ℕ) (rows rows′ : List ℕ) → i < length σ → rows′ ≡ turn rows (getD σ i 0) (pastAt σ i) (drop (i + 1) σ)
+      → rows ≡ backward turn rows₀ (pastAt σ (i + 1)) (drop (i + 1) σ) → rows′ ≡ backward turn rows₀ (pastAt σ i) (drop i σ)
+  unfolding backward
+  backward-next i rows rows′ h hr inv =
+      hr
+      ∙ ap (λ (r : List ℕ). turn r (getD σ i 0) (pastAt σ i) (drop (i + 1) σ)) (inv ∙ ap (λ (l : List ℕ). backward turn rows₀ l (drop (i + 1) σ)) (past-next σ i h))
+      ∙ ap (backward turn rows₀ (pastAt σ i)) (sym (rest-next σ i h))

@@ -1,0 +1,26 @@
+use mathlib.Core.Path.{_≡_, ap, _∙_}
+use mathlib.Core.List.{List, []}
+use Prim.Native.Nat.{ℕ}
+use borrow.Author.Needs.{needs}
+use Rattle.tally.specs.Passes.{forward, backward}
+use Rattle.tally.specs.Tallies.{notePast, noteSince, noteRest, noted}
+use Rattle.tally.proofs.Walks.{union-seen}
+use Rattle.tally.proofs.log.note_trace.Statement.{statement}
+use Rattle.tally.proofs.log.note_trace.Tie as tie
+
+-- the three passes, one after another
+passed : (σ t one two out : List ℕ) → one ≡ forward notePast t [] σ → two ≡ forward noteSince one [] σ → out ≡ backward noteRest two [] σ
+    → out ≡ noted t σ
+unfolding noted
+passed σ t one two out h1 h2 h3 =
+    h3 ∙ ap (λ (x : List ℕ). backward noteRest x [] σ) (h2 ∙ ap (λ (x : List ℕ). forward noteSince x [] σ) h1)
+
+returns : tie.Need-returns
+returns c =
+    let since = c .before .before .before in
+    let past = since .before .before .forward .ensures in
+    (union-seen _ _ _ _ (past .0) (c .union .ensures), passed _ _ _ _ _ (past .1) (since .alternate .ensures) (c .before .backward .ensures))
+
+pub note-trace-spec : {M : Type 1} → statement M
+note-trace-spec =
+    tie.close (tie.spec (λ c κs. search needs) (λ c κs. search needs) (λ c κs. search needs) (λ c κs. search needs) returns)

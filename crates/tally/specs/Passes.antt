@@ -1,0 +1,82 @@
+-- What the passes over a trace do to rows and to tables of rows: the words of the contracts of src/passes.rt, and of the miner's own passes.
+-- That they are the rules' answers is a theorem, so a reader of `mine` need not believe this file.
+use mathlib.Core.Bool.{Bool}
+use mathlib.Core.List.{List, [], _∷_}
+use Prim.Native.Nat.{ℕ, zero, suc}
+use lib.ListN.{take, drop}
+use Rattle.sets.specs.Tests.{_or_, non}
+use Rattle.sets.specs.Members.{mem, those}
+use Rattle.sets.specs.Rows.{rowAt, withRow}
+use Rattle.sets.specs.Tables.{tableAt, withRowIn}
+use Rattle.calllog.specs.Logs.{partOf}
+use Rattle.rules.specs.Traces.{Traces, _has_, _beginsWith_, atSome}
+
+-- whether a place, by its activity, past and rest, puts x into the row of its activity
+abbrev pub Fact : Type 0
+Fact = ℕ → List ℕ → List ℕ → ℕ → Bool
+
+-- what a place, by its activity, past and rest, does to the numbers that a pass keeps
+abbrev pub Turn : Type 0
+Turn = List ℕ → ℕ → List ℕ → List ℕ → List ℕ
+
+-- row e gains what passes
+unfoldable pub gained : List ℕ → ℕ → (ℕ → Bool) → List ℕ
+gained rows e p = withRow rows e (those (λ x. mem (rowAt rows e) x or p x))
+
+-- row e of table k gains what passes
+unfoldable pub notedIn : List ℕ → ℕ → ℕ → (ℕ → Bool) → List ℕ
+notedIn tables k e p = withRowIn tables k e (those (λ x. mem (rowAt (tableAt tables k) e) x or p x))
+
+-- the row of e gains what the place puts into it
+unfoldable pub gains : Fact → Turn
+gains p rows e past rest = gained rows e (p e past rest)
+
+-- place by place, from the first to the last
+unfoldable pub forward : Turn → List ℕ → List ℕ → List ℕ → List ℕ
+forward turn kept past [] = kept
+forward turn kept past (e ∷ rest) = forward turn (turn kept e past rest) (e ∷ past) rest
+
+-- place by place, from the last to the first
+unfoldable pub backward : Turn → List ℕ → List ℕ → List ℕ → List ℕ
+backward turn kept past [] = kept
+backward turn kept past (e ∷ rest) = turn (backward turn kept (e ∷ past) rest) e past rest
+
+-- a pass over each trace of a log, in turn
+unfoldable pub through : (List ℕ → List ℕ → List ℕ) → List ℕ → Traces → List ℕ
+through pass kept [] = kept
+through pass kept (σ ∷ L) = through pass (pass kept σ) L
+
+-- n parts of a log's bytes, from part k on: of an accepted log its traces
+unfoldable pub walked : List ℕ → ℕ → ℕ → Traces
+walked bytes zero k = []
+walked bytes (suc n) k = take (partOf bytes k .length) (drop (partOf bytes k .start) bytes) ∷ walked bytes n (suc k)
+
+-- ---- the facts of the passes, each of a place with the activity e
+
+-- x stands before the place
+unfoldable pub isEarlier : Fact
+isEarlier e past rest x = past has x
+
+-- x does not stand before the place
+unfoldable pub notEarlier : Fact
+notEarlier e past rest x = non (past has x)
+
+-- x does not stand directly before the place
+unfoldable pub notDirectly : Fact
+notDirectly e past rest x = non (past beginsWith x)
+
+-- x does not stand between the place and the e before it, or the trace's start
+unfoldable pub notSince : Fact
+notSince e past rest x = non (atSome x (λ nearer farther. non (nearer has e)) past)
+
+-- x stands after the place
+unfoldable pub isLater : Fact
+isLater e past rest x = rest has x
+
+-- x does not stand after the place
+unfoldable pub notLater : Fact
+notLater e past rest x = non (rest has x)
+
+-- x stands directly after the place
+unfoldable pub isNext : Fact
+isNext e past rest x = rest beginsWith x

@@ -1,0 +1,5 @@
+// The tally of a log: what steps 1 to 7 ask of it, kept as seven tables of rows.
+pub mod log;
+mod passes;
+
+pub use log::Tally;

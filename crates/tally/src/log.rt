@@ -1,0 +1,65 @@
+// The tally of a log: what steps 1 to 7 ask of it. It keeps what was seen, or what breaks a rule, over all activities of the width: all of it
+// only grows, so the facts of two logs join by union.
+ghost use mathlib.Core.Path.{_≡_};
+ghost use Rattle.sets.specs.Tests.{_or_};
+ghost use Rattle.sets.specs.Members.{mem, those};
+ghost use Rattle.sets.specs.Tables.{noTables};
+ghost use Rattle.rules.specs.Traces.{_has_, someTrace};
+ghost use Rattle.tally.specs.Passes.{through, walked};
+ghost use Rattle.tally.specs.Tallies.{tableCount, noted};
+use crate::passes;
+use sets::Set;
+use sets::activity::WIDTH;
+
+// Row t: what stands before some t.
+pub const BEFORE: u8 = 0;
+// Row s: what stands after some s.
+pub const LATER: u8 = 1;
+// Row t: what some t does not have before it.
+pub const UNPRECEDED: u8 = 2;
+// Row s: what some s does not have after it.
+pub const UNANSWERED: u8 = 3;
+// Row t: what some t does not have directly before it.
+pub const UNCHAINED: u8 = 4;
+// Row s: what does not stand between some s and the s before it, or its trace's start.
+pub const UNALTERNATED: u8 = 5;
+// Row s: what directly follows some s.
+pub const FOLLOWED: u8 = 6;
+
+// Seven tables of rows, one after another.
+pub type Tally = [u64; 7 * WIDTH];
+
+// The tally of no trace.
+pub fn empty() -> Tally
+    ensures { λ r. ⌜ r ≡ noTables tableCount ⌝ }
+{
+    [0; 7 * WIDTH]
+}
+
+// The facts of one trace. It gives the events so far with those of the trace.
+fn note_trace(trace: &[u8], events: Set, tally: &mut Tally) -> Set
+    ensures { λ r. ⌜ r ≡ those (λ x. mem events x or now (trace .entry) has x) ⌝ }
+    ensures { λ _. ⌜ now (tally .exit) ≡ noted (now (tally .entry)) (now (trace .entry)) ⌝ }
+{
+    let seen = passes::forward(trace, tally);
+    passes::alternate(trace, tally);
+    passes::backward(trace, tally);
+    events.union(seen)
+}
+
+// The facts of a log's first traces. It gives their events.
+pub fn note_traces(log: &[u8], traces: usize, tally: &mut Tally) -> Set
+    ensures { λ r. ⌜ r ≡ those (λ x. someTrace (walked (now (log .entry)) traces 0) (λ σ. σ has x)) ⌝ }
+    ensures { λ _. ⌜ now (tally .exit) ≡ through noted (now (tally .entry)) (walked (now (log .entry)) traces 0) ⌝ }
+{
+    let mut events = Set::EMPTY;
+    let mut k: usize = 0;
+    while k < traces {
+        let p = calllog::trace::trace_part(log, k);
+        let start = p.start;
+        let end = start + p.length;
+        events = note_trace(&log[start..end], events, tally);
+        k += 1;
+    }
+    events
+}
