@@ -16,7 +16,8 @@ use Rattle.steps.specs.Rowwise.{reducedOf, waited}
 use Rattle.tally.specs.Passes.{gains, forward, through}
 use Rattle.tally.specs.Tallies.{tableCount, noted}
 use Rattle.miner.specs.Facts.{letIn, beforeFirst, missed}
-use Rattle.miner.specs.Stages.{conditionsOf, chainsOf, responsesOf, neverOf, fiveFrom, sevenFrom, sevenOf, includesFrom, includesOf, waitedOf, graphRead, graphFound}
+use Rattle.miner.specs.Stages.{conditionsOf, chainsOf, responsesOf, neverOf, fiveFrom, sevenFrom, sevenOf, includesFrom, includesOf}
+use Rattle.miner.specs.Stages.{waitedOf, graphRead, graphFound}
 
 -- steps 3 and 6, of the includes
 pub includes-by : (L : Traces) (chains never three r : List ℕ) → three ≡ rowsOf (turned chains)
@@ -39,11 +40,14 @@ conditions-by L events eight includes excludes first₀ unmet₀ first unmet nin
     (hu ∙ ap (λ (x : List ℕ). through (λ r σ. forward (gains (missed events includes excludes)) r [] σ) x L) k₀))
 
 -- the graph, from the tally, stage by stage
-module _ (A : ℕ) (L : Traces) (events : Set) (tally : List ℕ) (opening : Marking) (chains never five excludes includes two eight conditions answering responses : List ℕ)
+module _ (A : ℕ) (L : Traces) (events : Set) (tally : List ℕ) (opening : Marking)
+    (chains never five excludes includes two eight conditions answering responses : List ℕ)
     (hc : chains ≡ chainsOf events tally) (hn : never ≡ neverOf events tally) (hf : five ≡ fiveFrom events tally chains)
     (hx : excludes ≡ sevenFrom events tally five never) (hi : includes ≡ includesFrom chains never L)
-    (hw : two ≡ conditionsOf events tally) (he : eight ≡ rowsFor events (reducedOf two)) (hd : conditions ≡ waitedOf events eight includes excludes L)
-    (ha : answering ≡ responsesOf events tally) (hr : responses ≡ rowsFor events (reducedOf answering)) (ho : opening ≡ openingOf events) where
+    (hw : two ≡ conditionsOf events tally) (he : eight ≡ rowsFor events (reducedOf two))
+    (hd : conditions ≡ waitedOf events eight includes excludes L)
+    (ha : answering ≡ responsesOf events tally) (hr : responses ≡ rowsFor events (reducedOf answering))
+    (ho : opening ≡ openingOf events) where
   the-excludes : excludes ≡ sevenOf events tally
   the-excludes = hx ∙ (λ i. sevenFrom events tally ((hf ∙ ap (fiveFrom events tally) hc) i) (hn i))
 

@@ -1,5 +1,5 @@
--- What the passes over a trace do to rows and to tables of rows: the words of the contracts of src/passes.rt, and of the miner's own passes.
--- That they are the rules' answers is a theorem, so a reader of `mine` need not believe this file.
+-- What the passes over a trace do to rows and to tables of rows: the words of the contracts of src/passes.rt, and of the miner's own
+-- passes. That they are the rules' answers is a theorem, so a reader of `mine` need not believe this file.
 use mathlib.Core.Bool.{Bool}
 use mathlib.Core.List.{List, [], _∷_}
 use Prim.Native.Nat.{ℕ, zero, suc}

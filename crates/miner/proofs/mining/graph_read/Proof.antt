@@ -15,11 +15,15 @@ returns c =
     let five = seven .before .before .before in
     let never = five .before .before in
     let chains = never .before .before in
-    read-by _ _ _ _ _ _ _ _ _ _ _ _ _ _ _ (chains .unbroken .ensures) (never .absent .ensures) (five .excludes-five .ensures) (seven .excludes-seven .ensures) (six .includes-six .ensures)
-    (two .unbroken2 .ensures) (eight .reduced .ensures) (ten .conditions-ten .ensures) (answering .unbroken3 .ensures) (responses .reduced2 .ensures)
+    read-by _ _ _ _ _ _ _ _ _ _ _ _ _ _ _ (chains .unbroken .ensures) (never .absent .ensures) (five .excludes-five .ensures)
+    (seven .excludes-seven .ensures) (six .includes-six .ensures)
+    (two .unbroken2 .ensures) (eight .reduced .ensures) (ten .conditions-ten .ensures) (answering .unbroken3 .ensures)
+    (responses .reduced2 .ensures)
     (c .opening .ensures)
 
 pub graph-read-spec : {M : Type 1} → statement M
 graph-read-spec =
     tie.close
-    (tie.spec (λ c κs. search needs) (λ c κs. search needs) (λ c κs. search needs) (λ c κs. search needs) (λ c κs. search needs) (λ c κs. search needs) (λ c κs. search needs) (λ c κs. search needs) (λ c κs. search needs) (λ c κs. search needs) (λ c κs. search needs) returns)
+    (tie.spec (λ c κs. search needs) (λ c κs. search needs) (λ c κs. search needs) (λ c κs. search needs) (λ c κs. search needs)
+    (λ c κs. search needs) (λ c κs. search needs) (λ c κs. search needs) (λ c κs. search needs) (λ c κs. search needs)
+    (λ c κs. search needs) returns)
