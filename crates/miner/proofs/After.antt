@@ -61,11 +61,13 @@ module _ (last τ : List ℕ) (e : ℕ) (len : length last ≡ width) (h : LastO
   abbrev table : List ℕ
   table = putPlace last e (length τ)
 
-  earlier-place : (i : ℕ) → i < length τ → getD τ i 0 < width → eqb (getD table (getD τ i 0) 0) i ≡ non (drop (i + 1) τ has getD τ i 0 or eqb (getD τ i 0) e)
+  earlier-place : (i : ℕ) → i < length τ → getD τ i 0 < width → eqb (getD table (getD τ i 0) 0) i
+      ≡ non (drop (i + 1) τ has getD τ i 0 or eqb (getD τ i 0) e)
   unfolding non
   earlier-place i l k = pick (eqb (getD τ i 0) e) refl
     where
-      pick : (b : Bool) → eqb (getD τ i 0) e ≡ b → eqb (getD table (getD τ i 0) 0) i ≡ non (drop (i + 1) τ has getD τ i 0 or eqb (getD τ i 0) e)
+      pick : (b : Bool) → eqb (getD τ i 0) e ≡ b → eqb (getD table (getD τ i 0) 0) i
+          ≡ non (drop (i + 1) τ has getD τ i 0 or eqb (getD τ i 0) e)
       pick true t =
           let same : getD τ i 0 ≡ e = eqb-true (getD τ i 0) e t in
           ap (λ (x : ℕ). eqb (getD table x 0) i) same
@@ -80,7 +82,8 @@ module _ (last τ : List ℕ) (e : ℕ) (len : length last ≡ width) (h : LastO
   last-snoc : LastOf table (τ ++ e ∷ [])
   unfolding non _has_
   last-snoc i l k =
-      either (split (ltb i (length τ))) (λ t. before (ltb-true i (length τ) (T→true _ t))) (λ g. here (ltb-false i (length τ) (F→false _ g)))
+      either (split (ltb i (length τ))) (λ t. before (ltb-true i (length τ) (T→true _ t)))
+      (λ g. here (ltb-false i (length τ) (F→false _ g)))
     where
       before : i < length τ → eqb (getD table (getD (τ ++ e ∷ []) i 0) 0) i ≡ non (drop (i + 1) (τ ++ e ∷ []) has getD (τ ++ e ∷ []) i 0)
       before b =
@@ -97,7 +100,8 @@ module _ (last τ : List ℕ) (e : ℕ) (len : length last ≡ width) (h : LastO
           let q : getD (τ ++ e ∷ []) i 0 ≡ e = getD-at τ e [] 0 i end in
           ap (λ (x : ℕ). eqb (getD table x 0) i) q
           ∙ eq-eqb (getD table e 0) i (place-same last e (length τ) len (subst (λ (x : ℕ). x < width) q k) ∙ end)
-          ∙ sym (ap (λ (r : List ℕ). non (r has getD (τ ++ e ∷ []) i 0)) (drop-of-length-le (τ ++ e ∷ []) {i = i + 1} (omega (arith, length-append τ (e ∷ [])))))
+          ∙ sym (ap (λ (r : List ℕ). non (r has getD (τ ++ e ∷ []) i 0))
+          (drop-of-length-le (τ ++ e ∷ []) {i = i + 1} (omega (arith, length-append τ (e ∷ [])))))
 
 -- ---- the pass that fills the table, one place further and at the end
 
@@ -108,7 +112,8 @@ module _ (σ : List ℕ) (i : ℕ) (h : i < length σ) where
   pub length-next : (last last′ : List ℕ) → length last ≡ width → last′ ≡ putPlace last (getD σ i 0) i → length last′ ≡ width
   length-next last last′ len hp = ap length hp ∙ length-place last (getD σ i 0) i ∙ len
 
-  pub last-next : (last last′ : List ℕ) → length last ≡ width → LastOf last (take i σ) → last′ ≡ putPlace last (getD σ i 0) i → LastOf last′ (take (i + 1) σ)
+  pub last-next : (last last′ : List ℕ) → length last ≡ width → LastOf last (take i σ) → last′ ≡ putPlace last (getD σ i 0) i
+      → LastOf last′ (take (i + 1) σ)
   last-next last last′ len inv hp =
       subst (λ (τ : List ℕ). LastOf last′ τ) (sym so-far)
       (subst (λ (r : List ℕ). LastOf r (take i σ ++ getD σ i 0 ∷ []))
@@ -128,11 +133,13 @@ module _ (after : Set) (last : List ℕ) (e i : ℕ) where
   abbrev leaving : ℕ → Bool
   leaving x = mem after x and non (eqb x e and eqb (getD last e 0) i)
 
-  pub left-last : (one r : Set) → getD last e 0 ≡ i → one ≡ those (λ b. eqb b e) → r ≡ those (λ x. mem after x and non (mem one x)) → r ≡ those leaving
+  pub left-last : (one r : Set) → getD last e 0 ≡ i → one ≡ those (λ b. eqb b e) → r ≡ those (λ x. mem after x and non (mem one x)) → r
+      ≡ those leaving
   left-last one r t ho hr =
       hr ∙ those-of one (λ b. eqb b e) (λ x c. mem after x and non c) ho
       ∙ those-ext (λ x. mem after x and non (eqb x e)) leaving
-      (λ x l. ap (λ (c : Bool). mem after x and non c) (sym (and-true (eqb x e)) ∙ ap (λ (c : Bool). eqb x e and c) (sym (eq-eqb (getD last e 0) i t))))
+      (λ x l. ap (λ (c : Bool). mem after x and non c)
+      (sym (and-true (eqb x e)) ∙ ap (λ (c : Bool). eqb x e and c) (sym (eq-eqb (getD last e 0) i t))))
 
   stays : (x : ℕ) → (eqb x e and eqb (getD last e 0) i) ≡ false → mem after x ≡ leaving x
   unfolding non

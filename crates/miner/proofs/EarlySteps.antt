@@ -12,7 +12,8 @@ use Rattle.sets.proofs.Tests.{T-ext, eqb-of}
 use Rattle.sets.proofs.Tautologies.{by4}
 use Rattle.sets.proofs.RowLaws.{rowsOf-ext}
 use Rattle.rules.specs.Traces.{Traces}
-use Rattle.rules.specs.Mining.{noPair, noRelations, event, _with_, precedes, answers, chained, directlyBefore, step1, step2, step3, step4, step5, afterFive}
+use Rattle.rules.specs.Mining.{noPair, noRelations, event, _with_, precedes, answers, chained, directlyBefore, step1, step2, step3, step4}
+use Rattle.rules.specs.Mining.{step5, afterFive}
 use Rattle.steps.specs.Rowwise.{unbroken}
 use Rattle.tally.specs.Tallies.{tallied}
 use Rattle.tally.proofs.Tallying.{unpreceded-table, unanswered-table, unchained-table}

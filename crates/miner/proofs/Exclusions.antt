@@ -15,7 +15,9 @@ use Rattle.sets.proofs.Members.{mem-those}
 use Rattle.sets.proofs.RowLaws.{in-rowsOf, rowsOf-ext}
 use Rattle.engine.specs.Relations.{Relations}
 use Rattle.rules.specs.Traces.{Traces}
-use Rattle.rules.specs.Mining.{noPair, noRelations, smallestSource, event, someEvent, _with_, _without_, before, followed, alternates, atMostOnce, together, directlyBefore, neverTogether, closes, step1, step2, step3, step4, step5, step6, step7, afterFive, afterSeven}
+use Rattle.rules.specs.Mining.{noPair, noRelations, smallestSource, event, someEvent, _with_, _without_, before, followed, alternates}
+use Rattle.rules.specs.Mining.{atMostOnce, together, directlyBefore, neverTogether, closes, step1, step2, step3, step4, step5, step6, step7}
+use Rattle.rules.specs.Mining.{afterFive, afterSeven}
 use Rattle.steps.specs.Rowwise.{excludesItself, smallest, apart, closing, excluders, absent, inEither, notRedundant}
 use Rattle.tally.specs.Tallies.{tallied}
 use Rattle.tally.proofs.Tallying.{before-table, later-table, unalternated-table, followed-table}
@@ -30,12 +32,14 @@ use Rattle.miner.proofs.EarlySteps.{events, chains-read}
 pub among : (x e f : Bool) → (T x → T e) → (T x → T f) → x ≡ (e and f and x)
 among x e f he hf = T-ext x (e and f and x) (λ t. and-i _ _ (and-i _ _ (he t) (hf t)) t) (λ t. and-r _ _ t)
 
-in-events : (e x : Bool) (ev d : ℕ → Bool) → (e and (x or someBelow width (λ u. ev u and e and (false or d u)))) ≡ (e and (x or someBelow width (λ u. ev u and d u)))
+in-events : (e x : Bool) (ev d : ℕ → Bool) → (e and (x or someBelow width (λ u. ev u and e and (false or d u))))
+    ≡ (e and (x or someBelow width (λ u. ev u and d u)))
 unfolding _and_ _or_ non
 in-events false x ev d = refl
 in-events true x ev d =
     ap (λ (b : Bool). x or b)
-    (some-ext width (λ u. ev u and true and (false or d u)) (λ u. ev u and d u) (λ u l. by2 (λ v w. v and true and (false or w)) (λ v w. v and w) tt (ev u) (d u)))
+    (some-ext width (λ u. ev u and true and (false or d u)) (λ u. ev u and d u)
+    (λ u l. by2 (λ v w. v and true and (false or w)) (λ v w. v and w) tt (ev u) (d u)))
 
 twice : (e f q o k : Bool) → (e and f and (e and f and (false or q and o) or q and k)) ≡ (q and (e and f and (o or k)))
 unfolding _and_ _or_ non
@@ -52,14 +56,17 @@ idem = by2 (λ a b. a and a and b) (λ a b. a and b) tt
 two-others : (q a d d′ : Bool) → (q ≡ false → d ≡ d′) → (a and non q and d) ≡ (a and true and non q and d′)
 unfolding _and_ _or_ non
 two-others true a d d′ h = by4 (λ x z w v. x and false and z) (λ x z w v. x and true and false and w) tt a d d′ d
-two-others false a d d′ h = ap (λ (z : Bool). a and true and z) (h refl) ∙ by2 (λ x z. x and true and z) (λ x z. x and true and true and z) tt a d′
+two-others false a d d′ h = ap (λ (z : Bool). a and true and z) (h refl)
+    ∙ by2 (λ x z. x and true and z) (λ x z. x and true and true and z) tt a d′
 
-all-among : (e f g c d : Bool) → g ≡ (e and f and g) → c ≡ (e and f and c) → d ≡ (e and f and d) → (e and f and (e and f and (g or c) or d)) ≡ (g or c or d)
+all-among : (e f g c d : Bool) → g ≡ (e and f and g) → c ≡ (e and f and c) → d ≡ (e and f and d) → (e and f and (e and f and (g or c) or d))
+    ≡ (g or c or d)
 unfolding _and_ _or_ non
 all-among e f g c d hg hc hd =
     ap₂ (λ (x y : Bool). e and f and (e and f and (x or y) or d)) hg hc
     ∙ ap (λ (z : Bool). e and f and (e and f and (e and f and g or e and f and c) or z)) hd
-    ∙ by5 (λ v w x y z. v and w and (v and w and (v and w and x or v and w and y) or v and w and z)) (λ v w x y z. v and w and x or v and w and y or v and w and z) tt e f g c d
+    ∙ by5 (λ v w x y z. v and w and (v and w and (v and w and x or v and w and y) or v and w and z))
+    (λ v w x y z. v and w and x or v and w and y or v and w and z) tt e f g c d
     ∙ sym (ap₂ (λ (x y : Bool). x or y or d) hg hc ∙ ap (λ (z : Bool). e and f and g or e and f and c or z) hd)
 
 -- pairs that join a relation among events
@@ -106,7 +113,8 @@ module _ (L : Traces) where
   self-four : (s : ℕ) → afterFour L .excludes s s ≡ selfExcluding L s
   unfolding step4 smallestSource neverTogether _with_ selfExcluding
   self-four s =
-      ap₂ (λ (g c : Bool). event L s and event L s and (g or c)) (self-three s s ∙ ap (λ (q : Bool). q and selfExcluding L s) (T→true _ (eqb-refl s)))
+      ap₂ (λ (g c : Bool). event L s and event L s and (g or c))
+      (self-three s s ∙ ap (λ (q : Bool). q and selfExcluding L s) (T→true _ (eqb-refl s)))
       (F→false (smallestSource (neverTogether L) s s) (λ t. non-e (eqb s s) (and-r _ _ (and-l _ _ (and-l _ _ t))) (eqb-refl s)))
       ∙ itself (event L s) (non (before L s s) or someEvent L (λ u. directlyBefore L u s))
 
@@ -123,8 +131,10 @@ module _ (L : Traces) where
     unfolding excludesItself selfExcluding someEvent afterFive step5 step4 step3 step2 step1 noRelations noPair _with_ _and_
     itself-read =
         ap₂ (λ (b c : Bool). non b or c) (in-rowsOf (λ x y. before L y x) t t lt lt)
-        (some-ext width (λ u. inRow chains t u) (λ u. event L u and event L t and (false or directlyBefore L u t)) (λ u lu. in-rowsOf (λ x y. afterFive L .includes y x) t u lt lu))
-        ∙ ap (λ (b : Bool). b and (non (before L t t) or someBelow width (λ u. event L u and event L t and (false or directlyBefore L u t)))) (sym yes)
+        (some-ext width (λ u. inRow chains t u) (λ u. event L u and event L t and (false or directlyBefore L u t))
+        (λ u lu. in-rowsOf (λ x y. afterFive L .includes y x) t u lt lu))
+        ∙ ap (λ (b : Bool). b and (non (before L t t)
+        or someBelow width (λ u. event L u and event L t and (false or directlyBefore L u t)))) (sym yes)
         ∙ in-events (event L t) (non (before L t t)) (event L) (λ u. directlyBefore L u t)
 
     own-read : (s : ℕ) → (excludesItself earlier chains t and eqb s t) ≡ afterThree L .excludes s t
@@ -139,10 +149,12 @@ module _ (L : Traces) where
     unfolding apart neverTogether
     apart-read s ls =
         simp (mem-those, in-rowsOf)
-        (two-others (eqb s t) (event L s) (non (before L s t or before L t s)) (non (together L s t)) (λ e. ap non (sym (together-before s t (eqb-false s t e) L)))
+        (two-others (eqb s t) (event L s) (non (before L s t or before L t s)) (non (together L s t))
+        (λ e. ap non (sym (together-before s t (eqb-false s t e) L)))
         ∙ ap (λ (b : Bool). event L s and b and non (eqb s t) and non (together L s t)) (sym yes))
 
-    closing-read : (s : ℕ) → s < width → closing (events L) (excludesItself earlier chains t) earlier (rowsOf (before L)) t s ≡ closes L (afterFour L) s t
+    closing-read : (s : ℕ) → s < width → closing (events L) (excludesItself earlier chains t) earlier (rowsOf (before L)) t s
+        ≡ closes L (afterFour L) s t
     unfolding closing closes _and_
     closing-read s ls =
         simp (mem-those, in-rowsOf)
@@ -153,7 +165,8 @@ module _ (L : Traces) where
         ≡ (afterThree L .excludes s t or smallestSource (neverTogether L) s t or smallestSource (closes L (afterFour L)) s t)
     unfolding excluders
     five-read s ls =
-        ap₂ _or_ (ap₂ _or_ (own-read s) (smallest-read (neverTogether L) t _ apart-read s ls)) (smallest-read (closes L (afterFour L)) t _ closing-read s ls)
+        ap₂ _or_ (ap₂ _or_ (own-read s) (smallest-read (neverTogether L) t _ apart-read s ls))
+        (smallest-read (closes L (afterFour L)) t _ closing-read s ls)
 
   -- a relation of the rules holds of events only
   pub with-events : (r p : Relation) (s t : ℕ) → (_with_ L r p) s t ≡ (event L s and event L t and (_with_ L r p) s t)
@@ -166,16 +179,19 @@ module _ (L : Traces) where
       ≡ (afterThree L .excludes s t or smallestSource (neverTogether L) s t or smallestSource (closes L (afterFour L)) s t)
   unfolding afterFive step5 step4 step3 _with_ smallestSource neverTogether closes
   excludes-after-five s t =
-      all-among (event L s) (event L t) (afterThree L .excludes s t) (smallestSource (neverTogether L) s t) (smallestSource (closes L (afterFour L)) s t)
+      all-among (event L s) (event L t) (afterThree L .excludes s t) (smallestSource (neverTogether L) s t)
+      (smallestSource (closes L (afterFour L)) s t)
       (with-events (step2 L (step1 L noRelations) .excludes) (λ x y. eqb x y and someEvent L (λ u. directlyBefore L u y)) s t)
       (among _ _ _ (λ h. and-l _ _ (and-l _ _ (and-l _ _ (and-l _ _ h)))) (λ h. and-r _ _ (and-l _ _ (and-l _ _ (and-l _ _ h)))))
-      (among _ _ _ (λ h. and-r _ _ (and-l _ _ (and-l _ _ (and-l _ _ (and-l _ _ h))))) (λ h. and-l _ _ (and-l _ _ (and-l _ _ (and-l _ _ (and-l _ _ h))))))
+      (among _ _ _ (λ h. and-r _ _ (and-l _ _ (and-l _ _ (and-l _ _ (and-l _ _ h)))))
+      (λ h. and-l _ _ (and-l _ _ (and-l _ _ (and-l _ _ (and-l _ _ h))))))
 
   no-event : (s t : ℕ) → event L t ≡ false → false ≡ afterFive L .excludes s t
   unfolding afterFive step5 _with_
   no-event s t e = sym (F→false _ (λ h. false→F e (and-r _ _ (and-l _ _ h))))
 
-  five-pair : (s t : ℕ) → s < width → t < width → (event L t and excluders (events L) earlier (rowsOf (before L)) chains t s) ≡ afterFive L .excludes s t
+  five-pair : (s t : ℕ) → s < width → t < width → (event L t and excluders (events L) earlier (rowsOf (before L)) chains t s)
+      ≡ afterFive L .excludes s t
   unfolding _and_
   five-pair s t ls lt = by (event L t) refl
     where
@@ -187,18 +203,22 @@ module _ (L : Traces) where
   unfolding turned rowsFor
   excludes-five =
       (λ i. rowsOf (turned (rowsFor (events L) (excluders (events L) (before-table L i) (later-table L i) (chains-read L i)))))
-      ∙ rowsOf-ext _ _ (λ s t ls lt. in-rowsOf _ t s lt ls ∙ ap (λ (b : Bool). b and excluders (events L) earlier (rowsOf (before L)) chains t s) (mem-those (event L) t lt) ∙ five-pair s t ls lt)
+      ∙ rowsOf-ext _ _ (λ s t ls lt. in-rowsOf _ t s lt ls
+      ∙ ap (λ (b : Bool). b and excluders (events L) earlier (rowsOf (before L)) chains t s) (mem-those (event L) t lt)
+      ∙ five-pair s t ls lt)
 
   pub never-read : neverOf (events L) (tallied L) ≡ rowsOf (λ s t. event L s and (event L t and non (followed L s t)))
   never-read = ap (λ (rows : List ℕ). rowsFor (events L) (absent (events L) rows)) (followed-table L) ∙ absent-rows (event L) (followed L)
 
-  excludes-six : rowsFor (events L) (inEither (fiveFrom (events L) (tallied L) (chainsOf (events L) (tallied L))) (neverOf (events L) (tallied L)))
+  excludes-six : rowsFor (events L) (inEither (fiveFrom (events L) (tallied L) (chainsOf (events L) (tallied L)))
+      (neverOf (events L) (tallied L)))
       ≡ rowsOf (step6 L (afterFive L) .excludes)
   unfolding afterFive step6 step5 _with_
   excludes-six =
       ap₂ (λ (x y : List ℕ). rowsFor (events L) (inEither x y)) excludes-five never-read
       ∙ united-rows (event L) (afterFive L .excludes) (λ s t. event L s and (event L t and non (followed L s t)))
-      ∙ rowsOf-ext _ _ (λ s t ls lt. one-more (event L s) (event L t) (afterFive L .excludes s t) (non (followed L s t)) (with-events (afterFour L .excludes) (smallestSource (closes L (afterFour L))) s t))
+      ∙ rowsOf-ext _ _ (λ s t ls lt. one-more (event L s) (event L t) (afterFive L .excludes s t) (non (followed L s t))
+      (with-events (afterFour L .excludes) (smallestSource (closes L (afterFour L))) s t))
 
   pub excludes-seven : sevenOf (events L) (tallied L) ≡ rowsOf (afterSeven L .excludes)
   unfolding afterSeven step7 _without_ notRedundant rowsFor someEvent step6
@@ -208,7 +228,8 @@ module _ (L : Traces) where
       (λ s t ls lt.
       ap₂ _and_ (mem-those (event L) s ls)
       (ap₂ (λ (x y : Bool). x and non y) (in-rowsOf (six .excludes) s t ls lt)
-      (some-ext width _ (λ u. event L u and (six .excludes u t and alternates L u s)) (λ u lu. simp (mem-those, in-rowsOf, non-non) (and-assoc (event L u) (six .excludes u t) (alternates L u s)))))
+      (some-ext width _ (λ u. event L u and (six .excludes u t and alternates L u s))
+      (λ u lu. simp (mem-those, in-rowsOf, non-non) (and-assoc (event L u) (six .excludes u t) (alternates L u s)))))
       ∙ first-too (event L s) (event L t) (six .excludes s t) _ (with-events (afterFive L .excludes) (λ x y. non (followed L x y)) s t))
     where
       six : Relations

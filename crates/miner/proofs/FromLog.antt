@@ -49,13 +49,15 @@ module _ (bytes : List ℕ) (j : Judged) (r : Bool) (hj : j ≡ judgedOf bytes) 
   the-answer : j .answer ≡ logOf bytes .answer
   the-answer = ap (λ (x : Judged). x .answer) hj
 
-  pub mine-refused : (g : Graph) → not r ≡ true → g ≡ emptyGraph → _≡_ {A = Mined} (record { answer = j .answer; graph = g }) (minedOf bytes)
+  pub mine-refused : (g : Graph) → not r ≡ true → g ≡ emptyGraph
+      → _≡_ {A = Mined} (record { answer = j .answer; graph = g }) (minedOf bytes)
   unfolding minedOf
   mine-refused g n hg =
       let no-graph : isDone (logOf bytes .answer) ≡ false = ap isDone (sym the-answer) ∙ sym hr ∙ not-true r n in
       λ i. record {
         answer = the-answer i;
-        graph = (hg ∙ sym (ap (λ (t : Bool). when t then minedGraph (logOf bytes .activities) (logOf bytes .traces) else emptyGraph) no-graph)) i;
+        graph = (hg ∙ sym (ap (λ (t : Bool). when t then minedGraph (logOf bytes .activities) (logOf bytes .traces) else emptyGraph)
+            no-graph)) i;
       }
 
   pub mine-done : (g : Graph) → not r ≡ false → g ≡ graphFound (j .activities) (walked bytes (j .traces) 0)
@@ -70,5 +72,6 @@ module _ (bytes : List ℕ) (j : Judged) (r : Bool) (hj : j ≡ judgedOf bytes) 
       ∙ pair-for-pair (logOf bytes .traces) (small bytes) (logOf bytes .activities) in
       λ i. record {
         answer = the-answer i;
-        graph = (read ∙ sym (ap (λ (t : Bool). when t then minedGraph (logOf bytes .activities) (logOf bytes .traces) else emptyGraph) some-graph)) i;
+        graph = (read ∙ sym (ap (λ (t : Bool). when t then minedGraph (logOf bytes .activities) (logOf bytes .traces) else emptyGraph)
+            some-graph)) i;
       }

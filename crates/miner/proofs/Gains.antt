@@ -38,7 +38,8 @@ gains-below p rows e past rest q rows′ f h =
 -- ---- what was seen
 
 -- with one event more
-pub with-one : (seen one r : Set) (e : ℕ) → one ≡ those (λ b. eqb b e) → r ≡ those (λ a. mem seen a or mem one a) → r ≡ those (λ x. mem seen x or eqb x e)
+pub with-one : (seen one r : Set) (e : ℕ) → one ≡ those (λ b. eqb b e) → r ≡ those (λ a. mem seen a or mem one a) → r
+    ≡ those (λ x. mem seen x or eqb x e)
 with-one seen one r e ho hr = hr ∙ those-of one (λ b. eqb b e) (λ a t. mem seen a or t) ho
 
 pub seen-next : (σ : List ℕ) (i : ℕ) (h : i < length σ) (seen : Set) → seen ≡ seenIn (pastAt σ i) → (r : Set)

@@ -1,4 +1,5 @@
--- Steps 8 to 10 on rows, and the mined relations as they are put together from a tally and from what the later passes find. Assumes nothing.
+-- Steps 8 to 10 on rows, and the mined relations as they are put together from a tally and from what the later passes find. Assumes
+-- nothing.
 use mathlib.Core.Path.{_≡_, sym, ap, ap₂, _∙_}
 use mathlib.Core.Bool.{Bool}
 use mathlib.Core.List.{List}
@@ -14,7 +15,9 @@ use Rattle.sets.proofs.Members.{mem-those}
 use Rattle.sets.proofs.RowLaws.{in-rowsOf, rowsOf-ext}
 use Rattle.engine.specs.Relations.{Relations}
 use Rattle.rules.specs.Traces.{Traces}
-use Rattle.rules.specs.Mining.{event, someEvent, _with_, _without_, followed, between, beforeFirst, neverMissed, directlyBefore, noRelations, reduced, step1, step2, step3, step4, step5, step6, step7, step8, step9, step10, afterFive, afterSeven, afterEight, mined}
+use Rattle.rules.specs.Mining.{event, someEvent, _with_, _without_, followed, between, beforeFirst, neverMissed, directlyBefore}
+use Rattle.rules.specs.Mining.{noRelations, reduced, step1, step2, step3, step4, step5, step6, step7, step8, step9, step10, afterFive}
+use Rattle.rules.specs.Mining.{afterSeven, afterEight, mined}
 use Rattle.steps.specs.Rowwise.{reducedOf, waited}
 use Rattle.tally.specs.Tallies.{tallied}
 use Rattle.tally.proofs.LogLaws.{middle-event, later-event}
@@ -59,9 +62,11 @@ module _ (L : Traces) where
   unfolding reduced _without_
   reduced-by-source r h =
       reduced-rows (event L) r
-      ∙ rowsOf-ext _ _ (λ s t ls lt. first-too (event L s) (event L t) (r s t) _ (h s t) ∙ ap (λ (b : Bool). r s t and non b) (middles r h s t))
+      ∙ rowsOf-ext _ _ (λ s t ls lt. first-too (event L s) (event L t) (r s t) _ (h s t)
+      ∙ ap (λ (b : Bool). r s t and non b) (middles r h s t))
 
-  pub reduced-by-target : (r : Relation) → Among L r → rowsFor (events L) (reducedOf (rowsOf (λ t s. r s t))) ≡ rowsOf (λ t s. reduced L r s t)
+  pub reduced-by-target : (r : Relation) → Among L r → rowsFor (events L) (reducedOf (rowsOf (λ t s. r s t)))
+      ≡ rowsOf (λ t s. reduced L r s t)
   unfolding reduced _without_
   reduced-by-target r h =
       reduced-rows (event L) (λ t s. r s t)
@@ -74,7 +79,8 @@ module _ (L : Traces) where
   -- ---- step 9
 
   waited-read : (g : Relations)
-      → rowsFor (events L) (waited (events L) (rowsOf (λ t s. g .conditions s t)) (rowsOf (λ t s. beforeFirst L s t)) (rowsOf (λ t s. non (neverMissed L g s t))))
+      → rowsFor (events L) (waited (events L) (rowsOf (λ t s. g .conditions s t)) (rowsOf (λ t s. beforeFirst L s t))
+      (rowsOf (λ t s. non (neverMissed L g s t))))
       ≡ rowsOf (λ t s. step9 L g .conditions s t)
   unfolding rowsFor waited step9 _with_
   waited-read g =
@@ -98,8 +104,10 @@ module _ (L : Traces) where
       ∙ reduced-by-target (afterFive L .conditions) (with-events L _ _)
 
   -- from what the pass of step 9 finds
-  pub conditions-mined : (first unmet : List ℕ) → first ≡ rowsOf (λ t s. beforeFirst L s t) → unmet ≡ rowsOf (λ t s. non (neverMissed L (afterEight L) s t))
-      → rowsFor (events L) (reducedOf (rowsFor (events L) (waited (events L) (rowsFor (events L) (reducedOf (conditionsOf (events L) (tallied L)))) first unmet)))
+  pub conditions-mined : (first unmet : List ℕ) → first ≡ rowsOf (λ t s. beforeFirst L s t) → unmet
+      ≡ rowsOf (λ t s. non (neverMissed L (afterEight L) s t))
+      → rowsFor (events L) (reducedOf (rowsFor (events L)
+      (waited (events L) (rowsFor (events L) (reducedOf (conditionsOf (events L) (tallied L)))) first unmet)))
       ≡ rowsOf (λ t s. mined L .conditions s t)
   unfolding mined step10 step9
   conditions-mined first unmet hf hu =
@@ -122,7 +130,8 @@ module _ (L : Traces) where
   pub includes-mined : rowsOf (λ u t. afterFive L .includes u t or betweens u t) ≡ rowsOf (mined L .includes)
   unfolding mined step10 step9 afterEight step8 afterSeven step7 step6 afterFive step5 step4 step3 _with_
   includes-mined =
-      rowsOf-ext _ _ (λ u t lu lt. joined (event L u) (event L t) (afterFive L .includes u t) (betweens u t) (with-events L (step2 L (step1 L noRelations) .includes) (directlyBefore L) u t) (betweens-events u t))
+      rowsOf-ext _ _ (λ u t lu lt. joined (event L u) (event L t) (afterFive L .includes u t) (betweens u t)
+      (with-events L (step2 L (step1 L noRelations) .includes) (directlyBefore L) u t) (betweens-events u t))
 
   pub excludes-mined : sevenOf (events L) (tallied L) ≡ rowsOf (mined L .excludes)
   unfolding mined step10 step9 afterEight step8

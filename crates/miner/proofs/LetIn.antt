@@ -40,7 +40,8 @@ module _ (unfollowed : List ℕ) where
 
   pub barred-none : _≡_ {A = Set} noSet (barredIn [])
   unfolding _has_
-  barred-none = none (barredAt []) (λ x l. F→false (barredAt [] x) (λ t. let r = some-e width (λ s. [] has s and inRow unfollowed s x) t in and-l _ _ (r .2)))
+  barred-none = none (barredAt []) (λ x l. F→false (barredAt [] x)
+      (λ t. let r = some-e width (λ s. [] has s and inRow unfollowed s x) t in and-l _ _ (r .2)))
 
   barred-more : (past : List ℕ) (e x : ℕ) → (barredAt past x or inRow unfollowed e x) ≡ barredAt (e ∷ past) x
   unfolding _has_
@@ -72,7 +73,8 @@ module _ (unfollowed : List ℕ) where
     pub barred-next : (r : Set) → r ≡ those (λ x. mem barred x or inRow unfollowed (getD σ i 0) x) → r ≡ barredIn (pastAt σ (i + 1))
     barred-next r hr =
         hr ∙ those-of barred (barredAt (pastAt σ i)) (λ x t. t or inRow unfollowed (getD σ i 0) x) hb
-        ∙ those-ext (λ x. barredAt (pastAt σ i) x or inRow unfollowed (getD σ i 0) x) (barredAt (getD σ i 0 ∷ pastAt σ i)) (λ x l. barred-more (pastAt σ i) (getD σ i 0) x)
+        ∙ those-ext (λ x. barredAt (pastAt σ i) x or inRow unfollowed (getD σ i 0) x) (barredAt (getD σ i 0 ∷ pastAt σ i))
+        (λ x l. barred-more (pastAt σ i) (getD σ i 0) x)
         ∙ ap barredIn (sym (past-next σ i h))
 
     pub let-in-next : (after : Set) (all rows rows′ : List ℕ) → after ≡ seenIn (drop (i + 1) σ)

@@ -41,7 +41,8 @@ module _ (u : ℕ) (p : List ℕ → List ℕ → Bool) where
       let k = place-of [] (σ .0) (σ .2) in
       (k .0, k .1, subst (λ (τ : List ℕ). List·Memᴰ τ L) (sym (k .2)) (σ .1), k .3)
 
-  pub at-place : (L : Traces) (past rest : List ℕ) → List·Memᴰ (reverseAux past (u ∷ rest)) L → T (p past rest) → T (someTrace L (atSome u p))
+  pub at-place : (L : Traces) (past rest : List ℕ) → List·Memᴰ (reverseAux past (u ∷ rest)) L → T (p past rest)
+      → T (someTrace L (atSome u p))
   at-place L past rest m h = some-of (atSome u p) m (some-at u p past rest h)
 
 -- two tests that agree at every place of the log where u stands
@@ -74,7 +75,8 @@ module _ (L : Traces) where
           let k = some-place u here L h in
           let r = some-e width (λ s. k .0 has s and inRow neverFollowing s t) (and-r _ _ (k .3)) in
           let w = T-eq (in-rowsOf (λ s t. event L s and (event L t and non (followed L s t))) (r .0) t (r .1) lt) (and-r _ _ (r .2)) in
-          let b = at-place u (λ past rest. past has r .0 and rest has t) L (k .0) (k .1) (k .2) (and-i _ _ (and-l _ _ (r .2)) (and-l _ _ (k .3))) in
+          let b = at-place u (λ past rest. past has r .0 and rest has t) L (k .0) (k .1) (k .2)
+          (and-i _ _ (and-l _ _ (r .2)) (and-l _ _ (k .3))) in
           some-i width _ (r .0) (r .1) (and-i _ _ (and-l _ _ w) (and-i _ _ (and-r _ _ (and-r _ _ w)) b))
 
       back : T (someBelow width (λ s. event L s and (non (followed L s t) and between L s u t))) → T (someTrace L (atSome u here))
@@ -84,7 +86,8 @@ module _ (L : Traces) where
           let e = later-event L (r .0) u t (and-r _ _ (and-r _ _ (r .2))) in
           let w = T-eq (sym (in-rowsOf (λ s t. event L s and (event L t and non (followed L s t))) (r .0) t (r .1) lt))
           (and-i _ _ (and-l _ _ (r .2)) (and-i _ _ e (and-l _ _ (and-r _ _ (r .2))))) in
-          at-place u here L (k .0) (k .1) (k .2) (and-i _ _ (and-r _ _ (k .3)) (some-i width _ (r .0) (r .1) (and-i _ _ (and-l _ _ (k .3)) w)))
+          at-place u here L (k .0) (k .1) (k .2) (and-i _ _ (and-r _ _ (k .3))
+          (some-i width _ (r .0) (r .1) (and-i _ _ (and-l _ _ (k .3)) w)))
 
   -- ---- step 9
 
@@ -113,8 +116,10 @@ module _ (L : Traces) where
         → heard (missed (those (event L)) (rowsOf (g .includes)) (rowsOf (g .excludes))) L t s ≡ non (neverMissed L g s t)
     unfolding missed neverMissed
     missed-is small t =
-        places-ext L t (λ past rest. missed (those (event L)) (rowsOf (g .includes)) (rowsOf (g .excludes)) t past rest s) (λ past rest. non (past has s or non (includedAfter L g past s)))
+        places-ext L t (λ past rest. missed (those (event L)) (rowsOf (g .includes)) (rowsOf (g .excludes)) t past rest s)
+        (λ past rest. non (past has s or non (includedAfter L g past s)))
         (λ past rest m.
-        ap (λ (b : Bool). non (past has s) and b) (still-is past (λ a h. small (reverseAux past (t ∷ rest)) m a (has-past a past (t ∷ rest) h)))
+        ap (λ (b : Bool). non (past has s) and b)
+        (still-is past (λ a h. small (reverseAux past (t ∷ rest)) m a (has-past a past (t ∷ rest) h)))
         ∙ waits (past has s) (includedAfter L g past s))
         ∙ sym (non-every t (λ past rest. past has s or non (includedAfter L g past s)) L)

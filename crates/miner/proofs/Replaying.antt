@@ -37,7 +37,8 @@ unfolding beforeFirst
 first-turn past rest e seen rows rows′ hs h =
     gains-below beforeFirst rows e past rest (λ x. mem seen x and non (mem seen e)) rows′
     (λ l x k.
-    ap (λ (t : Bool). t and non (mem seen e)) (is-those seen (λ y. past has y) hs x k) ∙ ap (λ (t : Bool). past has x and non t) (is-those seen (λ y. past has y) hs e l))
+    ap (λ (t : Bool). t and non (mem seen e)) (is-those seen (λ y. past has y) hs x k)
+    ∙ ap (λ (t : Bool). past has x and non t) (is-those seen (λ y. past has y) hs e l))
     h
 
 -- the replay by these includes and excludes
@@ -56,7 +57,8 @@ module _ (events : Set) (includes excludes : List ℕ) where
   open-next past e included r hi hr =
       hr ∙ those-of included (stillIncluded events includes excludes past) (λ x t. t and non (inRow excludes e x) or inRow includes e x) hi
 
-  pub missed-turn : (past rest : List ℕ) (e : ℕ) (seen included : Set) (rows rows′ : List ℕ) → seen ≡ seenIn past → included ≡ openAfter past
+  pub missed-turn : (past rest : List ℕ) (e : ℕ) (seen included : Set) (rows rows′ : List ℕ) → seen ≡ seenIn past → included
+      ≡ openAfter past
       → rows′ ≡ gained rows e (λ x. mem included x and non (mem seen x))
       → rows′ ≡ gains (missed events includes excludes) rows e past rest
   unfolding missed
@@ -74,13 +76,16 @@ module _ (σ : List ℕ) (i : ℕ) (h : i < length σ) (seen : Set) (hs : seen �
   pub first-next : (all rows rows′ : List ℕ) → forward (gains beforeFirst) rows (pastAt σ i) (drop i σ) ≡ all
       → rows′ ≡ gained rows (getD σ i 0) (λ x. mem seen x and non (mem seen (getD σ i 0)))
       → forward (gains beforeFirst) rows′ (pastAt σ (i + 1)) (drop (i + 1) σ) ≡ all
-  first-next all rows rows′ inv hr = forward-next (gains beforeFirst) σ all i rows rows′ h (first-turn (pastAt σ i) _ (getD σ i 0) seen rows rows′ hs hr) inv
+  first-next all rows rows′ inv hr = forward-next (gains beforeFirst) σ all i rows rows′ h
+      (first-turn (pastAt σ i) _ (getD σ i 0) seen rows rows′ hs hr) inv
 
-  module _ (events : Set) (includes excludes : List ℕ) (included : Set) (hi : included ≡ openAfter events includes excludes (pastAt σ i)) where
+  module _ (events : Set) (includes excludes : List ℕ) (included : Set)
+      (hi : included ≡ openAfter events includes excludes (pastAt σ i)) where
     pub included-next : (r : Set) → r ≡ those (λ x. mem included x and non (inRow excludes (getD σ i 0) x) or inRow includes (getD σ i 0) x)
         → r ≡ openAfter events includes excludes (pastAt σ (i + 1))
     included-next r hr =
-        open-next events includes excludes (pastAt σ i) (getD σ i 0) included r hi hr ∙ ap (openAfter events includes excludes) (sym (past-next σ i h))
+        open-next events includes excludes (pastAt σ i) (getD σ i 0) included r hi hr
+        ∙ ap (openAfter events includes excludes) (sym (past-next σ i h))
 
     pub missed-next : (all rows rows′ : List ℕ) → forward (gains (missed events includes excludes)) rows (pastAt σ i) (drop i σ) ≡ all
         → rows′ ≡ gained rows (getD σ i 0) (λ x. mem included x and non (mem seen x))

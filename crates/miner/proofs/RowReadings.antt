@@ -1,4 +1,5 @@
--- The readings of rows that are some relation's rows: each is again the rows of a relation. A pair is read by `simp reading`. Assumes nothing.
+-- The readings of rows that are some relation's rows: each is again the rows of a relation. A pair is read by `simp reading`. Assumes
+-- nothing.
 use mathlib.Core.Path.{_≡_, ap, ap₂, _∙_, subst}
 use mathlib.Core.Bool.{Bool}
 use Prim.Native.Nat.{ℕ, _<_, _≤_}
@@ -22,7 +23,8 @@ turned-rows r = rowsOf-ext _ _ (λ a x la lx. in-rowsOf r x a lx la)
 -- ---- at the members of a set: p are its members
 
 module _ (p : ℕ → Bool) where
-  pub unbroken-rows : (r : Relation) → rowsFor (those p) (unbroken (those p) (rowsOf (λ a x. non (r a x)))) ≡ rowsOf (λ a x. p a and (p x and non (eqb x a) and r a x))
+  pub unbroken-rows : (r : Relation) → rowsFor (those p) (unbroken (those p) (rowsOf (λ a x. non (r a x))))
+      ≡ rowsOf (λ a x. p a and (p x and non (eqb x a) and r a x))
   unfolding unbroken rowsFor
   unbroken-rows r = rowsOf-ext _ _ (λ a x la lx. simp (mem-those, in-rowsOf, non-non))
 
@@ -34,7 +36,8 @@ module _ (p : ℕ → Bool) where
   unfolding inEither rowsFor
   united-rows r q = rowsOf-ext _ _ (λ a x la lx. simp (mem-those, in-rowsOf))
 
-  pub reduced-rows : (r : Relation) → rowsFor (those p) (reducedOf (rowsOf r)) ≡ rowsOf (λ a x. p a and (r a x and non (someBelow width (λ u. r a u and r u x))))
+  pub reduced-rows : (r : Relation) → rowsFor (those p) (reducedOf (rowsOf r))
+      ≡ rowsOf (λ a x. p a and (r a x and non (someBelow width (λ u. r a u and r u x))))
   unfolding reducedOf rowsFor
   reduced-rows r =
       rowsOf-ext _ _
@@ -60,7 +63,8 @@ least-none p a l =
     k = leastBelow width p
 
     up : T (p a) → k ≤ a
-    up t = either (split (ltb a k)) (λ h. absurd (false→F (least-before width p a (ltb-true a k (T→true _ h))) t)) (λ h. ltb-false a k (F→false _ h))
+    up t = either (split (ltb a k)) (λ h. absurd (false→F (least-before width p a (ltb-true a k (T→true _ h))) t))
+        (λ h. ltb-false a k (F→false _ h))
 
     down : T (p a) → T (non (someBelow a p)) → a ≤ k
     down t n =
@@ -74,7 +78,8 @@ least-none p a l =
     at t n = omega (arith, up t, down t n)
 
 -- of a target's sources, as a row has them, the smallest is the rules' one
-pub smallest-read : (r : Relation) (t : ℕ) (p : ℕ → Bool) → ((s : ℕ) → s < width → p s ≡ r s t) → (s : ℕ) → s < width → smallest p s ≡ smallestSource r s t
+pub smallest-read : (r : Relation) (t : ℕ) (p : ℕ → Bool) → ((s : ℕ) → s < width → p s ≡ r s t) → (s : ℕ) → s < width → smallest p s
+    ≡ smallestSource r s t
 unfolding smallest smallestSource
 smallest-read r t p h s l =
     ap₂ (λ (b : Bool) (n : ℕ). b and eqb s n) (h s l) (least-ext width p (λ u. r u t) h) ∙ least-none (λ u. r u t) s l

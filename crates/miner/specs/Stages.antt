@@ -13,7 +13,8 @@ use Rattle.rules.specs.Traces.{Traces}
 use Rattle.rules.specs.Mining.{event}
 use Rattle.steps.specs.Rowwise.{unbroken, absent, excluders, inEither, notRedundant, reducedOf, waited}
 use Rattle.tally.specs.Passes.{gains, forward, through}
-use Rattle.tally.specs.Tallies.{beforeTable, laterTable, unprecededTable, unansweredTable, unchainedTable, unalternatedTable, followedTable, tallied}
+use Rattle.tally.specs.Tallies.{beforeTable, laterTable, unprecededTable, unansweredTable, unchainedTable, unalternatedTable, followedTable}
+use Rattle.tally.specs.Tallies.{tallied}
 use Rattle.miner.specs.Facts.{letIn, beforeFirst, missed}
 
 -- conditions and chains by target, responses by source (steps 2 and 3)
@@ -32,11 +33,13 @@ neverOf events tally = rowsFor events (absent events (tableAt tally followedTabl
 
 -- the excludes after steps 1 to 5
 abbrev pub fiveFrom : Set → List ℕ → List ℕ → List ℕ
-fiveFrom events tally chains = rowsOf (turned (rowsFor events (excluders events (tableAt tally beforeTable) (tableAt tally laterTable) chains)))
+fiveFrom events tally chains = rowsOf (turned
+    (rowsFor events (excluders events (tableAt tally beforeTable) (tableAt tally laterTable) chains)))
 
 -- the excludes after steps 6 and 7, from those after step 5 and what never directly follows
 abbrev pub sevenFrom : Set → List ℕ → List ℕ → List ℕ → List ℕ
-sevenFrom events tally five never = rowsFor events (notRedundant events (rowsFor events (inEither five never)) (tableAt tally unalternatedTable))
+sevenFrom events tally five never = rowsFor events
+    (notRedundant events (rowsFor events (inEither five never)) (tableAt tally unalternatedTable))
 
 abbrev pub sevenOf : Set → List ℕ → List ℕ
 sevenOf events tally = sevenFrom events tally (fiveFrom events tally (chainsOf events tally)) (neverOf events tally)

@@ -1,5 +1,5 @@
-// The conditions after step 8, and those of steps 9 and 10. Step 9 asks for a replay by the includes and excludes after step 7: a pass of its
-// own over each trace, from the first place to the last, where `seen` is the set of what stands before the place.
+// The conditions after step 8, and those of steps 9 and 10. Step 9 asks for a replay by the includes and excludes after step 7: a pass of
+// its own over each trace, from the first place to the last, where `seen` is the set of what stands before the place.
 ghost use mathlib.Core.Path.{_≡_};
 ghost use mathlib.Core.List.{[]};
 ghost use Rattle.sets.specs.Tests.{_and_, _or_, non};
@@ -39,7 +39,8 @@ fn note_waiting(e: Activity, seen: Set, included: Set, first: &mut Rows, unmet: 
 
 // What is included after e, by includes and excludes alone: e's excludes go, then its includes come.
 fn included_after<'a>(included: Set, includes: &'a Rows, excludes: &'a Rows, e: Activity) -> Set
-    ensures { λ r. ⌜ r ≡ those (λ x. mem included x and non (inRow (now (excludes .entry)) (e .0) x) or inRow (now (includes .entry)) (e .0) x) ⌝ }
+    ensures { λ r. ⌜ r ≡ those (λ x. mem included x and non (inRow (now (excludes .entry)) (e .0) x)
+        or inRow (now (includes .entry)) (e .0) x) ⌝ }
 {
     let kept = included.difference(rows::row(excludes, e));
     kept.union(rows::row(includes, e))
@@ -56,7 +57,8 @@ fn replay_trace<'a>(
     unmet: &mut Rows,
 )
     ensures before { λ _. ⌜ now (first .exit) ≡ forward (gains beforeFirst) (now (first .entry)) [] (now (trace .entry)) ⌝ }
-    ensures left { λ _. ⌜ now (unmet .exit) ≡ forward (gains (missed events (now (includes .entry)) (now (excludes .entry)))) (now (unmet .entry)) [] (now (trace .entry)) ⌝ }
+    ensures left { λ _. ⌜ now (unmet .exit) ≡ forward (gains (missed events (now (includes .entry)) (now (excludes .entry))))
+        (now (unmet .entry)) [] (now (trace .entry)) ⌝ }
 {
     let mut seen = Set::EMPTY;
     let mut included = events;
@@ -81,8 +83,11 @@ fn replay_log<'a>(
     first: &mut Rows,
     unmet: &mut Rows,
 )
-    ensures { λ _. ⌜ now (first .exit) ≡ through (λ r σ. forward (gains beforeFirst) r [] σ) (now (first .entry)) (walked (now (log .entry)) traces 0) ⌝ }
-    ensures { λ _. ⌜ now (unmet .exit) ≡ through (λ r σ. forward (gains (missed events (now (includes .entry)) (now (excludes .entry)))) r [] σ) (now (unmet .entry)) (walked (now (log .entry)) traces 0) ⌝ }
+    ensures { λ _. ⌜ now (first .exit) ≡ through (λ r σ. forward (gains beforeFirst) r [] σ) (now (first .entry))
+        (walked (now (log .entry)) traces 0) ⌝ }
+    ensures { λ _. ⌜ now (unmet .exit) ≡ through
+        (λ r σ. forward (gains (missed events (now (includes .entry)) (now (excludes .entry)))) r [] σ) (now (unmet .entry))
+        (walked (now (log .entry)) traces 0) ⌝ }
 {
     let mut k: usize = 0;
     while k < traces {
@@ -103,7 +108,8 @@ pub fn conditions_ten<'a>(
     includes: &'a Rows,
     excludes: &'a Rows,
 ) -> Rows
-    ensures { λ r. ⌜ r ≡ waitedOf events (now (eight .entry)) (now (includes .entry)) (now (excludes .entry)) (walked (now (log .entry)) traces 0) ⌝ }
+    ensures { λ r. ⌜ r ≡ waitedOf events (now (eight .entry)) (now (includes .entry)) (now (excludes .entry))
+        (walked (now (log .entry)) traces 0) ⌝ }
 {
     let mut first = rows::empty();
     let mut unmet = rows::empty();

@@ -1,5 +1,5 @@
-// The includes of steps 3 and 6. What step 6 lets in needs the pairs that never follow, so it is asked of the log in a pass of its own: over
-// each trace from the first place to the last.
+// The includes of steps 3 and 6. What step 6 lets in needs the pairs that never follow, so it is asked of the log in a pass of its own:
+// over each trace from the first place to the last.
 ghost use mathlib.Core.Path.{_≡_};
 ghost use mathlib.Core.Bool.{cond};
 ghost use mathlib.Core.List.{[]};
@@ -45,7 +45,9 @@ fn put_place(last: &mut Places, e: Activity, at: Place)
 fn last_places(trace: &[u8], last: &mut Places) -> Set
     requires { ⌜ length (now last) ≡ width ⌝ }
     ensures all { λ r. ⌜ r ≡ those (λ x. now (trace .entry) has x) ⌝ }
-    ensures places { λ _. ⌜ ((i : ℕ) → i < length (now (trace .entry)) → getD (now (trace .entry)) i 0 < width → eqb (getD (now (last .exit)) (getD (now (trace .entry)) i 0) 0) i ≡ non (drop (i + 1) (now (trace .entry)) has getD (now (trace .entry)) i 0)) ⌝ }
+    ensures places { λ _. ⌜ ((i : ℕ) → i < length (now (trace .entry)) → getD (now (trace .entry)) i 0 < width
+        → eqb (getD (now (last .exit)) (getD (now (trace .entry)) i 0) 0) i
+        ≡ non (drop (i + 1) (now (trace .entry)) has getD (now (trace .entry)) i 0)) ⌝ }
 {
     let mut all = Set::EMPTY;
     let mut i: usize = 0;
@@ -91,7 +93,8 @@ fn let_in_along<'a>(
     out: &mut Rows,
 )
     requires { ⌜ all ≡ those (λ x. now trace has x) ⌝ }
-    requires { ⌜ ((i : ℕ) → i < length (now trace) → getD (now trace) i 0 < width → eqb (getD (now last) (getD (now trace) i 0) 0) i ≡ non (drop (i + 1) (now trace) has getD (now trace) i 0)) ⌝ }
+    requires { ⌜ ((i : ℕ) → i < length (now trace) → getD (now trace) i 0 < width → eqb (getD (now last) (getD (now trace) i 0) 0) i
+        ≡ non (drop (i + 1) (now trace) has getD (now trace) i 0)) ⌝ }
     ensures { λ _. ⌜ now (out .exit) ≡ forward (gains (letIn (now (unfollowed .entry)))) (now (out .entry)) [] (now (trace .entry)) ⌝ }
 {
     let mut after = all;
@@ -118,7 +121,8 @@ fn let_in_trace<'a>(trace: &'a [u8], unfollowed: &'a Rows, out: &mut Rows)
 
 // The same, of all traces.
 fn let_in_log<'a>(log: &'a [u8], traces: usize, unfollowed: &'a Rows, out: &mut Rows)
-    ensures { λ _. ⌜ now (out .exit) ≡ through (λ r σ. forward (gains (letIn (now (unfollowed .entry)))) r [] σ) (now (out .entry)) (walked (now (log .entry)) traces 0) ⌝ }
+    ensures { λ _. ⌜ now (out .exit) ≡ through (λ r σ. forward (gains (letIn (now (unfollowed .entry)))) r [] σ) (now (out .entry))
+        (walked (now (log .entry)) traces 0) ⌝ }
 {
     let mut k: usize = 0;
     while k < traces {

@@ -1,5 +1,5 @@
--- The transitive reduction, by loops over the members of a row: what is known of a row while its targets are judged, and of a target while its
--- middles are tried. Assumes nothing.
+-- The transitive reduction, by loops over the members of a row: what is known of a row while its targets are judged, and of a target while
+-- its middles are tried. Assumes nothing.
 use Rattle.sets.specs.Members.{noSet}
 use mathlib.Core.Path.{_≡_, refl, sym, ap, _∙_, subst}
 use mathlib.Core.Bool.{Bool, true, false, not}
@@ -21,7 +21,8 @@ use Rattle.steps.specs.Rowwise.{reducedOf}
 -- ---- a turn of a loop over a set's members
 
 -- the least member is one
-least-in : (rest : Set) (a : ℕ) (r : Bool) → r ≡ isEmpty rest → not r ≡ true → a ≡ leastBelow width (mem rest) → (a < width) × T (mem rest a)
+least-in : (rest : Set) (a : ℕ) (r : Bool) → r ≡ isEmpty rest → not r ≡ true → a ≡ leastBelow width (mem rest) → (a < width)
+    × T (mem rest a)
 least-in rest a r hr ht ha =
     let some : T (someBelow width (mem rest)) = non-false _ (sym (empty-none rest) ∙ sym hr ∙ not-true r ht) in
     let low : leastBelow width (mem rest) < width = least-lt width (mem rest) some in
@@ -40,7 +41,8 @@ part-row : (rows : List ℕ) (s : ℕ) (from : Set) → from ≡ rowAt rows s �
 unfolding inRow
 part-row rows s from e a t = subst (λ (u : Set). T (mem u a)) e t
 
-part-next : (rows : List ℕ) (s a : ℕ) (rest rest′ : Set) → rest′ ≡ those (λ b. mem rest b and non (eqb b a)) → Part rows s rest → Part rows s rest′
+part-next : (rows : List ℕ) (s a : ℕ) (rest rest′ : Set) → rest′ ≡ those (λ b. mem rest b and non (eqb b a)) → Part rows s rest
+    → Part rows s rest′
 part-next rows s a rest rest′ e p b t = p b (and-l _ _ (those-e _ b (subst (λ (u : Set). T (mem u b)) e t) .1))
 
 -- ---- the middles of one pair
@@ -68,7 +70,8 @@ module _ (rows : List ℕ) (s t : ℕ) where
 
   -- the least of them is no middle
   pub trying-next : (middles middles′ one : Set) (u : ℕ) (row : Set) (r : Bool) → row ≡ rowAt rows u → r ≡ mem row t → r ≡ false
-      → one ≡ those (λ b. eqb b u) → middles′ ≡ those (λ b. mem middles b and non (mem one b)) → Trying rows s t middles → Trying rows s t middles′
+      → one ≡ those (λ b. eqb b u) → middles′ ≡ those (λ b. mem middles b and non (mem one b)) → Trying rows s t middles
+      → Trying rows s t middles′
   unfolding inRow
   trying-next middles middles′ one u row r hr hh hf ho hm h =
       let e = without middles middles′ one u ho hm in
@@ -77,7 +80,8 @@ module _ (rows : List ℕ) (s t : ℕ) where
         ahead = λ v l a b.
             subst (λ (w : Set). T (mem w v)) (sym e)
             (those-i _ v l (and-i _ _ (h .ahead v l a b) (non-i _ (λ q.
-            false→F (sym hh ∙ hf) (subst (λ (w : Set). T (mem w t)) (sym hr) (subst (λ (n : ℕ). T (mem (rowAt rows n) t)) (eqb→eq v u q) b))))));
+            false→F (sym hh ∙ hf) (subst (λ (w : Set). T (mem w t)) (sym hr)
+            (subst (λ (n : ℕ). T (mem (rowAt rows n) t)) (eqb→eq v u q) b))))));
       }
 
 -- ---- the targets of one source
@@ -111,15 +115,18 @@ kept-too false m false h = refl
 kept-too true true q h = sym (non-non q)
 kept-too true false q h = refl
 
-module _ (rows : List ℕ) (s t : ℕ) (kept targets targets′ one : Set) (ho : one ≡ those (λ b. eqb b t)) (hm : targets′ ≡ those (λ b. mem targets b and non (mem one b))) where
+module _ (rows : List ℕ) (s t : ℕ) (kept targets targets′ one : Set) (ho : one ≡ those (λ b. eqb b t))
+    (hm : targets′ ≡ those (λ b. mem targets b and non (mem one b))) where
   left : targets′ ≡ those (λ b. mem targets b and non (eqb b t))
   left = without targets targets′ one t ho hm
 
-  less : those (λ x. reducedOf rows s x and non (mem targets′ x)) ≡ those (λ x. reducedOf rows s x and non (mem targets x and non (eqb x t)))
+  less : those (λ x. reducedOf rows s x and non (mem targets′ x))
+      ≡ those (λ x. reducedOf rows s x and non (mem targets x and non (eqb x t)))
   less = those-of targets′ (λ b. mem targets b and non (eqb b t)) (λ x m. reducedOf rows s x and non m) left
 
   -- a middle was found: the pair goes
-  pub judging-goes : (middles : Set) (u : ℕ) (empty : Bool) (row : Set) (r : Bool) → empty ≡ isEmpty middles → not empty ≡ true → u ≡ leastBelow width (mem middles)
+  pub judging-goes : (middles : Set) (u : ℕ) (empty : Bool) (row : Set) (r : Bool) → empty ≡ isEmpty middles → not empty ≡ true → u
+      ≡ leastBelow width (mem middles)
       → row ≡ rowAt rows u → r ≡ mem row t → r ≡ true → Trying rows s t middles → Judging rows s kept targets → Judging rows s kept targets′
   unfolding inRow
   judging-goes middles u empty row r he hn hu hr hh ht m h =
@@ -127,13 +134,16 @@ module _ (rows : List ℕ) (s t : ℕ) (kept targets targets′ one : Set) (ho :
       let out = goes rows s t u (l .0) (m .part u (l .1)) (subst (λ (w : Set). T (mem w t)) hr (true→T (sym hh ∙ ht))) in
       record {
         part = part-next rows s t targets targets′ left (h .part);
-        judged = h .judged ∙ those-ext _ _ (λ x l. gone (reducedOf rows s x) (mem targets x) (eqb x t) (λ q k. out (subst (λ (n : ℕ). T (reducedOf rows s n)) (eqb→eq x t q) k))) ∙ sym less;
+        judged = h .judged ∙ those-ext _ _ (λ x l. gone (reducedOf rows s x) (mem targets x) (eqb x t)
+            (λ q k. out (subst (λ (n : ℕ). T (reducedOf rows s n)) (eqb→eq x t q) k))) ∙ sym less;
       }
 
   -- no middle is left: the pair stays
-  pub judging-stays : (middles same kept′ : Set) (r first : Bool) → first ≡ isEmpty targets → not first ≡ true → t ≡ leastBelow width (mem targets)
+  pub judging-stays : (middles same kept′ : Set) (r first : Bool) → first ≡ isEmpty targets → not first ≡ true → t
+      ≡ leastBelow width (mem targets)
       → r ≡ isEmpty middles → not r ≡ false → same ≡ those (λ b. eqb b t)
-      → kept′ ≡ those (λ a. mem kept a or mem same a) → Trying rows s t middles → Judging rows s kept targets → Judging rows s kept′ targets′
+      → kept′ ≡ those (λ a. mem kept a or mem same a) → Trying rows s t middles → Judging rows s kept targets
+      → Judging rows s kept′ targets′
   judging-stays middles same kept′ r first hf hn hl hr he hs hk m h =
       let in-row = h .part t (least-in targets t first hf hn hl .1) in
       let stay = stays rows s t in-row (λ u l a b. empty-e middles (true→T (sym hr ∙ not-false r he)) u l (m .ahead u l a b)) in
@@ -142,14 +152,17 @@ module _ (rows : List ℕ) (s t : ℕ) (kept targets targets′ one : Set) (ho :
         judged =
             hk ∙ those-of same (λ b. eqb b t) (λ a q. mem kept a or q) hs
             ∙ those-of kept (λ x. reducedOf rows s x and non (mem targets x)) (λ a k. k or eqb a t) (h .judged)
-            ∙ those-ext _ _ (λ x l. kept-too (reducedOf rows s x) (mem targets x) (eqb x t) (λ q. subst (λ (n : ℕ). T (reducedOf rows s n)) (sym (eqb→eq x t q)) stay))
+            ∙ those-ext _ _ (λ x l. kept-too (reducedOf rows s x) (mem targets x) (eqb x t)
+            (λ q. subst (λ (n : ℕ). T (reducedOf rows s n)) (sym (eqb→eq x t q)) stay))
             ∙ sym less;
       }
 
 -- no target is left: the row is the reduction's
-pub judging-end : (rows : List ℕ) (s : ℕ) (kept targets : Set) (r : Bool) → r ≡ isEmpty targets → not r ≡ false → Judging rows s kept targets
+pub judging-end : (rows : List ℕ) (s : ℕ) (kept targets : Set) (r : Bool) → r ≡ isEmpty targets → not r ≡ false
+    → Judging rows s kept targets
     → kept ≡ those (reducedOf rows s)
 unfolding non
 judging-end rows s kept targets r hr he h =
     let none = empty-e targets (true→T (sym hr ∙ not-false r he)) in
-    h .judged ∙ those-ext _ _ (λ x l. ap (λ (t : Bool). reducedOf rows s x and non t) (F→false (mem targets x) (none x l)) ∙ and-true (reducedOf rows s x))
+    h .judged ∙ those-ext _ _ (λ x l. ap (λ (t : Bool). reducedOf rows s x and non t) (F→false (mem targets x) (none x l))
+    ∙ and-true (reducedOf rows s x))

@@ -25,7 +25,8 @@ module _ (before chains : List ℕ) (a : ℕ) (row : Set) (q : Bool) (hw : row �
   unfolding excludesItself _or_ non
   never-again n = sym (ap (λ (t : Bool). non t or someBelow width (λ u. inRow chains a u)) (again ∙ not-true q n))
 
-  pub only-after : (row′ : Set) (e : Bool) → not q ≡ false → row′ ≡ rowAt chains a → e ≡ isEmpty row′ → not e ≡ excludesItself before chains a
+  pub only-after : (row′ : Set) (e : Bool) → not q ≡ false → row′ ≡ rowAt chains a → e ≡ isEmpty row′ → not e
+      ≡ excludesItself before chains a
   unfolding excludesItself inRow _or_ non
   only-after row′ e z hc he =
       not-non e ∙ ap non (he ∙ empty-none row′) ∙ non-non (someBelow width (mem row′)) ∙ ap (λ (s : Set). someBelow width (mem s)) hc
@@ -41,7 +42,8 @@ smallest-is s one k hk ho =
     T-ext (eqb a k) (mem s a and eqb a (leastBelow width (mem s)))
     (λ t.
     let same : a ≡ leastBelow width (mem s) = eqb→eq a k t ∙ hk in
-    and-i _ _ (subst (λ (n : ℕ). T (mem s n)) (sym same) (least-is width (mem s) (subst (λ (n : ℕ). n < width) same l))) (subst (λ (n : ℕ). T (eqb a n)) hk t))
+    and-i _ _ (subst (λ (n : ℕ). T (mem s n)) (sym same) (least-is width (mem s) (subst (λ (n : ℕ). n < width) same l)))
+    (subst (λ (n : ℕ). T (eqb a n)) hk t))
     (λ t. subst (λ (n : ℕ). T (eqb a n)) (sym hk) (and-r _ _ t)))
 
 -- of a set that is known
@@ -62,7 +64,11 @@ unfolding excluders
 excluders-are events before later chains a itself sources four closed five own both r hi hs h4 hc h5 ho hb hr =
     let step4 = smallest-of sources four (apart events before later a) hs h4 in
     let step5 = smallest-of closed five (closing events itself before later a) hc h5 in
-    let two = joined _or_ own four both (λ x. itself and eqb x a) (smallest (apart events before later a)) (is-those own (λ x. itself and eqb x a) ho) (is-those four (smallest (apart events before later a)) step4) hb in
-    joined _or_ both five r (λ x. itself and eqb x a or smallest (apart events before later a) x) (smallest (closing events itself before later a))
-    (is-those both (λ x. itself and eqb x a or smallest (apart events before later a) x) two) (is-those five (smallest (closing events itself before later a)) step5) hr
-    ∙ ap (λ (b : Bool). those (λ x. b and eqb x a or smallest (apart events before later a) x or smallest (closing events b before later a) x)) hi
+    let two = joined _or_ own four both (λ x. itself and eqb x a) (smallest (apart events before later a))
+    (is-those own (λ x. itself and eqb x a) ho) (is-those four (smallest (apart events before later a)) step4) hb in
+    joined _or_ both five r (λ x. itself and eqb x a or smallest (apart events before later a) x)
+    (smallest (closing events itself before later a))
+    (is-those both (λ x. itself and eqb x a or smallest (apart events before later a) x) two)
+    (is-those five (smallest (closing events itself before later a)) step5) hr
+    ∙ ap (λ (b : Bool). those (λ x. b and eqb x a or smallest (apart events before later a) x
+    or smallest (closing events b before later a) x)) hi

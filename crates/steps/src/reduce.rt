@@ -7,9 +7,9 @@ use sets::Rows;
 use sets::Set;
 use sets::rows;
 
-// The relation, at the events, without the pairs from a source to a target that a middle activity joins too; the first middle decides. Every pair is
-// judged on `rows`, which stay as they are, so the order of the pairs makes no difference. Rows by target serve as well as rows by
-// source: a pair turned round is joined by the same middles.
+// The relation, at the events, without the pairs from a source to a target that a middle activity joins too; the first middle decides.
+// Every pair is judged on `rows`, which stay as they are, so the order of the pairs makes no difference. Rows by target serve as well as
+// rows by source: a pair turned round is joined by the same middles.
 pub fn reduced(events: Set, rows: &Rows) -> Rows
     ensures { λ r. ⌜ r ≡ rowsFor events (reducedOf (now (rows .entry))) ⌝ }
 {

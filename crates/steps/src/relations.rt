@@ -6,7 +6,8 @@ ghost use Rattle.sets.specs.Tests.{_and_, non};
 ghost use Rattle.sets.specs.Members.{width, mem, those, someBelow, leastBelow};
 ghost use Rattle.sets.specs.Rows.{rowAt, inRow, rowsFor};
 ghost use Rattle.sets.specs.Tables.{tableAt};
-ghost use Rattle.steps.specs.Rowwise.{unbroken, absent, excludesItself, smallest, apart, closing, excluders, inEither, notRedundant, waited};
+ghost use Rattle.steps.specs.Rowwise.{unbroken, absent, excludesItself, smallest, apart, closing, excluders, inEither, notRedundant};
+ghost use Rattle.steps.specs.Rowwise.{waited};
 use sets::Activity;
 use sets::Rows;
 use sets::Set;
@@ -96,7 +97,8 @@ fn excluders<'a>(
     chains: &'a Rows,
     a: Activity,
 ) -> Set
-    ensures { λ r. ⌜ r ≡ those (excluders events (tableAt (now (tables .entry)) before) (tableAt (now (tables .entry)) later) (now (chains .entry)) (a .0)) ⌝ }
+    ensures { λ r. ⌜ r ≡ those (excluders events (tableAt (now (tables .entry)) before) (tableAt (now (tables .entry)) later)
+        (now (chains .entry)) (a .0)) ⌝ }
 {
     let itself = excludes_itself(tables, before, chains, a);
     let four = smallest(apart_row(events, tables, before, later, a));
@@ -112,7 +114,8 @@ pub fn excluded_by<'a>(
     later: u8,
     chains: &'a Rows,
 ) -> Rows
-    ensures { λ r. ⌜ r ≡ rowsFor events (excluders events (tableAt (now (tables .entry)) before) (tableAt (now (tables .entry)) later) (now (chains .entry))) ⌝ }
+    ensures { λ r. ⌜ r ≡ rowsFor events (excluders events (tableAt (now (tables .entry)) before) (tableAt (now (tables .entry)) later)
+        (now (chains .entry))) ⌝ }
 {
     let mut out = rows::empty();
     let mut a = events.least();
@@ -222,7 +225,8 @@ pub fn not_redundant<'a>(
 
 // What stands before the first a of some trace, and is missed at no a.
 fn waited_for<'a>(ahead: &'a Rows, missed: &'a Rows, a: Activity) -> Set
-    ensures { λ r. ⌜ r ≡ those (λ x. non (eqb x (a .0)) and inRow (now (ahead .entry)) (a .0) x and non (inRow (now (missed .entry)) (a .0) x)) ⌝ }
+    ensures { λ r. ⌜ r ≡ those (λ x. non (eqb x (a .0)) and inRow (now (ahead .entry)) (a .0) x and non
+        (inRow (now (missed .entry)) (a .0) x)) ⌝ }
 {
     let other = Set::one(a).complement();
     other

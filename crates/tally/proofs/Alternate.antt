@@ -1,4 +1,5 @@
--- One place of the pass for alternate precedence: at a repeat it looks back, at a first e of a trace it goes by what was seen. Assumes nothing.
+-- One place of the pass for alternate precedence: at a repeat it looks back, at a first e of a trace it goes by what was seen. Assumes
+-- nothing.
 use mathlib.Core.Path.{_≡_, refl, sym, ap, _∙_}
 use mathlib.Core.Bool.{Bool, true, false}
 use mathlib.Core.List.{List, []}
@@ -53,11 +54,13 @@ module _ (tables : List ℕ) (k e : ℕ) (past : List ℕ) (seen : Set) (r : Boo
       h
       ∙ ap (withRowIn tables k e)
       (those-of others (λ x. non (mem seen x)) (λ x t. mem (rowAt (tableAt tables k) e) x or t) ho
-      ∙ ap (λ (t : Bool). those (λ x. mem (rowAt (tableAt tables k) e) x or (when t then notSince e past [] x else non (mem seen x)))) (sym ht ∙ hr))
+      ∙ ap (λ (t : Bool). those (λ x. mem (rowAt (tableAt tables k) e) x or (when t then notSince e past [] x else non (mem seen x))))
+      (sym ht ∙ hr))
 
 -- either way the row gains the fact of the place
 pub since-noted : (tables : List ℕ) (k e : ℕ) (past rest : List ℕ) (seen : Set) (out : List ℕ) → seen ≡ seenIn past
-    → out ≡ notedIn tables k e (λ x. when mem seen e then notSince e past [] x else non (mem seen x)) → out ≡ notedIn tables k e (notSince e past rest)
+    → out ≡ notedIn tables k e (λ x. when mem seen e then notSince e past [] x else non (mem seen x)) → out
+    ≡ notedIn tables k e (notSince e past rest)
 unfolding notedIn notSince
 since-noted tables k e past rest seen out hs h =
     h ∙ either (split (ltb e width)) (λ l. inside (ltb-true e width (T→true _ l))) (λ g. outside (ltb-false e width (F→false _ g)))
@@ -65,18 +68,25 @@ since-noted tables k e past rest seen out hs h =
     member : (x : ℕ) → x < width → mem seen x ≡ past has x
     member x l = ap (λ (s : Set). mem s x) hs ∙ mem-those (λ y. past has y) x l
 
-    pick : (x : ℕ) → x < width → (t : Bool) → past has e ≡ t → (when t then non (since e x [] past) else non (mem seen x)) ≡ non (since e x [] past)
+    pick : (x : ℕ) → x < width → (t : Bool) → past has e ≡ t → (when t then non (since e x [] past) else non (mem seen x))
+        ≡ non (since e x [] past)
     pick x l true q = refl
     pick x l false q = ap non (member x l ∙ sym (since-all e x [] past none q))
       where
         none : [] has e ≡ false
         none = unfold _has_ in refl
 
-    inside : e < width → withRowIn tables k e (those (λ x. mem (rowAt (tableAt tables k) e) x or (when mem seen e then non (since e x [] past) else non (mem seen x)))) ≡ withRowIn tables k e (those (λ x. mem (rowAt (tableAt tables k) e) x or non (since e x [] past)))
+    inside : e < width → withRowIn tables k e
+        (those (λ x. mem (rowAt (tableAt tables k) e) x or (when mem seen e then non (since e x [] past) else non (mem seen x))))
+        ≡ withRowIn tables k e (those (λ x. mem (rowAt (tableAt tables k) e) x or non (since e x [] past)))
     inside l =
         ap (withRowIn tables k e)
-        (those-ext (λ x. mem (rowAt (tableAt tables k) e) x or (when mem seen e then non (since e x [] past) else non (mem seen x))) (λ x. mem (rowAt (tableAt tables k) e) x or non (since e x [] past))
-        (λ x lx. ap (λ (t : Bool). mem (rowAt (tableAt tables k) e) x or t) (ap (λ (t : Bool). when t then non (since e x [] past) else non (mem seen x)) (member e l) ∙ pick x lx (past has e) refl)))
+        (those-ext (λ x. mem (rowAt (tableAt tables k) e) x or (when mem seen e then non (since e x [] past) else non (mem seen x)))
+        (λ x. mem (rowAt (tableAt tables k) e) x or non (since e x [] past))
+        (λ x lx. ap (λ (t : Bool). mem (rowAt (tableAt tables k) e) x or t)
+        (ap (λ (t : Bool). when t then non (since e x [] past) else non (mem seen x)) (member e l) ∙ pick x lx (past has e) refl)))
 
-    outside : width ≤ e → withRowIn tables k e (those (λ x. mem (rowAt (tableAt tables k) e) x or (when mem seen e then non (since e x [] past) else non (mem seen x)))) ≡ withRowIn tables k e (those (λ x. mem (rowAt (tableAt tables k) e) x or non (since e x [] past)))
+    outside : width ≤ e → withRowIn tables k e
+        (those (λ x. mem (rowAt (tableAt tables k) e) x or (when mem seen e then non (since e x [] past) else non (mem seen x))))
+        ≡ withRowIn tables k e (those (λ x. mem (rowAt (tableAt tables k) e) x or non (since e x [] past)))
     outside g = sym (table-put-above tables k e _ g) ∙ table-put-above tables k e _ g

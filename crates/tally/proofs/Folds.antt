@@ -17,7 +17,8 @@ module _ (p : Fact) where
   abbrev pub said : List ℕ → List ℕ → Relation
   said past rest a x = atSomeFrom a (λ q s. p a q s x) past rest
 
-  gains-rowsOf : (r : Relation) (e : ℕ) (past rest : List ℕ) → gains p (rowsOf r) e past rest ≡ rowsOf (λ a x. r a x or eqb a e and p e past rest x)
+  gains-rowsOf : (r : Relation) (e : ℕ) (past rest : List ℕ) → gains p (rowsOf r) e past rest
+      ≡ rowsOf (λ a x. r a x or eqb a e and p e past rest x)
   unfolding gains gained
   gains-rowsOf r e past rest = gain-rowsOf r e (p e past rest)
 
@@ -26,9 +27,11 @@ module _ (p : Fact) where
     where
       pick : (t : Bool) → eqb a e ≡ t → (eqb a e and p e past rest x) ≡ (eqb a e and p a past rest x)
       pick true h = ap (λ (n : ℕ). eqb a e and p n past rest x) (sym (eqb-true a e h))
-      pick false h = ap (λ (t : Bool). t and p e past rest x) h ∙ false-and _ ∙ sym (false-and _) ∙ ap (λ (t : Bool). t and p a past rest x) (sym h)
+      pick false h = ap (λ (t : Bool). t and p e past rest x) h ∙ false-and _ ∙ sym (false-and _)
+          ∙ ap (λ (t : Bool). t and p a past rest x) (sym h)
 
-  pub forward-rowsOf : (r : Relation) (past rest : List ℕ) → forward (gains p) (rowsOf r) past rest ≡ rowsOf (λ a x. r a x or said past rest a x)
+  pub forward-rowsOf : (r : Relation) (past rest : List ℕ) → forward (gains p) (rowsOf r) past rest
+      ≡ rowsOf (λ a x. r a x or said past rest a x)
   unfolding forward atSomeFrom
   forward-rowsOf r past [] = rowsOf-ext r (λ a x. r a x or false) (λ a x ha hx. sym (or-false (r a x)))
   forward-rowsOf r past (e ∷ rest) =
@@ -39,7 +42,8 @@ module _ (p : Fact) where
       or-assoc (r a x) (eqb a e and p e past rest x) (said (e ∷ past) rest a x)
       ∙ ap (λ (b : Bool). r a x or (b or said (e ∷ past) rest a x)) (at-e a e past rest x))
 
-  pub backward-rowsOf : (r : Relation) (past rest : List ℕ) → backward (gains p) (rowsOf r) past rest ≡ rowsOf (λ a x. r a x or said past rest a x)
+  pub backward-rowsOf : (r : Relation) (past rest : List ℕ) → backward (gains p) (rowsOf r) past rest
+      ≡ rowsOf (λ a x. r a x or said past rest a x)
   unfolding backward atSomeFrom
   backward-rowsOf r past [] = rowsOf-ext r (λ a x. r a x or false) (λ a x ha hx. sym (or-false (r a x)))
   backward-rowsOf r past (e ∷ rest) =

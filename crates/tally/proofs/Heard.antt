@@ -15,7 +15,8 @@ use Rattle.tally.proofs.Folds.{heard}
 
 -- ---- not at each place is at some place not
 
-pub non-every : (t : ℕ) (p : List ℕ → List ℕ → Bool) (L : Traces) → non (everyTrace L (atEach t p)) ≡ someTrace L (atSome t (λ q s. non (p q s)))
+pub non-every : (t : ℕ) (p : List ℕ → List ℕ → Bool) (L : Traces) → non (everyTrace L (atEach t p))
+    ≡ someTrace L (atSome t (λ q s. non (p q s)))
 non-every t p L =
     (λ i. non (everyTrace L (atEach t (λ q s. sym (non-non (p q s)) i))))
     ∙ ap non
@@ -54,7 +55,8 @@ module _ (s t : ℕ) where
       ∙ swap (eqb t x) (past has s) (eqb s x) (rest has t) (atSomeFrom s (λ q r. r has t) (x ∷ past) rest)
 
   next-from : (past rest : List ℕ)
-      → atSomeFrom t (λ q r. q beginsWith s) past rest ≡ (past beginsWith s and rest beginsWith t or atSomeFrom s (λ q r. r beginsWith t) past rest)
+      → atSomeFrom t (λ q r. q beginsWith s) past rest
+      ≡ (past beginsWith s and rest beginsWith t or atSomeFrom s (λ q r. r beginsWith t) past rest)
   unfolding atSomeFrom _beginsWith_
   next-from past [] = sym (none (past beginsWith s))
     where

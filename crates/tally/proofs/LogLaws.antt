@@ -1,5 +1,5 @@
--- What the rules ask of a log, in other words: what every place has, some place lacks; two activities stand together where one stands before
--- the other. Assumes nothing.
+-- What the rules ask of a log, in other words: what every place has, some place lacks; two activities stand together where one stands
+-- before the other. Assumes nothing.
 use mathlib.Core.Path.{_≡_, refl, sym, ap, ap₂, _∙_}
 use mathlib.Core.Bool.{Bool, true, false}
 use mathlib.Core.List.{List, [], _∷_}
@@ -17,11 +17,13 @@ neither : (a b : Bool) → non (a or b) ≡ (non a and non b)
 unfolding _and_ _or_ non
 neither = by2 (λ a b. non (a or b)) (λ a b. non a and non b) tt
 
-pub each-non : (t : ℕ) (p : List ℕ → List ℕ → Bool) (past rest : List ℕ) → atEachFrom t (λ q r. non (p q r)) past rest ≡ non (atSomeFrom t p past rest)
+pub each-non : (t : ℕ) (p : List ℕ → List ℕ → Bool) (past rest : List ℕ) → atEachFrom t (λ q r. non (p q r)) past rest
+    ≡ non (atSomeFrom t p past rest)
 unfolding atEachFrom atSomeFrom non
 each-non t p past [] = refl
 each-non t p past (x ∷ rest) =
-    ap₂ _and_ (sym (non-and (eqb t x) (p past rest))) (each-non t p (x ∷ past) rest) ∙ sym (neither (eqb t x and p past rest) (atSomeFrom t p (x ∷ past) rest))
+    ap₂ _and_ (sym (non-and (eqb t x) (p past rest))) (each-non t p (x ∷ past) rest)
+    ∙ sym (neither (eqb t x and p past rest) (atSomeFrom t p (x ∷ past) rest))
 
 pub every-non : (L : Traces) (p q : List ℕ → Bool) → ((σ : List ℕ) → q σ ≡ non (p σ)) → everyTrace L q ≡ non (someTrace L p)
 unfolding everyTrace someTrace non
@@ -53,10 +55,12 @@ once L s =
 -- ---- step 4: together is before, one way or the other
 
 -- what stood before the start stands before every place
-from-past : (et es ps st a : Bool) → (et and ps or ((es or ps) and st or a)) ≡ (ps and (et or st) or (et and false or ((es or false) and st or a)))
+from-past : (et es ps st a : Bool) → (et and ps or ((es or ps) and st or a))
+    ≡ (ps and (et or st) or (et and false or ((es or false) and st or a)))
 unfolding _and_ _or_ non
 from-past =
-    by5 (λ et es ps st a. et and ps or ((es or ps) and st or a)) (λ et es ps st a. ps and (et or st) or (et and false or ((es or false) and st or a))) tt
+    by5 (λ et es ps st a. et and ps or ((es or ps) and st or a))
+    (λ et es ps st a. ps and (et or st) or (et and false or ((es or false) and st or a))) tt
 
 none-left : (ps : Bool) → false ≡ (ps and false or false)
 unfolding _and_ _or_
@@ -97,7 +101,8 @@ module _ (s t : ℕ) (d : s ≡ t → ⊥) where
   together-trace [] = refl
   together-trace (x ∷ σ) =
       both-ways (eqb s x) (eqb t x) (σ has s) (σ has t) (preceded s t [] σ) (preceded t s [] σ) (apart x) (together-trace σ)
-      ∙ ap₂ (λ (b c : Bool). eqb t x and false or b or (eqb s x and false or c)) (sym (preceded-from s t (x ∷ []) σ)) (sym (preceded-from t s (x ∷ []) σ))
+      ∙ ap₂ (λ (b c : Bool). eqb t x and false or b or (eqb s x and false or c)) (sym (preceded-from s t (x ∷ []) σ))
+      (sym (preceded-from t s (x ∷ []) σ))
 
   pub together-before : (L : Traces) → together L s t ≡ (before L s t or before L t s)
   unfolding together before
@@ -113,7 +118,8 @@ module _ (u : ℕ) (p : List ℕ → List ℕ → Bool) where
   stands past [] h = h
   stands past (x ∷ σ) h = either (or-e _ _ h) (λ k. or-l _ _ (and-l _ _ k)) (λ k. or-r _ _ (stands (x ∷ past) σ k))
 
-  follows : (t : ℕ) → ((past rest : List ℕ) → T (p past rest) → T (rest has t)) → (past σ : List ℕ) → T (atSomeFrom u p past σ) → T (σ has t)
+  follows : (t : ℕ) → ((past rest : List ℕ) → T (p past rest) → T (rest has t)) → (past σ : List ℕ) → T (atSomeFrom u p past σ)
+      → T (σ has t)
   unfolding atSomeFrom _has_
   follows t f past [] h = h
   follows t f past (x ∷ σ) h = either (or-e _ _ h) (λ k. or-r _ _ (f past σ (and-r _ _ k))) (λ k. or-r _ _ (follows t f (x ∷ past) σ k))
@@ -126,7 +132,8 @@ some-more (σ ∷ L) p q f h = either (or-e _ _ h) (λ k. or-l _ _ (f σ k)) (λ
 module _ (L : Traces) (s u t : ℕ) (h : T (between L s u t)) where
   pub middle-event : T (event L u)
   unfolding between event
-  middle-event = some-more L (atSomeFrom u (λ past rest. past has s and rest has t) []) (λ σ. σ has u) (stands u (λ past rest. past has s and rest has t) []) h
+  middle-event = some-more L (atSomeFrom u (λ past rest. past has s and rest has t) []) (λ σ. σ has u)
+      (stands u (λ past rest. past has s and rest has t) []) h
 
   pub later-event : T (event L t)
   unfolding between event

@@ -26,7 +26,8 @@ pub since-met : (e x : ℕ) (near far : List ℕ) → near has e ≡ true → si
 unfolding atSomeFrom _has_ _and_ _or_ non
 since-met e x near [] h = refl
 since-met e x near (y ∷ far) h =
-    ap₂ _or_ (ap (λ (t : Bool). eqb x y and non t) h ∙ none (eqb x y)) (since-met e x (y ∷ near) far (ap (λ (t : Bool). eqb e y or t) h ∙ or-true (eqb e y)))
+    ap₂ _or_ (ap (λ (t : Bool). eqb x y and non t) h ∙ none (eqb x y))
+    (since-met e x (y ∷ near) far (ap (λ (t : Bool). eqb e y or t) h ∙ or-true (eqb e y)))
   where
     none : (t : Bool) → (t and false) ≡ false
     none true = refl
@@ -47,7 +48,8 @@ unfolding _has_ atSomeFrom
 since-all e x near [] h k = refl
 since-all e x near (y ∷ past) h k =
     let apart = or-none _ _ k in
-    since-step e x y near past h ∙ ap (λ (t : Bool). eqb x y or t) (since-all e x (y ∷ near) past (ap₂ _or_ (apart .0) h ∙ or-false false) (apart .1))
+    since-step e x y near past h ∙ ap (λ (t : Bool). eqb x y or t)
+    (since-all e x (y ∷ near) past (ap₂ _or_ (apart .0) h ∙ or-false false) (apart .1))
 
 -- what is still wanted of a set, i places being left of `past`
 abbrev pub wantedOf : ℕ → List ℕ → Set → Set
@@ -118,7 +120,8 @@ module _ (i : ℕ) {past : List ℕ} {e : ℕ} {wanted left : Set} (inv : Looked
   pub look-stop : getD past i 0 ≡ e → left′ ≡ wantedOf e past wanted
   unfolding _has_ _or_ non
   look-stop q =
-      let met : drop i past has e ≡ true = ap (λ (l : List ℕ). l has e) (rest-next past i here) ∙ ap (λ (t : Bool). t or drop (i + 1) past has e) (eq-eqb e (getD past i 0) (sym q)) in
+      let met : drop i past has e ≡ true = ap (λ (l : List ℕ). l has e) (rest-next past i here)
+      ∙ ap (λ (t : Bool). t or drop (i + 1) past has e) (eq-eqb e (getD past i 0) (sym q)) in
       sym set′
       ∙ those-ext (mem left′) (λ x. mem left′ x and non (since e x (drop i past) (pastAt past i)))
       (λ x l. sym (ap (λ (t : Bool). mem left′ x and non t) (since-met e x (drop i past) (pastAt past i) met) ∙ and-true (mem left′ x)))
@@ -131,7 +134,8 @@ module _ {past : List ℕ} {e i : ℕ} {wanted left : Set} (inv : Looked past e 
   look-empty r hr ht =
       sym (inv .is-set)
       ∙ those-ext (mem left) (λ x. mem left x and non (since e x (drop i past) (pastAt past i)))
-      (λ x l. let gone : mem left x ≡ false = F→false _ (λ t. empty-e left (true→T (sym hr ∙ ht)) x l t) in gone ∙ sym (ap (λ (t : Bool). t and non (since e x (drop i past) (pastAt past i))) gone))
+      (λ x l. let gone : mem left x ≡ false = F→false _ (λ t. empty-e left (true→T (sym hr ∙ ht)) x l t) in gone
+      ∙ sym (ap (λ (t : Bool). t and non (since e x (drop i past) (pastAt past i))) gone))
       ∙ inv .whole
 
   -- the start of the trace

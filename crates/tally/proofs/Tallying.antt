@@ -14,25 +14,31 @@ use Rattle.sets.proofs.RowLaws.{rowsOf-ext, empty-rowsOf}
 use Rattle.sets.proofs.TableLaws.{table-put-same, table-put-other, empty-tablesOf, table-tablesOf}
 use Rattle.rules.specs.Traces.{Traces}
 use Rattle.rules.specs.Mining.{precedes, answers, chained, before, followed, alternates}
-use Rattle.tally.specs.Passes.{Fact, Turn, gained, gains, notedIn, forward, backward, through, isEarlier, notEarlier, notDirectly, notSince, isLater, notLater, isNext}
-use Rattle.tally.specs.Tallies.{tableCount, beforeTable, laterTable, unprecededTable, unansweredTable, unchainedTable, unalternatedTable, followedTable, notePast, noteSince, noteRest, noted, tallied}
+use Rattle.tally.specs.Passes.{Fact, Turn, gained, gains, notedIn, forward, backward, through, isEarlier, notEarlier, notDirectly}
+use Rattle.tally.specs.Passes.{notSince, isLater, notLater, isNext}
+use Rattle.tally.specs.Tallies.{tableCount, beforeTable, laterTable, unprecededTable, unansweredTable, unchainedTable}
+use Rattle.tally.specs.Tallies.{unalternatedTable, followedTable, notePast, noteSince, noteRest, noted, tallied}
 use Rattle.tally.proofs.Folds.{said, heard, forward-rowsOf, backward-rowsOf, through-all}
-use Rattle.tally.proofs.Heard.{heard-before, heard-later, heard-unpreceded, heard-unanswered, heard-unchained, heard-unalternated, heard-followed}
+use Rattle.tally.proofs.Heard.{heard-before, heard-later, heard-unpreceded, heard-unanswered, heard-unchained, heard-unalternated}
+use Rattle.tally.proofs.Heard.{heard-followed}
 
 -- ---- a table of a pass is a pass over the table
 
-module _ (k : ℕ) (whole one : Turn) (h : (tally : List ℕ) (e : ℕ) (past rest : List ℕ) → tableAt (whole tally e past rest) k ≡ one (tableAt tally k) e past rest) where
+module _ (k : ℕ) (whole one : Turn) (h : (tally : List ℕ) (e : ℕ) (past rest : List ℕ) → tableAt (whole tally e past rest) k
+    ≡ one (tableAt tally k) e past rest) where
   forward-table : (tally past rest : List ℕ) → tableAt (forward whole tally past rest) k ≡ forward one (tableAt tally k) past rest
   unfolding forward
   forward-table tally past [] = refl
   forward-table tally past (e ∷ rest) =
-      forward-table (whole tally e past rest) (e ∷ past) rest ∙ ap (λ (rows : List ℕ). forward one rows (e ∷ past) rest) (h tally e past rest)
+      forward-table (whole tally e past rest) (e ∷ past) rest
+      ∙ ap (λ (rows : List ℕ). forward one rows (e ∷ past) rest) (h tally e past rest)
 
   backward-table : (tally past rest : List ℕ) → tableAt (backward whole tally past rest) k ≡ backward one (tableAt tally k) past rest
   unfolding backward
   backward-table tally past [] = refl
   backward-table tally past (e ∷ rest) =
-      h (backward whole tally (e ∷ past) rest) e past rest ∙ ap (λ (rows : List ℕ). one rows e past rest) (backward-table tally (e ∷ past) rest)
+      h (backward whole tally (e ∷ past) rest) e past rest
+      ∙ ap (λ (rows : List ℕ). one rows e past rest) (backward-table tally (e ∷ past) rest)
 
 -- ---- what each pass does to table k
 
@@ -77,7 +83,8 @@ module _ (k : ℕ) where
   noted-at : (tally σ : List ℕ) → tableAt (noted tally σ) k ≡ notedAt (tableAt tally k) σ
   unfolding noted
   noted-at tally σ =
-      backward-table k noteRest restIn (λ t e past rest. unfold noteRest in thrice-table t _ _ _ e _ _ _ k) (forward noteSince (forward notePast tally [] σ) [] σ) [] σ
+      backward-table k noteRest restIn (λ t e past rest. unfold noteRest in thrice-table t _ _ _ e _ _ _ k)
+      (forward noteSince (forward notePast tally [] σ) [] σ) [] σ
       ∙ ap (λ (rows : List ℕ). backward restIn rows [] σ)
       (forward-table k noteSince sinceIn (λ t e past rest. unfold noteSince in noted-table t _ e _ k) (forward notePast tally [] σ) [] σ
       ∙ ap (λ (rows : List ℕ). forward sinceIn rows [] σ)
@@ -142,19 +149,23 @@ module _ (L : Traces) where
 
   pub unpreceded-table : tableAt (tallied L) unprecededTable ≡ rowsOf (λ t s. non (precedes L s t))
   unfolding gains
-  unpreceded-table = table-is unprecededTable (omega arith) notEarlier (λ t s. non (precedes L s t)) L (past-alone notEarlier) (heard-unpreceded L)
+  unpreceded-table = table-is unprecededTable (omega arith) notEarlier (λ t s. non (precedes L s t)) L (past-alone notEarlier)
+      (heard-unpreceded L)
 
   pub unanswered-table : tableAt (tallied L) unansweredTable ≡ rowsOf (λ s t. non (answers L s t))
   unfolding gains
-  unanswered-table = table-is unansweredTable (omega arith) notLater (λ s t. non (answers L s t)) L (rest-alone notLater) (heard-unanswered L)
+  unanswered-table = table-is unansweredTable (omega arith) notLater (λ s t. non (answers L s t)) L (rest-alone notLater)
+      (heard-unanswered L)
 
   pub unchained-table : tableAt (tallied L) unchainedTable ≡ rowsOf (λ t s. non (chained L s t))
   unfolding gains
-  unchained-table = table-is unchainedTable (omega arith) notDirectly (λ t s. non (chained L s t)) L (past-alone notDirectly) (heard-unchained L)
+  unchained-table = table-is unchainedTable (omega arith) notDirectly (λ t s. non (chained L s t)) L (past-alone notDirectly)
+      (heard-unchained L)
 
   pub unalternated-table : tableAt (tallied L) unalternatedTable ≡ rowsOf (λ s u. non (alternates L u s))
   unfolding gains
-  unalternated-table = table-is unalternatedTable (omega arith) notSince (λ s u. non (alternates L u s)) L (since-alone notSince) (heard-unalternated L)
+  unalternated-table = table-is unalternatedTable (omega arith) notSince (λ s u. non (alternates L u s)) L (since-alone notSince)
+      (heard-unalternated L)
 
   pub followed-table : tableAt (tallied L) followedTable ≡ rowsOf (followed L)
   unfolding gains

@@ -10,12 +10,12 @@ use lib.Dec.{eqb}
 use lib.ListN.{length, getD, take, drop, drop-of-length-le}
 use lib.Seq.{take-suc, take-all, drop-cons}
 use Rattle.sets.specs.Tests.{_or_, non}
-use Rattle.sets.specs.Members.{width, bitsOf, mem, those}
+use Rattle.sets.specs.Members.{width, mem, those}
 use Rattle.sets.specs.Rows.{rowAt, withRow}
 use Rattle.sets.specs.Tables.{tableAt, withRowIn, gainedIn}
 use Rattle.sets.specs.declared.set.Set.{Set}
 use Rattle.sets.proofs.Tests.{or-comm, or-false}
-use Rattle.sets.proofs.Members.{those-ext, those-of}
+use Rattle.sets.proofs.Members.{none-those, those-ext, those-of}
 use Rattle.sets.proofs.MadeSets.{Is, is-those}
 use Rattle.rules.specs.Traces.{_has_, _beginsWith_}
 use Rattle.tally.specs.Passes.{Fact, Turn, gained, gains, notedIn, forward, backward}
@@ -45,12 +45,12 @@ lastIn past = those (λ x. past beginsWith x)
 
 -- of an empty list both are the empty set
 pub seen-none : _≡_ {A = Set} noSet (seenIn [])
-unfolding _has_ bitsOf those
-seen-none = refl
+unfolding _has_
+seen-none = none-those (λ x. [] has x) (λ x l. refl)
 
 pub last-none : _≡_ {A = Set} noSet (lastIn [])
-unfolding _beginsWith_ bitsOf those
-last-none = refl
+unfolding _beginsWith_
+last-none = none-those (λ x. [] beginsWith x) (λ x l. refl)
 
 -- order does not matter to what stands in a list
 pub has-past : (x : ℕ) (xs ys : List ℕ) → reverseAux xs ys has x ≡ (xs has x or ys has x)
@@ -93,14 +93,16 @@ unfolding gained
 joined-with rows e s rows′ h = h
 
 -- what a turn's function says: the row of the event gains f of the members of a set that is known
-pub gained-by : (p : Fact) (f : ℕ → Bool → Bool) (q : ℕ → Bool) (rows : List ℕ) (e : ℕ) (past rest : List ℕ) (s : Set) (rows′ : List ℕ) → s ≡ those q
+pub gained-by : (p : Fact) (f : ℕ → Bool → Bool) (q : ℕ → Bool) (rows : List ℕ) (e : ℕ) (past rest : List ℕ) (s : Set) (rows′ : List ℕ) → s
+    ≡ those q
     → ((x : ℕ) → f x (q x) ≡ p e past rest x) → rows′ ≡ gained rows e (λ x. f x (mem s x)) → rows′ ≡ gains p rows e past rest
 unfolding gains gained
 gained-by p f q rows e past rest s rows′ hs hp h =
     h
     ∙ ap (withRow rows e)
     (those-of s q (λ x t. mem (rowAt rows e) x or f x t) hs
-    ∙ those-ext (λ x. mem (rowAt rows e) x or f x (q x)) (λ x. mem (rowAt rows e) x or p e past rest x) (λ x l. ap (λ (t : Bool). mem (rowAt rows e) x or t) (hp x)))
+    ∙ those-ext (λ x. mem (rowAt rows e) x or f x (q x)) (λ x. mem (rowAt rows e) x or p e past rest x)
+    (λ x l. ap (λ (t : Bool). mem (rowAt rows e) x or t) (hp x)))
 
 -- ---- the same of tables
 
@@ -126,7 +128,8 @@ module _ (tables : List ℕ) (j k l e : ℕ) where
       → one ≡ gainedIn tables j e s → two ≡ gainedIn one k e u → out ≡ gainedIn two l e v → out ≡ thrice p q r
   joined-thrice s u v p q r one two out hs hu hv h1 h2 h3 =
       noted-by two l e v r out hv h3
-      ∙ ap (λ (x : List ℕ). notedIn x l e r) (noted-by one k e u q two hu h2 ∙ ap (λ (x : List ℕ). notedIn x k e q) (noted-by tables j e s p one hs h1))
+      ∙ ap (λ (x : List ℕ). notedIn x l e r) (noted-by one k e u q two hu h2
+      ∙ ap (λ (x : List ℕ). notedIn x k e q) (noted-by tables j e s p one hs h1))
 
   pub thrice-as : (p q r p′ q′ r′ : ℕ → Bool) → ((x : ℕ) → x < width → p x ≡ p′ x) → ((x : ℕ) → x < width → q x ≡ q′ x)
       → ((x : ℕ) → x < width → r x ≡ r′ x) → thrice p q r ≡ thrice p′ q′ r′
@@ -136,12 +139,15 @@ module _ (tables : List ℕ) (j k l e : ℕ) where
       (noted-as (notedIn tables j e p) k e q q′ hq ∙ ap (λ (x : List ℕ). notedIn x k e q′) (noted-as tables j e p p′ hp))
 
   -- a set, what is not in it, and another or what is not in that
-  pub past-joined : (s u c d : Set) (one two out : List ℕ) → one ≡ gainedIn tables j e s → c ≡ those (λ a. non (mem s a)) → two ≡ gainedIn one k e c
+  pub past-joined : (s u c d : Set) (one two out : List ℕ) → one ≡ gainedIn tables j e s → c ≡ those (λ a. non (mem s a)) → two
+      ≡ gainedIn one k e c
       → d ≡ those (λ a. non (mem u a)) → out ≡ gainedIn two l e d → out ≡ thrice (mem s) (λ x. non (mem s x)) (λ x. non (mem u x))
   past-joined s u c d one two out h1 hc h2 hd h3 =
-      joined-thrice s c d (mem s) (λ x. non (mem s x)) (λ x. non (mem u x)) one two out (λ x l. refl) (is-those c _ hc) (is-those d _ hd) h1 h2 h3
+      joined-thrice s c d (mem s) (λ x. non (mem s x)) (λ x. non (mem u x)) one two out (λ x l. refl) (is-those c _ hc)
+      (is-those d _ hd) h1 h2 h3
 
-  pub rest-joined : (s u c : Set) (one two out : List ℕ) → one ≡ gainedIn tables j e s → c ≡ those (λ a. non (mem s a)) → two ≡ gainedIn one k e c
+  pub rest-joined : (s u c : Set) (one two out : List ℕ) → one ≡ gainedIn tables j e s → c ≡ those (λ a. non (mem s a)) → two
+      ≡ gainedIn one k e c
       → out ≡ gainedIn two l e u → out ≡ thrice (mem s) (λ x. non (mem s x)) (mem u)
   rest-joined s u c one two out h1 hc h2 h3 =
       joined-thrice s c u (mem s) (λ x. non (mem s x)) (mem u) one two out (λ x l. refl) (is-those c _ hc) (λ x l. refl) h1 h2 h3
@@ -175,5 +181,6 @@ module _ (turn : Turn) (σ rows₀ : List ℕ) where
   unfolding backward
   backward-next i rows rows′ h hr inv =
       hr
-      ∙ ap (λ (r : List ℕ). turn r (getD σ i 0) (pastAt σ i) (drop (i + 1) σ)) (inv ∙ ap (λ (l : List ℕ). backward turn rows₀ l (drop (i + 1) σ)) (past-next σ i h))
+      ∙ ap (λ (r : List ℕ). turn r (getD σ i 0) (pastAt σ i) (drop (i + 1) σ))
+      (inv ∙ ap (λ (l : List ℕ). backward turn rows₀ l (drop (i + 1) σ)) (past-next σ i h))
       ∙ ap (backward turn rows₀ (pastAt σ i)) (sym (rest-next σ i h))

@@ -37,7 +37,8 @@ pub walked-start : (log : List ℕ) (n : ℕ) → walked log (n - 0) 0 ≡ walke
 walked-start log n = let same : n - 0 ≡ n = omega arith in ap (λ (m : ℕ). walked log m 0) same
 
 -- what the code cuts out, from a part's start to its end
-pub part-cut : (log : List ℕ) (k : ℕ) (p : Part) → p ≡ partOf log k → take (p .start + p .length - p .start) (drop (p .start) log) ≡ partAt log k
+pub part-cut : (log : List ℕ) (k : ℕ) (p : Part) → p ≡ partOf log k → take (p .start + p .length - p .start) (drop (p .start) log)
+    ≡ partAt log k
 part-cut log k p e =
     let same : p .start + p .length - p .start ≡ p .length = omega arith in
     ap (λ (m : ℕ). take m (drop (p .start) log)) same ∙ ap (λ (q : Part). take (q .length) (drop (q .start) log)) e
@@ -81,7 +82,8 @@ module _ (log : List ℕ) (n k : ℕ) (all : Set) where
       let L = walked log (n - (k + 1)) (k + 1) in
       those-of events′ (λ x. mem events x or partAt log k has x) (λ x t. t or someTrace L (λ σ. σ has x))
       (hv ∙ ap (λ (σ : List ℕ). those (λ x. mem events x or σ has x)) (part-cut log k p e))
-      ∙ those-ext (λ x. mem events x or partAt log k has x or someTrace L (λ σ. σ has x)) (λ x. mem events x or someTrace (partAt log k ∷ L) (λ σ. σ has x))
+      ∙ those-ext (λ x. mem events x or partAt log k has x or someTrace L (λ σ. σ has x))
+      (λ x. mem events x or someTrace (partAt log k ∷ L) (λ σ. σ has x))
       (λ x l. or-assoc (mem events x) (partAt log k has x) (someTrace L (λ σ. σ has x)))
       ∙ ap (eventsFrom events) (sym (walked-next log n k h))
       ∙ inv
@@ -97,7 +99,8 @@ module _ (log : List ℕ) (n k : ℕ) (all : Set) where
       ∙ ap (eventsFrom events) (sym (walked-end log n k h))
       ∙ inv
 
-pub events-start : (log : List ℕ) (n : ℕ) (events : Set) → events ≡ noSet → eventsFrom events (walked log (n - 0) 0) ≡ those (λ x. someTrace (walked log n 0) (λ σ. σ has x))
+pub events-start : (log : List ℕ) (n : ℕ) (events : Set) → events ≡ noSet → eventsFrom events (walked log (n - 0) 0)
+    ≡ those (λ x. someTrace (walked log n 0) (λ σ. σ has x))
 events-start log n events e =
     ap (λ (s : Set). eventsFrom s (walked log (n - 0) 0)) e
     ∙ ap (eventsFrom noSet) (walked-start log n)

@@ -1,5 +1,5 @@
--- What the passes over a trace do to rows and to tables of rows: the words of the contracts of src/passes.rt, and of the miner's own passes.
--- That they are the rules' answers is a theorem, so a reader of `mine` need not believe this file.
+-- What the passes over a trace do to rows and to tables of rows: the words of the contracts of src/passes.rt, and of the miner's own
+-- passes. That they are the rules' answers is a theorem, so a reader of `mine` need not believe this file.
 use mathlib.Core.Bool.{Bool}
 use mathlib.Core.List.{List, [], _∷_}
 use Prim.Native.Nat.{ℕ, zero, suc}
@@ -55,7 +55,7 @@ walked bytes (suc n) k = take (partOf bytes k .length) (drop (partOf bytes k .st
 
 -- x stands before the place
 unfoldable pub isEarlier : Fact
-isEarlier e past rest x = past has x
+isEarlier e past rest x = (e ∷ past) has x
 
 -- x does not stand before the place
 unfoldable pub notEarlier : Fact

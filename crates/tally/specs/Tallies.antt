@@ -1,11 +1,12 @@
--- The tally: seven tables of rows, one after another. A table keeps what was seen, or what breaks a rule, over all activities of the width, so
--- all of it only grows, and the tallies of two logs join by union. That each table is the answer to a question of the rules is a theorem,
--- so a reader of `mine` need not believe this file.
+-- The tally: seven tables of rows, one after another. A table keeps what was seen, or what breaks a rule, over all activities of the width,
+-- so all of it only grows, and the tallies of two logs join by union. That each table is the answer to a question of the rules is a
+-- theorem, so a reader of `mine` need not believe this file.
 use mathlib.Core.List.{List, []}
 use Prim.Native.Nat.{ℕ}
 use Rattle.sets.specs.Tables.{noTables}
 use Rattle.rules.specs.Traces.{Traces}
-use Rattle.tally.specs.Passes.{Turn, notedIn, forward, backward, through, isEarlier, notEarlier, notDirectly, notSince, isLater, notLater, isNext}
+use Rattle.tally.specs.Passes.{Turn, notedIn, forward, backward, through, isEarlier, notEarlier, notDirectly, notSince, isLater}
+use Rattle.tally.specs.Passes.{notLater, isNext}
 
 abbrev pub tableCount : ℕ
 tableCount = 7

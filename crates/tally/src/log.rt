@@ -1,5 +1,5 @@
-// The tally of a log: what steps 1 to 7 ask of it. It keeps what was seen, or what breaks a rule, over all activities of the width: all of it
-// only grows, so the facts of two logs join by union.
+// The tally of a log: what steps 1 to 7 ask of it. It keeps what was seen, or what breaks a rule, over all activities of the width: all of
+// it only grows, so the facts of two logs join by union.
 ghost use mathlib.Core.Path.{_≡_};
 ghost use Rattle.sets.specs.Tests.{_or_};
 ghost use Rattle.sets.specs.Members.{mem, those};

@@ -6,7 +6,8 @@ ghost use Rattle.sets.specs.Members.{mem, those};
 ghost use Rattle.sets.specs.Tests.{_and_, non, when_then_else_};
 ghost use Rattle.rules.specs.Traces.{_has_};
 ghost use Rattle.tally.specs.Passes.{notedIn, forward, backward, notSince};
-ghost use Rattle.tally.specs.Tallies.{beforeTable, laterTable, unprecededTable, unansweredTable, unchainedTable, unalternatedTable, followedTable, notePast, noteSince, noteRest};
+ghost use Rattle.tally.specs.Tallies.{beforeTable, laterTable, unprecededTable, unansweredTable, unchainedTable, unalternatedTable};
+ghost use Rattle.tally.specs.Tallies.{followedTable, notePast, noteSince, noteRest};
 use crate::log::BEFORE;
 use crate::log::FOLLOWED;
 use crate::log::LATER;
@@ -21,7 +22,9 @@ use sets::tables;
 
 // One place: what was seen before it, what was not, and what does not stand directly before it.
 fn note_past(e: Activity, seen: Set, last: Set, tally: &mut Tally)
-    ensures { λ _. ⌜ now (tally .exit) ≡ notedIn (notedIn (notedIn (now (tally .entry)) beforeTable (e .0) (mem seen)) unprecededTable (e .0) (λ x. non (mem seen x))) unchainedTable (e .0) (λ x. non (mem last x)) ⌝ }
+    ensures { λ _. ⌜ now (tally .exit) ≡ notedIn
+        (notedIn (notedIn (now (tally .entry)) beforeTable (e .0) (mem seen)) unprecededTable (e .0) (λ x. non (mem seen x))) unchainedTable
+        (e .0) (λ x. non (mem last x)) ⌝ }
 {
     tables::join(tally, BEFORE, e, seen);
     tables::join(tally, UNPRECEDED, e, seen.complement());
@@ -34,7 +37,7 @@ pub fn forward(trace: &[u8], tally: &mut Tally) -> Set
     ensures { λ _. ⌜ now (tally .exit) ≡ forward notePast (now (tally .entry)) [] (now (trace .entry)) ⌝ }
 {
     let mut seen = Set::EMPTY;
-    let mut last = Set::EMPTY;
+    let mut last = Set { bits: 1 };
     let mut i: usize = 0;
     while i < trace.len() {
         let e = Activity(trace[i]);
@@ -48,7 +51,9 @@ pub fn forward(trace: &[u8], tally: &mut Tally) -> Set
 
 // One place: what comes after it, what does not, and what comes directly after it.
 fn note_rest(e: Activity, after: Set, next: Set, tally: &mut Tally)
-    ensures { λ _. ⌜ now (tally .exit) ≡ notedIn (notedIn (notedIn (now (tally .entry)) laterTable (e .0) (mem after)) unansweredTable (e .0) (λ x. non (mem after x))) followedTable (e .0) (mem next) ⌝ }
+    ensures { λ _. ⌜ now (tally .exit) ≡ notedIn
+        (notedIn (notedIn (now (tally .entry)) laterTable (e .0) (mem after)) unansweredTable (e .0) (λ x. non (mem after x))) followedTable
+        (e .0) (mem next) ⌝ }
 {
     tables::join(tally, LATER, e, after);
     tables::join(tally, UNANSWERED, e, after.complement());
@@ -94,7 +99,8 @@ fn unmet(past: &[u8], e: Activity, wanted: Set) -> Set
 
 // One place: what does not stand since the last e. At the first e of a trace that is what was not seen.
 fn note_since(past: &[u8], e: Activity, seen: Set, tally: &mut Tally)
-    ensures { λ _. ⌜ now (tally .exit) ≡ notedIn (now (tally .entry)) unalternatedTable (e .0) (λ x. when mem seen (e .0) then notSince (e .0) (reverseAux (now (past .entry)) []) [] x else non (mem seen x)) ⌝ }
+    ensures { λ _. ⌜ now (tally .exit) ≡ notedIn (now (tally .entry)) unalternatedTable (e .0)
+        (λ x. when mem seen (e .0) then notSince (e .0) (reverseAux (now (past .entry)) []) [] x else non (mem seen x)) ⌝ }
 {
     if seen.has(e) {
         let wanted = tables::row(tally, UNALTERNATED, e).complement();

@@ -8,7 +8,8 @@ returns c =
     let waited = c .before .before in
     let replayed = waited .before .before .before in
     let empty2 = replayed .before .before .before in
-    conditions-by _ _ _ _ _ _ _ _ _ _ _ (empty2 .before .empty .ensures) (empty2 .empty2 .ensures) (replayed .replay-log .ensures .0) (replayed .replay-log .ensures .1)
+    conditions-by _ _ _ _ _ _ _ _ _ _ _ (empty2 .before .empty .ensures) (empty2 .empty2 .ensures) (replayed .replay-log .ensures .0)
+    (replayed .replay-log .ensures .1)
     (waited .waited .ensures) (c .reduced .ensures)
 
 pub conditions-ten-spec : {M : Type 1} → statement M

@@ -34,7 +34,11 @@ loop-again : tie.Need-loop-again Inv-loop μ-loop
 loop-again c = (search needs, search (through-next, needs), search (through-next, needs))
 
 returns : tie.Need-returns Inv-loop μ-loop
-returns c = (through-end ahead _ _ _ _ _ (c .loop-test .left) (c .before .loop .inv .1), through-end (waiting _ _ _) _ _ _ _ _ (c .loop-test .left) (c .before .loop .inv .2))
+returns c = (
+  through-end ahead _ _ _ _ _ (c .loop-test .left) (c .before .loop .inv .1),
+  through-end (waiting _ _ _) _ _ _ _ _
+      (c .loop-test .left) (c .before .loop .inv .2),
+)
 
 pub replay-log-spec : {M : Type 1} → statement M
 replay-log-spec =

@@ -15,7 +15,8 @@ abbrev Inv-loop : tie.InvT-loop
 Inv-loop trace includes excludes first₀ unmet₀ seen₀ included₀ i₀ first unmet seen included i =
     (i ≤ length trace) × (seen ≡ seenIn (pastAt trace i)) × (included ≡ openAfter included₀ includes excludes (pastAt trace i))
     × (forward (gains beforeFirst) first (pastAt trace i) (drop i trace) ≡ forward (gains beforeFirst) first₀ [] trace)
-    × (forward (gains (missed included₀ includes excludes)) unmet (pastAt trace i) (drop i trace) ≡ forward (gains (missed included₀ includes excludes)) unmet₀ [] trace)
+    × (forward (gains (missed included₀ includes excludes)) unmet (pastAt trace i) (drop i trace)
+    ≡ forward (gains (missed included₀ includes excludes)) unmet₀ [] trace)
 
 abbrev μ-loop : tie.MeasureT-loop
 μ-loop trace includes excludes first₀ unmet₀ seen₀ included₀ i₀ first unmet seen included i = length trace - i

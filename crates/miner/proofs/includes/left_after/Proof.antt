@@ -6,7 +6,8 @@ use Rattle.miner.proofs.includes.left_after.Tie as tie
 returns : tie.Need-returns
 returns c =
     let a = c .before .before .before .before .before .before .before .args in
-    left-last (a .after) (a .last .now) (a .e .0) (a .at .0) _ _ (c .before .before .if2 .taken) (c .before .one .ensures) (c .difference .ensures)
+    left-last (a .after) (a .last .now) (a .e .0) (a .at .0) _ _ (c .before .before .if2 .taken) (c .before .one .ensures)
+    (c .difference .ensures)
 
 returns-2 : tie.Need-returns-2
 returns-2 c =

@@ -8,7 +8,8 @@ use Rattle.steps.proofs.relations.apart_row.Tie as tie
 returns : tie.Need-returns
 unfolding apart
 returns c =
-    let together = joined _or_ _ _ _ _ _ (is-row _ _ _ (c .before .before .before .before .row .ensures)) (is-row _ _ _ (c .before .before .before .row2 .ensures)) (c .before .before .union .ensures) in
+    let together = joined _or_ _ _ _ _ _ (is-row _ _ _ (c .before .before .before .before .row .ensures))
+    (is-row _ _ _ (c .before .before .before .row2 .ensures)) (c .before .before .union .ensures) in
     less _ _ _ _ _ (is-those _ _ (c .before .others .ensures)) (is-those _ _ together) (c .difference .ensures)
 
 pub apart-row-spec : {M : Type 1} → statement M

@@ -13,7 +13,8 @@ returns c = unless-true _ _ refl _ (c .if1 .taken)
 returns-2 : tie.Need-returns-2
 unfolding closing
 returns-2 c =
-    let after = joined _and_ _ _ _ _ _ (λ b l. refl) (is-row _ _ _ (c .before .before .before .row .ensures)) (c .before .before .intersection .ensures) in
+    let after = joined _and_ _ _ _ _ _ (λ b l. refl) (is-row _ _ _ (c .before .before .before .row .ensures))
+    (c .before .before .intersection .ensures) in
     unless-false _ _ refl _ _ (less _ _ _ _ _ (is-those _ _ after) (is-row _ _ _ (c .before .row2 .ensures)) (c .difference .ensures))
     (c .before .before .before .before .if1 .left)
 

@@ -8,7 +8,8 @@ use Rattle.steps.proofs.relations.excluded_by.Statement.{statement}
 use Rattle.steps.proofs.relations.excluded_by.Tie as tie
 
 abbrev Inv-loop : tie.InvT-loop
-Inv-loop events tables before later chains out₀ a₀ out a = Filled events (excluders events (tableAt tables before) (tableAt tables later) chains) out (a .0)
+Inv-loop events tables before later chains out₀ a₀ out a = Filled events
+    (excluders events (tableAt tables before) (tableAt tables later) chains) out (a .0)
 
 abbrev μ-loop : tie.MeasureT-loop
 μ-loop events tables before later chains out₀ a₀ out a = width - a .0

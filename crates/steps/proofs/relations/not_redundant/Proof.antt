@@ -8,7 +8,8 @@ use Rattle.steps.proofs.relations.not_redundant.Statement.{statement}
 use Rattle.steps.proofs.relations.not_redundant.Tie as tie
 
 abbrev Inv-loop : tie.InvT-loop
-Inv-loop events excludes tables unalternated out₀ a₀ out a = Filled events (notRedundant events excludes (tableAt tables unalternated)) out (a .0)
+Inv-loop events excludes tables unalternated out₀ a₀ out a = Filled events (notRedundant events excludes (tableAt tables unalternated)) out
+    (a .0)
 
 abbrev μ-loop : tie.MeasureT-loop
 μ-loop events excludes tables unalternated out₀ a₀ out a = width - a .0

@@ -6,7 +6,8 @@ use Rattle.steps.proofs.relations.unbroken_row.Tie as tie
 
 returns : tie.Need-returns
 unfolding unbroken
-returns c = less _ _ _ _ _ (is-those _ _ (c .before .before .others .ensures)) (is-row _ _ _ (c .before .row .ensures)) (c .difference .ensures)
+returns c = less _ _ _ _ _ (is-those _ _ (c .before .before .others .ensures)) (is-row _ _ _ (c .before .row .ensures))
+    (c .difference .ensures)
 
 pub unbroken-row-spec : {M : Type 1} → statement M
 unbroken-row-spec =

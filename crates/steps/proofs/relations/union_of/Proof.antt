@@ -14,7 +14,8 @@ abbrev μ-loop : tie.MeasureT-loop
 loop-again : tie.Need-loop-again Inv-loop μ-loop
 loop-again c =
     let turn = c .before .before .before .before .before .loop .inv in
-    union-turn _ _ _ _ _ _ _ _ (turn .0) (turn .1) (c .before .before .before .before .is-empty .ensures) (c .before .before .before .if1 .taken)
+    union-turn _ _ _ _ _ _ _ _ (turn .0) (turn .1) (c .before .before .before .before .is-empty .ensures)
+    (c .before .before .before .if1 .taken)
     (c .before .before .least-row .ensures) (c .before .union .ensures) (c .without-least .ensures)
 
 returns : tie.Need-returns Inv-loop μ-loop

@@ -7,7 +7,8 @@ use Rattle.steps.proofs.relations.united_row.Tie as tie
 
 returns : tie.Need-returns
 unfolding inEither
-returns c = joined _or_ _ _ _ _ _ (is-row _ _ _ (c .before .before .row .ensures)) (is-row _ _ _ (c .before .row2 .ensures)) (c .union .ensures)
+returns c = joined _or_ _ _ _ _ _ (is-row _ _ _ (c .before .before .row .ensures)) (is-row _ _ _ (c .before .row2 .ensures))
+    (c .union .ensures)
 
 pub united-row-spec : {M : Type 1} → statement M
 united-row-spec =

@@ -6,8 +6,10 @@ use Rattle.steps.proofs.relations.waited_for.Tie as tie
 
 returns : tie.Need-returns
 returns c =
-    let other = without _ _ _ (is-those _ _ (c .before .before .before .before .before .one .ensures)) (c .before .before .before .before .complement .ensures) in
-    let ahead = joined _and_ _ _ _ _ _ (is-those _ _ other) (is-row _ _ _ (c .before .before .before .row .ensures)) (c .before .before .intersection .ensures) in
+    let other = without _ _ _ (is-those _ _ (c .before .before .before .before .before .one .ensures))
+    (c .before .before .before .before .complement .ensures) in
+    let ahead = joined _and_ _ _ _ _ _ (is-those _ _ other) (is-row _ _ _ (c .before .before .before .row .ensures))
+    (c .before .before .intersection .ensures) in
     less _ _ _ _ _ (is-those _ _ ahead) (is-row _ _ _ (c .before .row2 .ensures)) (c .difference .ensures)
 
 pub waited-for-spec : {M : Type 1} → statement M

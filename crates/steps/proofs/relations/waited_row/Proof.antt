@@ -9,7 +9,8 @@ use Rattle.steps.proofs.relations.waited_row.Tie as tie
 returns : tie.Need-returns
 unfolding waited
 returns c =
-    let sources = joined _or_ _ _ _ _ _ (is-row _ _ _ (c .before .before .before .row .ensures)) (is-those _ _ (c .before .before .waited-for .ensures)) (c .before .union .ensures) in
+    let sources = joined _or_ _ _ _ _ _ (is-row _ _ _ (c .before .before .before .row .ensures))
+    (is-those _ _ (c .before .before .waited-for .ensures)) (c .before .union .ensures) in
     joined _and_ _ _ _ _ _ (λ b l. refl) (is-those _ _ sources) (c .intersection .ensures)
 
 pub waited-row-spec : {M : Type 1} → statement M

@@ -18,8 +18,11 @@ passed σ t one two out h1 h2 h3 =
 returns : tie.Need-returns
 returns c =
     let since = c .before .before .before in
-    let past = since .before .before .forward .ensures in
-    (union-seen _ _ _ _ (past .0) (c .union .ensures), passed _ _ _ _ _ (past .1) (since .alternate .ensures) (c .before .backward .ensures))
+    let past = since .before .before .forward .ensures in (
+      union-seen _ _ _ _ (past .0) (c .union .ensures),
+      passed _ _ _ _ _ (past .1) (since .alternate .ensures)
+          (c .before .backward .ensures),
+    )
 
 pub note-trace-spec : {M : Type 1} → statement M
 note-trace-spec =

@@ -14,7 +14,8 @@ use Rattle.calllog.proofs.Traces.{part-within}
 use Rattle.rules.specs.Traces.{_has_, someTrace}
 use Rattle.tally.specs.Passes.{walked}
 use Rattle.tally.specs.Tallies.{noted}
-use Rattle.tally.proofs.Walks.{Left, eventsFrom, events-start, events-next, events-end, events-set, through-start, through-next, through-end}
+use Rattle.tally.proofs.Walks.{Left, eventsFrom, events-start, events-next, events-end, events-set, through-start, through-next}
+use Rattle.tally.proofs.Walks.{through-end}
 use Rattle.tally.proofs.log.note_traces.Statement.{statement}
 use Rattle.tally.proofs.log.note_traces.Tie as tie
 
@@ -34,11 +35,13 @@ start log n t =
       left = through-start noted log n _ t refl;
     }
 
-module _ {log : List ℕ} {n : ℕ} {t₀ t : List ℕ} {events : Set} {k : ℕ} (inv : Walked log n t₀ t events k) (h : k < n) (part : Part) (e : part ≡ partOf log k) where
+module _ {log : List ℕ} {n : ℕ} {t₀ t : List ℕ} {events : Set} {k : ℕ} (inv : Walked log n t₀ t events k) (h : k < n) (part : Part)
+    (e : part ≡ partOf log k) where
   abbrev σ : List ℕ
   σ = take (part .start + part .length - part .start) (drop (part .start) log)
 
-  turn : (t′ : List ℕ) (events′ : Set) → events′ ≡ those (λ x. mem events x or σ has x) → t′ ≡ noted t σ → Walked log n t₀ t′ events′ (k + 1)
+  turn : (t′ : List ℕ) (events′ : Set) → events′ ≡ those (λ x. mem events x or σ has x) → t′ ≡ noted t σ
+      → Walked log n t₀ t′ events′ (k + 1)
   turn t′ events′ hv ht =
       record {
         reached = omega arith;

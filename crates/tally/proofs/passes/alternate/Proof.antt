@@ -26,17 +26,20 @@ part-past σ i = let same : i - 0 ≡ i = omega arith in ap (λ (n : ℕ). rever
 
 module _ {σ u₀ u : List ℕ} {seen : Set} {i : ℕ} (inv : Passed σ u₀ u seen i) (h : i < length σ) where
   turn : (u′ : List ℕ) (one seen′ : Set)
-      → u′ ≡ notedIn u unalternatedTable (getD σ i 0) (λ x. when mem seen (getD σ i 0) then notSince (getD σ i 0) (reverseAux (take (i - 0) (drop 0 σ)) []) [] x else non (mem seen x))
+      → u′ ≡ notedIn u unalternatedTable (getD σ i 0)
+      (λ x. when mem seen (getD σ i 0) then notSince (getD σ i 0) (reverseAux (take (i - 0) (drop 0 σ)) []) [] x else non (mem seen x))
       → one ≡ those (λ b. eqb b (getD σ i 0)) → seen′ ≡ those (λ a. mem seen a or mem one a)
       → Passed σ u₀ u′ seen′ (i + 1)
   unfolding noteSince
   turn u′ one seen′ hu ho hs =
       let place =
-      hu ∙ ap (λ (l : List ℕ). notedIn u unalternatedTable (getD σ i 0) (λ x. when mem seen (getD σ i 0) then notSince (getD σ i 0) l [] x else non (mem seen x))) (part-past σ i) in
+      hu ∙ ap (λ (l : List ℕ). notedIn u unalternatedTable (getD σ i 0)
+      (λ x. when mem seen (getD σ i 0) then notSince (getD σ i 0) l [] x else non (mem seen x))) (part-past σ i) in
       record {
         reached = omega arith;
         seen-is = seen-more _ _ seen one seen′ (inv .seen-is) ho hs ∙ ap seenIn (sym (past-next σ i h));
-        whole = forward-next noteSince σ _ i u u′ h (since-noted u unalternatedTable (getD σ i 0) (pastAt σ i) (drop (i + 1) σ) seen u′ (inv .seen-is) place) (inv .whole);
+        whole = forward-next noteSince σ _ i u u′ h
+            (since-noted u unalternatedTable (getD σ i 0) (pastAt σ i) (drop (i + 1) σ) seen u′ (inv .seen-is) place) (inv .whole);
       }
 
 abbrev Inv-loop : tie.InvT-loop

@@ -12,12 +12,13 @@ use Rattle.sets.proofs.MadeSets.{is-those}
 use Rattle.rules.specs.Traces.{_beginsWith_}
 use Rattle.tally.specs.Passes.{notedIn, backward, isLater, notLater, isNext}
 use Rattle.tally.specs.Tallies.{laterTable, unansweredTable, followedTable, noteRest}
-use Rattle.tally.proofs.Turns.{pastAt, rest-next, rest-none, seenIn, lastIn, seen-more, seen-none, last-none, thrice-as, backward-start, backward-next}
+use Rattle.tally.proofs.Turns.{pastAt, rest-next, rest-none, seenIn, lastIn, seen-more, seen-none, last-none, thrice-as}
+use Rattle.tally.proofs.Turns.{backward-start, backward-next}
 use Rattle.tally.proofs.passes.backward.Statement.{statement}
 use Rattle.tally.proofs.passes.backward.Tie as tie
 
--- the tally is that of the pass over what was passed of the trace; `after` and `next` are the sets of what stands after the place and directly
--- after it
+-- the tally is that of the pass over what was passed of the trace; `after` and `next` are the sets of what stands after the place and
+-- directly after it
 record Passed (σ t₀ t : List ℕ) (after next : Set) (i : ℕ) : Type 0 where
   reached : i ≤ length σ
   after-is : after ≡ seenIn (drop i σ)
@@ -42,7 +43,8 @@ module _ {σ t₀ t : List ℕ} {after next : Set} where
   ended inv h = subst (λ (n : ℕ). Passed σ t₀ t after next n) (omega arith) inv
 
   turn : (i : ℕ) (t′ : List ℕ) (one after′ : Set) → Passed σ t₀ t after next (i + 1)
-      → t′ ≡ notedIn (notedIn (notedIn t laterTable (getD σ i 0) (mem after)) unansweredTable (getD σ i 0) (λ x. non (mem after x))) followedTable (getD σ i 0) (mem next)
+      → t′ ≡ notedIn (notedIn (notedIn t laterTable (getD σ i 0) (mem after)) unansweredTable (getD σ i 0) (λ x. non (mem after x)))
+      followedTable (getD σ i 0) (mem next)
       → one ≡ those (λ b. eqb b (getD σ i 0)) → after′ ≡ those (λ a. mem after a or mem one a) → Passed σ t₀ t′ after′ one i
   unfolding noteRest isLater notLater isNext _beginsWith_
   turn i t′ one after′ inv ht ho ha =
@@ -54,7 +56,8 @@ module _ {σ t₀ t : List ℕ} {after next : Set} where
         next-is = ho ∙ ap lastIn (sym (rest-next σ i h));
         so-far =
             backward-next noteRest σ t₀ i t t′ h
-            (ht ∙ thrice-as t laterTable unansweredTable followedTable (getD σ i 0) _ _ _ _ _ _ after-in (λ x l. ap non (after-in x l)) (is-those next _ (inv .next-is)))
+            (ht ∙ thrice-as t laterTable unansweredTable followedTable (getD σ i 0) _ _ _ _ _ _ after-in (λ x l. ap non (after-in x l))
+            (is-those next _ (inv .next-is)))
             (inv .so-far);
       }
 
@@ -70,7 +73,8 @@ loop-holds c = start _ _
 loop-again : tie.Need-loop-again Inv-loop μ-loop
 loop-again c =
     let in-loop = c .before .before .before .before .before in
-    turn _ _ _ _ (down (in-loop .before .loop .inv) (in-loop .loop-test .taken)) (c .before .before .note-rest .ensures) (c .before .one .ensures) (c .union .ensures)
+    turn _ _ _ _ (down (in-loop .before .loop .inv) (in-loop .loop-test .taken)) (c .before .before .note-rest .ensures)
+    (c .before .one .ensures) (c .union .ensures)
 
 returns : tie.Need-returns Inv-loop μ-loop
 returns c = ended (c .before .loop .inv) (c .loop-test .left) .so-far

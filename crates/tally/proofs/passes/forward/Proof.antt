@@ -12,12 +12,13 @@ use Rattle.sets.proofs.MadeSets.{is-those}
 use Rattle.rules.specs.Traces.{_beginsWith_}
 use Rattle.tally.specs.Passes.{notedIn, forward, isEarlier, notEarlier, notDirectly}
 use Rattle.tally.specs.Tallies.{beforeTable, unprecededTable, unchainedTable, notePast}
-use Rattle.tally.proofs.Turns.{pastAt, past-next, seenIn, lastIn, seen-more, seen-all, seen-none, last-none, thrice-as, forward-next, forward-end}
+use Rattle.tally.proofs.Turns.{pastAt, past-next, seenIn, lastIn, seen-more, seen-all, seen-none, last-none, thrice-as, forward-next}
+use Rattle.tally.proofs.Turns.{forward-end}
 use Rattle.tally.proofs.passes.forward.Statement.{statement}
 use Rattle.tally.proofs.passes.forward.Tie as tie
 
--- what is left of the pass, from the tally as it is, gives the whole pass; `seen` and `last` are the sets of what stands before the place and
--- directly before it
+-- what is left of the pass, from the tally as it is, gives the whole pass; `seen` and `last` are the sets of what stands before the place
+-- and directly before it
 record Passed (σ t₀ t : List ℕ) (seen last : Set) (i : ℕ) : Type 0 where
   reached : i ≤ length σ
   seen-is : seen ≡ seenIn (pastAt σ i)
@@ -29,7 +30,8 @@ module _ {σ t₀ t : List ℕ} {seen last : Set} {i : ℕ} (inv : Passed σ t�
   e = getD σ i 0
 
   turn : (t′ : List ℕ) (one seen′ : Set)
-      → t′ ≡ notedIn (notedIn (notedIn t beforeTable e (mem seen)) unprecededTable e (λ x. non (mem seen x))) unchainedTable e (λ x. non (mem last x))
+      → t′ ≡ notedIn (notedIn (notedIn t beforeTable e (mem seen)) unprecededTable e (λ x. non (mem seen x))) unchainedTable e
+      (λ x. non (mem last x))
       → one ≡ those (λ b. eqb b e) → seen′ ≡ those (λ a. mem seen a or mem one a) → Passed σ t₀ t′ seen′ one (i + 1)
   unfolding notePast isEarlier notEarlier notDirectly _beginsWith_
   turn t′ one seen′ ht ho hs =
@@ -41,7 +43,8 @@ module _ {σ t₀ t : List ℕ} {seen last : Set} {i : ℕ} (inv : Passed σ t�
         last-is = ho ∙ ap lastIn (sym (past-next σ i h));
         whole =
             forward-next notePast σ _ i t t′ h
-            (ht ∙ thrice-as t beforeTable unprecededTable unchainedTable e _ _ _ _ _ _ seen-in (λ x l. ap non (seen-in x l)) (λ x l. ap non (last-in x l)))
+            (ht ∙ thrice-as t beforeTable unprecededTable unchainedTable e _ _ _ _ _ _ seen-in (λ x l. ap non (seen-in x l))
+            (λ x l. ap non (last-in x l)))
             (inv .whole);
       }
 

@@ -6,7 +6,8 @@ use Rattle.tally.proofs.passes.note_past.Tie as tie
 returns : tie.Need-returns
 returns c =
     past-joined _ _ _ _ _ _ _ _ _ _ _ _
-    (c .before .before .before .before .before .before .join .ensures) (c .before .before .before .before .complement .ensures) (c .before .before .before .join2 .ensures) (c .before .complement2 .ensures) (c .join3 .ensures)
+    (c .before .before .before .before .before .before .join .ensures) (c .before .before .before .before .complement .ensures)
+    (c .before .before .before .join2 .ensures) (c .before .complement2 .ensures) (c .join3 .ensures)
 
 pub note-past-spec : {M : Type 1} → statement M
 note-past-spec =

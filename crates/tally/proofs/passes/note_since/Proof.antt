@@ -6,7 +6,8 @@ use Rattle.tally.proofs.passes.note_since.Tie as tie
 returns : tie.Need-returns
 returns c =
     let row = c .before .before .before .before in
-    note-repeat _ _ _ _ _ _ (row .before .before .before .before .has .ensures) _ _ _ _ (row .before .before .before .if1 .taken) (row .row .ensures) (c .before .before .before .complement .ensures) (c .before .before .unmet .ensures)
+    note-repeat _ _ _ _ _ _ (row .before .before .before .before .has .ensures) _ _ _ _ (row .before .before .before .if1 .taken)
+    (row .row .ensures) (c .before .before .before .complement .ensures) (c .before .before .unmet .ensures)
     (c .join .ensures)
 
 returns-2 : tie.Need-returns-2

@@ -19,12 +19,14 @@ returns c = look-empty (c .before .before .before .loop .inv) _ (c .before .is-e
 returns-2 : tie.Need-returns-2 Inv-loop μ-loop
 returns-2 c =
     let in-loop = c .before .before .before .before .before .before .before in
-    look-stop _ (look-down (in-loop .before .loop .inv) (in-loop .loop-test .taken)) _ _ (c .before .before .before .one .ensures) (c .before .before .difference .ensures) (c .if2 .taken)
+    look-stop _ (look-down (in-loop .before .loop .inv) (in-loop .loop-test .taken)) _ _ (c .before .before .before .one .ensures)
+    (c .before .before .difference .ensures) (c .if2 .taken)
 
 loop-again : tie.Need-loop-again Inv-loop μ-loop
 loop-again c =
     let in-loop = c .before .before .before .before .before .before .before in
-    look-next _ (look-down (in-loop .before .loop .inv) (in-loop .loop-test .taken)) _ _ (c .before .before .before .one .ensures) (c .before .before .difference .ensures) (c .if2 .left)
+    look-next _ (look-down (in-loop .before .loop .inv) (in-loop .loop-test .taken)) _ _ (c .before .before .before .one .ensures)
+    (c .before .before .difference .ensures) (c .if2 .left)
 
 returns-3 : tie.Need-returns-3 Inv-loop μ-loop
 returns-3 c = look-end (c .before .loop .inv) (c .loop-test .left)
