@@ -103,6 +103,8 @@ def main(words):
     if len(options.files) != 2 or options.names is not None:
         raise Fault("two files are needed, CALLS and OUT.log; see ./log --help", MISUSED)
     path, out = options.files
+    if out == "-":
+        raise Fault("OUT.log is a file: its names are written beside it", MISUSED)
     if not logfile.replaceable(out):
         raise Fault(f"{out} is there and is no log: it is not written over", MISUSED)
     return make(path, out, options)

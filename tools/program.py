@@ -36,7 +36,12 @@ def run(name, data=b"", arguments=(), folder=None):
 def build(name):
     """Has rt make the program of today's sources. It is asked every time: it looks for what changed by itself, so neither a change
     nor a build that failed leaves an older program to be run."""
-    made("the program", os.path.join("target", "bin", name), ["rt", "check", name])
+    path = os.path.join("target", "bin", name)
+    if not os.path.exists(os.path.join(ROOT, path)):
+        # rt goes by its own mark of what it has made, and would not miss the program
+        with contextlib.suppress(FileNotFoundError):
+            os.unlink(os.path.join(ROOT, "target", "stamp", name))
+    made("the program", path, ["rt", "check", name])
 
 
 def made(what, path, words):

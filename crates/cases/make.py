@@ -299,8 +299,8 @@ for name, trace, end in (
 # ---- the log reader put together by hand: the number it remembers, what it gives, the number it remembers then
 
 
-def asked(next, number, start, length, then):
-    return f"; next {next}: {number} start {start} length {length} then {then}"
+def asked(remembered, number, start, length, then):
+    return f"; next {remembered}: {number} start {start} length {length} then {then}"
 
 
 def next_good(name, t, *known):

@@ -7,13 +7,13 @@ import time
 
 from trial import ROOT, Folder, Gave, Different, holds, same, test
 
-FIGURE = "pub fn figure() -> u64 {\n    %s\n}\n"
+FIGURE = "pub fn figure() -> [u8; 2] {\n    %s\n}\n"
 PROGRAM = """\
 use libc::STDOUT_FILENO;
 
 fn main() {
-    io::print_decimal(STDOUT_FILENO, figures::figure());
-    io::write_all(STDOUT_FILENO, b"\\n");
+    let line = figures::figure();
+    libc::write(STDOUT_FILENO, &line);
 }
 """
 
@@ -32,14 +32,14 @@ class Small(Folder):
         os.chmod(path, 0o755)
         shutil.copytree(os.path.join(ROOT, "tools"), self.at("tools"))
         shutil.copy(os.path.join(ROOT, "list"), self.at("list"))
-        self.put("crates.txt", "figures:\nlisting: figures io libc\n")
+        self.put("crates.txt", "figures:\nlisting: figures libc\n")
         for crate in ("figures", "listing"):
             os.makedirs(self.at("crates", crate, "src"))
         self.put("crates/listing/src/main.rt", PROGRAM)
         self.write("7")
 
-    def write(self, figure):
-        self.put("crates/figures/src/lib.rt", FIGURE % figure)
+    def write(self, figure, beside=""):
+        self.put("crates/figures/src/lib.rt", FIGURE % f'*b"{figure}\\n"{beside}')
         self.put("crates/listing/stdout", figure + "\n")
 
     def busy(self):
@@ -72,14 +72,16 @@ def first_build(folder):
     BUILT.append(small)
 
 
-@test("after a change of the sources the program of today is run; after a build that failed none is, the second time neither")
+@test("after a change, or without its program, today's is built and run; after a build that failed none is, the second time neither")
 def rebuilds(folder):
     small = BUILT[0] if BUILT else Small(folder.at("small"))
+    if BUILT:
+        os.unlink(small.at("target/bin/listing"))
     same(small.run("./list", data=b"").out, b"7\n", "before")
     small.write("8")
     gave = small.run("./list", data=b"")
     same((gave.status, gave.out), (0, b"8\n"), "after a change of a library")
-    small.write("9 +")
+    small.write("9", " +")
     for time_ in ("first", "second"):
         gave = small.run("./list", data=b"")
         same((gave.status, gave.out), (3, b""), f"{time_} call after a build that failed")

@@ -201,6 +201,7 @@ def other_faults(folder):
         (["calls.csv", "nosuch/out.log"], 3),
         (["calls.csv", "data"], 2),
         (["calls.csv", "other.csv"], 2),
+        (["calls.csv", "-"], 2),
     ):
         before = folder.files()
         gave = folder.run("./log", *words)

@@ -12,3 +12,4 @@ pub mod Writing
 pub mod Bytes
 pub mod Long
 pub mod Examples
+pub mod Lending
