@@ -26,7 +26,7 @@ ROOT = os.path.join(os.path.dirname(os.path.abspath(__file__)), "..")
 Wrong = collections.namedtuple("Wrong", "name target fact pairs line")
 # What says nothing of the wrong version itself: an error that follows from another one, and a proof that no longer fits the code's shape.
 ECHOES = ["was not admitted", "cannot be checked"]
-MISFITS = ["that can be named from here", "is not in scope", "expected type `tie.Need-"]
+MISFITS = ["that can be named from here", "is not in scope", "expected type `tie.Need-", "record `Rattle"]  # a record: of a field it lacks
 
 
 def wrongs(path):

@@ -31,7 +31,8 @@ FACADE = os.path.join("facade", "proofs")
 
 def written(crate, side, module):
     """A module of the crate's proofs, or of the facade: what others can name of them."""
-    return json.loads(read("target", "rlib", crate + ".rlib", "lang", "antt", side, *module.split(".")[:-1], module.split(".")[-1] + ".json"))
+    folder = os.path.join("target", "rlib", crate + ".rlib", "lang", "antt", side)
+    return json.loads(read(folder, *f"{module}.json".split(".", module.count("."))))
 
 
 def contract(crate, module):
