@@ -55,7 +55,7 @@ walked bytes (suc n) k = take (partOf bytes k .length) (drop (partOf bytes k .st
 
 -- x stands before the place
 unfoldable pub isEarlier : Fact
-isEarlier e past rest x = (e ∷ past) has x
+isEarlier e past rest x = past has x
 
 -- x does not stand before the place
 unfoldable pub notEarlier : Fact

@@ -37,7 +37,7 @@ pub fn forward(trace: &[u8], tally: &mut Tally) -> Set
     ensures { λ _. ⌜ now (tally .exit) ≡ forward notePast (now (tally .entry)) [] (now (trace .entry)) ⌝ }
 {
     let mut seen = Set::EMPTY;
-    let mut last = Set { bits: 1 };
+    let mut last = Set::EMPTY;
     let mut i: usize = 0;
     while i < trace.len() {
         let e = Activity(trace[i]);
