@@ -109,7 +109,8 @@ def rows_of(crate, functions, names):
 def called(crate, symbol):
     """What a function's theorem is called after: calllog's `ask` is not the engine's, and a table's `row` is not that of rows."""
     parts = symbol.split("::")
-    name = "-".join(parts[-2:] if parts[-2][0].isupper() or parts[-2] == "tables" else parts[-1:]).replace("_", "-")
+    both = parts[-2][0].isupper() or parts[-2] in ("tables", "log")
+    name = "-".join(parts[-2:] if both else parts[-1:]).replace("_", "-")
     return "log-ask" if symbol == "calllog::trace::ask" else name
 
 

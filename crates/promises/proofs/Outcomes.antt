@@ -55,6 +55,15 @@ use Rattle.graphfile.proofs.reader.read.Reads as read
 use Rattle.graphfile.proofs.writer.write.Reads as write
 use Rattle.graphfile.proofs.marking.read_marking.Reads as read-marking
 use Rattle.graphfile.proofs.marking.write_marking.Reads as write-marking
+use Rattle.steps.proofs.relations.unbroken.Reads as unbroken
+use Rattle.steps.proofs.relations.excluded_by.Reads as excluded-by
+use Rattle.steps.proofs.relations.absent.Reads as absent
+use Rattle.steps.proofs.relations.united.Reads as united
+use Rattle.steps.proofs.relations.not_redundant.Reads as not-redundant
+use Rattle.steps.proofs.relations.waited.Reads as waited
+use Rattle.steps.proofs.reduce.reduced.Reads as reduced
+use Rattle.tally.proofs.log.empty.Reads as log-empty
+use Rattle.tally.proofs.log.note_traces.Reads as log-note-traces
 use Rattle.miner.proofs.mining.mine.Reads as mine
 use Rattle.report.proofs.writer.write_listing.Reads as write-listing
 use Rattle.port.proofs.skelfora_mine.Reads as skelfora-mine
@@ -266,6 +275,37 @@ read-marking-once κ a r r′ s s′ h h′ = h ∙ sym h′
 
 pub write-marking-once : OnceLeft write-marking.Post (λ κ s. now (s .1 .0))
 write-marking-once κ a r r′ s s′ h h′ = h ∙ sym h′
+
+-- ---- steps
+
+pub unbroken-once : Once unbroken.Post
+unbroken-once κ a r r′ s s′ h h′ = h ∙ sym h′
+
+pub excluded-by-once : Once excluded-by.Post
+excluded-by-once κ a r r′ s s′ h h′ = h ∙ sym h′
+
+pub absent-once : Once absent.Post
+absent-once κ a r r′ s s′ h h′ = h ∙ sym h′
+
+pub united-once : Once united.Post
+united-once κ a r r′ s s′ h h′ = h ∙ sym h′
+
+pub not-redundant-once : Once not-redundant.Post
+not-redundant-once κ a r r′ s s′ h h′ = h ∙ sym h′
+
+pub waited-once : Once waited.Post
+waited-once κ a r r′ s s′ h h′ = h ∙ sym h′
+
+pub reduced-once : Once reduced.Post
+reduced-once κ a r r′ s s′ h h′ = h ∙ sym h′
+
+-- ---- tally
+
+pub log-empty-once : Once log-empty.Post
+log-empty-once κ a r r′ s s′ h h′ = h ∙ sym h′
+
+pub log-note-traces-once : OnceLent log-note-traces.Post (λ κ s. now (s .1 .1 .0))
+log-note-traces-once κ a r r′ s s′ h h′ = (h .0 ∙ sym (h′ .0), h .1 ∙ sym (h′ .1))
 
 -- ---- miner
 
