@@ -35,14 +35,14 @@ fn take_rows(bytes: &[u8], r: u8, count: usize, first: usize, held: &mut Relatio
     let events = layout::set_at(bytes, layout::EVENTS);
     let mut j = 0;
     while j < count {
-        let key = layout::key_in(bytes, first + j);
+        let key = Activity(layout::key_in(bytes, first + j));
         let row = layout::row_in(bytes, first + j);
         let above = refusal::key_rises(bytes, first, j);
         let answer = refusal::judge_row(events, key, row, above);
         if !answer.is_done() {
             return answer;
         }
-        tables::put(held, r, Activity(key), row);
+        tables::put(held, r, key, row);
         j += 1;
     }
     Answer::Done

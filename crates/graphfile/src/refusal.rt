@@ -92,10 +92,10 @@ pub(crate) fn key_rises(bytes: &[u8], first: usize, j: usize) -> bool
 }
 
 // A row, by its key and its set: 5, then 6.
-pub(crate) fn judge_row(events: Set, key: u8, row: Set, above: bool) -> Answer
-    ensures { λ a. ⌜ a ≡ rowAnswer events key row above ⌝ }
+pub(crate) fn judge_row(events: Set, key: Activity, row: Set, above: bool) -> Answer
+    ensures { λ a. ⌜ a ≡ rowAnswer events (key .0) row above ⌝ }
 {
-    if !events.has(Activity(key)) {
+    if !events.has(key) {
         return Answer::Outside;
     }
     if !row.is_within(events) {

@@ -69,15 +69,15 @@ fn row_total(relations: &Relations) -> usize
 }
 
 // Stores the row of an activity, if it is not empty, and gives the place after it.
-fn put_row(out: &mut [u8], at: usize, key: u8, s: Set) -> usize
+fn put_row(out: &mut [u8], at: usize, key: Activity, s: Set) -> usize
     requires { ⌜ at + rowLength * rowsFor s ≤ length (now out) ⌝ }
     ensures { λ n. ⌜ n ≡ at + rowLength * rowsFor s ⌝ }
-    ensures { λ _. ⌜ now (out .exit) ≡ sets (now (out .entry)) at (rowOf key s) ⌝ }
+    ensures { λ _. ⌜ now (out .exit) ≡ sets (now (out .entry)) at (rowOf (key .0) s) ⌝ }
 {
     if s.is_empty() {
         return at;
     }
-    out[at] = key;
+    out[at] = key.0;
     put_number(out, at + 1, 8, s.bits);
     at + layout::ROW
 }
@@ -91,7 +91,8 @@ fn put_rows(out: &mut [u8], at: usize, relations: &Relations, r: u8) -> usize
     let mut next = at;
     let mut a: u8 = 0;
     while a < Activity::LIMIT {
-        next = put_row(out, next, a, tables::row(relations, r, Activity(a)));
+        let key = Activity(a);
+        next = put_row(out, next, key, tables::row(relations, r, key));
         a += 1;
     }
     next

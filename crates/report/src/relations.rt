@@ -17,24 +17,24 @@ use sets::Set;
 use sets::tables;
 
 // The line of one pair.
-fn put_pair(out: &mut [u8], at: usize, letter: &[u8], s: u8, t: u8) -> usize
-    requires { ⌜ at + length (pairLine (now letter) (record { source = s; target = t })) ≤ length (now out) ⌝ }
-    ensures { λ r. ⌜ Put (now (out .entry)) at (pairLine (now (letter .entry)) (record { source = s; target = t })) (now (out .exit)) r ⌝ }
+fn put_pair(out: &mut [u8], at: usize, letter: &[u8], s: Activity, t: Activity) -> usize
+    requires { ⌜ at + length (pairLine (now letter) (record { source = s .0; target = t .0 })) ≤ length (now out) ⌝ }
+    ensures { λ r. ⌜ Put (now (out .entry)) at (pairLine (now (letter .entry)) (record { source = s .0; target = t .0 })) (now (out .exit)) r ⌝ }
 {
-    let next = text::put_named(out, at, letter, s as usize, text::SPACE);
-    text::put_number(out, next, t as usize, text::LINE_END)
+    let next = text::put_named(out, at, letter, s.0 as usize, text::SPACE);
+    text::put_number(out, next, t.0 as usize, text::LINE_END)
 }
 
 // The lines of a source with each of its targets, from the least on.
-fn put_row(out: &mut [u8], at: usize, letter: &[u8], s: u8, targets: Set) -> usize
-    requires { ⌜ at + length (pairLines (now letter) (withEach s (passing (mem targets) width 0))) ≤ length (now out) ⌝ }
-    ensures { λ r. ⌜ Put (now (out .entry)) at (pairLines (now (letter .entry)) (withEach s (passing (mem targets) width 0))) (now (out .exit)) r ⌝ }
+fn put_row(out: &mut [u8], at: usize, letter: &[u8], s: Activity, targets: Set) -> usize
+    requires { ⌜ at + length (pairLines (now letter) (withEach (s .0) (passing (mem targets) width 0))) ≤ length (now out) ⌝ }
+    ensures { λ r. ⌜ Put (now (out .entry)) at (pairLines (now (letter .entry)) (withEach (s .0) (passing (mem targets) width 0))) (now (out .exit)) r ⌝ }
 {
     let mut next = at;
     let mut rest = targets;
     while !rest.is_empty() {
         let t = rest.least();
-        next = put_pair(out, next, letter, s, t.0);
+        next = put_pair(out, next, letter, s, t);
         rest = rest.without_least();
     }
     next
@@ -48,13 +48,8 @@ fn put_pairs<'a>(out: &mut [u8], at: usize, letter: &'a [u8], tables: &'a [u64],
     let mut next = at;
     let mut a: u8 = 0;
     while a < Activity::LIMIT {
-        next = put_row(
-            out,
-            next,
-            letter,
-            a,
-            tables::row(tables, table, Activity(a)),
-        );
+        let s = Activity(a);
+        next = put_row(out, next, letter, s, tables::row(tables, table, s));
         a += 1;
     }
     next

@@ -8,7 +8,7 @@ use Rattle.report.proofs.relations.put_row.Statement.{statement}
 use Rattle.report.proofs.relations.put_row.Tie as tie
 
 abbrev Inv-loop : tie.InvT-loop
-Inv-loop out₀ at letter s next₀ rest₀ out next rest = Left out₀ at (rowText letter s rest₀) out next (rowText letter s rest)
+Inv-loop out₀ at letter s next₀ rest₀ out next rest = Left out₀ at (rowText letter (s .0) rest₀) out next (rowText letter (s .0) rest)
 
 abbrev μ-loop : tie.MeasureT-loop
 μ-loop out₀ at letter s next₀ rest₀ out next rest = countBelow width (mem rest)
