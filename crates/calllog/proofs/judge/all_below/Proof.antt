@@ -14,33 +14,8 @@ Inv-loop bytes from a below₀ i₀ below i = (below and allBelow a (drop i byte
 abbrev μ-loop : tie.MeasureT-loop
 μ-loop bytes from a below₀ i₀ below i = length bytes - i
 
-loop-holds : tie.Need-loop-holds Inv-loop μ-loop
-loop-holds c = search (scanning, needs)
-
-shared-slice-read-below : tie.Need-shared-slice-read-below Inv-loop μ-loop
-shared-slice-read-below c = search needs
-
-add-i : tie.Need-add-i Inv-loop μ-loop
-add-i c = search needs
-
-loop-less : tie.Need-loop-less Inv-loop μ-loop
-loop-less c = search needs
-
-loop-again : tie.Need-loop-again Inv-loop μ-loop
-loop-again c = search (scanning, needs)
-
-returns : tie.Need-returns Inv-loop μ-loop
-returns c = search (scanning, needs)
-
 pub all-below-spec : {M : Type 1} → statement M
 all-below-spec =
     tie.close
-    (tie.spec
-    Inv-loop
-    μ-loop
-    loop-holds
-    shared-slice-read-below
-    add-i
-    loop-less
-    loop-again
-    returns)
+    (tie.spec Inv-loop μ-loop (λ c. search (scanning, needs)) (λ c. search needs) (λ c. search needs) (λ c. search needs)
+    (λ c. search (scanning, needs)) (λ c. search (scanning, needs)))

@@ -3,12 +3,10 @@ use borrow.Author.Needs.{needs}
 use Rattle.calllog.proofs.layout.activities.Statement.{statement}
 use Rattle.calllog.proofs.layout.activities.Tie as tie
 
-byte-at-requires : tie.Need-byte-at-requires
-byte-at-requires c κs = search needs
-
 returns : tie.Need-returns
 unfolding activitiesIn
 returns c = c .byte-at .ensures
 
 pub activities-spec : {M : Type 1} → statement M
-activities-spec = tie.close (tie.spec byte-at-requires returns)
+activities-spec =
+    tie.close (tie.spec (λ c κs. search needs) returns)

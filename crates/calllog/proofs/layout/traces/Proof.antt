@@ -3,12 +3,10 @@ use borrow.Author.Needs.{needs}
 use Rattle.calllog.proofs.layout.traces.Statement.{statement}
 use Rattle.calllog.proofs.layout.traces.Tie as tie
 
-number-at-requires : tie.Need-number-at-requires
-number-at-requires c κs = search needs
-
 returns : tie.Need-returns
 unfolding tracesIn
 returns c = c .number-at .ensures
 
 pub traces-spec : {M : Type 1} → statement M
-traces-spec = tie.close (tie.spec number-at-requires returns)
+traces-spec =
+    tie.close (tie.spec (λ c κs. search needs) returns)

@@ -8,11 +8,6 @@ use Rattle.engine.proofs.judge.graph_within.Tie as tie
 pub graph-within-spec : {M : Type 1} → statement M
 graph-within-spec =
     tie.close
-    (tie.spec
-    (λ c κs. search needs)
-    (λ c κs. search needs)
-    (λ c. unfold graphWithin in search (conjunction, events-below, needs))
-    (λ c κs. search needs)
-    (λ c. unfold graphWithin in search (conjunction, events-below, needs))
-    (λ c κs. search needs)
+    (tie.spec (λ c κs. search needs) (λ c κs. search needs) (λ c. unfold graphWithin in search (conjunction, events-below, needs))
+    (λ c κs. search needs) (λ c. unfold graphWithin in search (conjunction, events-below, needs)) (λ c κs. search needs)
     (λ c. unfold graphWithin in search (conjunction, events-below, needs)))

@@ -8,10 +8,6 @@ use Rattle.engine.proofs.judge.judge_beside.Tie as tie
 pub judge-beside-spec : {M : Type 1} → statement M
 judge-beside-spec =
     tie.close
-    (tie.spec
-    (λ c κs. search needs)
-    (λ c κs. search needs)
-    (λ c. unfold judgedWith in search (ask-stops, ask-goes, choice, needs))
-    (λ c κs. search needs)
-    (λ c. unfold judgedWith in search (ask-stops, ask-goes, choice, needs))
+    (tie.spec (λ c κs. search needs) (λ c κs. search needs) (λ c. unfold judgedWith in search (ask-stops, ask-goes, choice, needs))
+    (λ c κs. search needs) (λ c. unfold judgedWith in search (ask-stops, ask-goes, choice, needs))
     (λ c. unfold judgedWith in search (ask-stops, ask-goes, choice, needs)))

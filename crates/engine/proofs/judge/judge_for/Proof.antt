@@ -7,9 +7,5 @@ use Rattle.engine.proofs.judge.judge_for.Tie as tie
 pub judge-for-spec : {M : Type 1} → statement M
 judge-for-spec =
     tie.close
-    (tie.spec
-    (λ c. unfold judgedFor in search (choice, needs))
-    (λ c. unfold judgedFor in search (choice, needs))
-    (λ c κs. search needs)
-    (λ c. unfold judgedFor in search (choice, needs))
-    (λ c. unfold judgedFor in search (choice, needs)))
+    (tie.spec (λ c. unfold judgedFor in search (choice, needs)) (λ c. unfold judgedFor in search (choice, needs)) (λ c κs. search needs)
+    (λ c. unfold judgedFor in search (choice, needs)) (λ c. unfold judgedFor in search (choice, needs)))

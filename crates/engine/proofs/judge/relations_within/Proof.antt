@@ -17,13 +17,6 @@ abbrev μ-loop : tie.MeasureT-loop
 pub relations-within-spec : {M : Type 1} → statement M
 relations-within-spec =
     tie.close
-    (tie.spec
-    Inv-loop
-    μ-loop
-    (λ c. search (below-none, needs))
-    (λ c κs. search needs)
-    (λ c. unfold relationsWithin in search (every-turn, needs))
-    (λ c. search needs)
-    (λ c. search needs)
-    (λ c. search (every-turn, needs))
+    (tie.spec Inv-loop μ-loop (λ c. search (below-none, needs)) (λ c κs. search needs)
+    (λ c. unfold relationsWithin in search (every-turn, needs)) (λ c. search needs) (λ c. search needs) (λ c. search (every-turn, needs))
     (λ c. unfold relationsWithin in search (every-turn, needs)))

@@ -7,10 +7,5 @@ use Rattle.engine.proofs.judge.row_within.Tie as tie
 pub row-within-spec : {M : Type 1} → statement M
 row-within-spec =
     tie.close
-    (tie.spec
-    (λ c κs. search needs)
-    (λ c. unfold rowWithin in search (conjunction, needs))
-    (λ c κs. search needs)
-    (λ c. unfold rowWithin in search (conjunction, needs))
-    (λ c κs. search needs)
-    (λ c. unfold rowWithin in search (conjunction, needs)))
+    (tie.spec (λ c κs. search needs) (λ c. unfold rowWithin in search (conjunction, needs)) (λ c κs. search needs)
+    (λ c. unfold rowWithin in search (conjunction, needs)) (λ c κs. search needs) (λ c. unfold rowWithin in search (conjunction, needs)))

@@ -19,14 +19,6 @@ abbrev μ-loop : tie.MeasureT-loop
 pub rows-within-spec : {M : Type 1} → statement M
 rows-within-spec =
     tie.close
-    (tie.spec
-    Inv-loop
-    μ-loop
-    (λ c. search (below-none, needs))
-    (λ c κs. search needs)
-    (λ c κs. search needs)
-    (λ c. unfold rowsWithin in search (every-turn, row-read, needs))
-    (λ c. search needs)
-    (λ c. search needs)
-    (λ c. search (every-turn, row-read, needs))
-    (λ c. unfold rowsWithin in search (every-turn, needs)))
+    (tie.spec Inv-loop μ-loop (λ c. search (below-none, needs)) (λ c κs. search needs) (λ c κs. search needs)
+    (λ c. unfold rowsWithin in search (every-turn, row-read, needs)) (λ c. search needs) (λ c. search needs)
+    (λ c. search (every-turn, row-read, needs)) (λ c. unfold rowsWithin in search (every-turn, needs)))

@@ -6,9 +6,5 @@ use Rattle.engine.proofs.replay.replay.Tie as tie
 pub replay-spec : {M : Type 1} → statement M
 replay-spec =
     tie.close
-    (tie.spec
-    (λ c κs. search needs)
-    (λ c κs. search needs)
-    (λ c. search (replay-refused, needs))
-    (λ c κs. search needs)
+    (tie.spec (λ c κs. search needs) (λ c κs. search needs) (λ c. search (replay-refused, needs)) (λ c κs. search needs)
     (λ c. search (replay-done, needs)))

@@ -7,11 +7,6 @@ use Rattle.engine.proofs.step.ask.Tie as tie
 pub ask-spec : {M : Type 1} → statement M
 ask-spec =
     tie.close
-    (tie.spec
-    (λ c κs. search needs)
-    (λ c. unfold enabled in search (choice, needs))
-    (λ c κs. search needs)
-    (λ c. unfold enabled in search (choice, needs))
-    (λ c κs. search needs)
-    (λ c. unfold enabled in search (choice, needs))
+    (tie.spec (λ c κs. search needs) (λ c. unfold enabled in search (choice, needs)) (λ c κs. search needs)
+    (λ c. unfold enabled in search (choice, needs)) (λ c κs. search needs) (λ c. unfold enabled in search (choice, needs))
     (λ c. unfold enabled in search (choice, needs)))

@@ -7,9 +7,5 @@ use Rattle.engine.proofs.step.ask_judged.Tie as tie
 pub ask-judged-spec : {M : Type 1} → statement M
 ask-judged-spec =
     tie.close
-    (tie.spec
-    (λ c κs. search needs)
-    (λ c κs. search needs)
-    (λ c. unfold enabledOf in search (ask-stops, needs))
-    (λ c κs. search needs)
+    (tie.spec (λ c κs. search needs) (λ c κs. search needs) (λ c. unfold enabledOf in search (ask-stops, needs)) (λ c κs. search needs)
     (λ c. unfold enabledOf in search (ask-goes, needs)))

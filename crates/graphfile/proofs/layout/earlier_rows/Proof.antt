@@ -15,13 +15,5 @@ abbrev μ-loop : tie.MeasureT-loop
 pub earlier-rows-spec : {M : Type 1} → statement M
 earlier-rows-spec =
     tie.close
-    (tie.spec
-    Inv-loop
-    μ-loop
-    (λ c. search (counting, needs))
-    (λ c κs. search needs)
-    (λ c. search needs)
-    (λ c. search needs)
-    (λ c. search needs)
-    (λ c. search (counting, needs))
-    (λ c. search (counting, needs)))
+    (tie.spec Inv-loop μ-loop (λ c. search (counting, needs)) (λ c κs. search needs) (λ c. search needs) (λ c. search needs)
+    (λ c. search needs) (λ c. search (counting, needs)) (λ c. search (counting, needs)))

@@ -6,11 +6,5 @@ use Rattle.graphfile.proofs.layout.marking_at.Tie as tie
 pub marking-at-spec : {M : Type 1} → statement M
 marking-at-spec =
     tie.close
-    (tie.spec
-    (λ c κs. search needs)
-    (λ c. search needs)
-    (λ c κs. search needs)
-    (λ c. search needs)
-    (λ c κs. search needs)
-    (λ c κs. search needs)
-    (λ c. search (marking-is, needs)))
+    (tie.spec (λ c κs. search needs) (λ c. search needs) (λ c κs. search needs) (λ c. search needs) (λ c κs. search needs)
+    (λ c κs. search needs) (λ c. search (marking-is, needs)))

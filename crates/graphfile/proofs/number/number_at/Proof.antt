@@ -22,16 +22,5 @@ add-value c = record { fits = search (turn-fits, needs) }
 pub number-at-spec : {M : Type 1} → statement M
 number-at-spec =
     tie.close
-    (tie.spec
-    Inv-loop
-    μ-loop
-    (λ c. search (reading, needs))
-    (λ c. search needs)
-    mul-value
-    (λ c. search needs)
-    (λ c. search needs)
-    (λ c κs. search needs)
-    add-value
-    (λ c. search needs)
-    (λ c. search (reading, needs))
-    (λ c. search (reading, needs)))
+    (tie.spec Inv-loop μ-loop (λ c. search (reading, needs)) (λ c. search needs) mul-value (λ c. search needs) (λ c. search needs)
+    (λ c κs. search needs) add-value (λ c. search needs) (λ c. search (reading, needs)) (λ c. search (reading, needs)))

@@ -17,15 +17,5 @@ abbrev μ-loop : tie.MeasureT-loop
 pub put-number-spec : {M : Type 1} → statement M
 put-number-spec =
     tie.close
-    (tie.spec
-    Inv-loop
-    μ-loop
-    (λ c. search (writing, needs))
-    (λ c. search needs)
-    (λ c. search needs)
-    (λ c. search needs)
-    (λ c. search needs)
-    (λ c. search needs)
-    (λ c. search (writing, needs))
-    (λ c. search needs)
-    (λ c. search (writing, needs)))
+    (tie.spec Inv-loop μ-loop (λ c. search (writing, needs)) (λ c. search needs) (λ c. search needs) (λ c. search needs) (λ c. search needs)
+    (λ c. search needs) (λ c. search (writing, needs)) (λ c. search needs) (λ c. search (writing, needs)))

@@ -24,14 +24,5 @@ returns c = (search (turns, needs), nothing-due _ _ (c .before .is-done .ensures
 pub take-relations-spec : {M : Type 1} → statement M
 take-relations-spec =
     tie.close
-    (tie.spec
-    Inv-loop
-    μ-loop
-    (λ c. search (taking-relations, needs))
-    (λ c κs. search needs)
-    (λ c κs. search needs)
-    returns
-    (λ c. search needs)
-    (λ c. search needs)
-    (λ c. search (taking-relations, needs))
-    (λ c. search (taking-relations, needs)))
+    (tie.spec Inv-loop μ-loop (λ c. search (taking-relations, needs)) (λ c κs. search needs) (λ c κs. search needs) returns
+    (λ c. search needs) (λ c. search needs) (λ c. search (taking-relations, needs)) (λ c. search (taking-relations, needs)))

@@ -21,13 +21,5 @@ returns-4 c =
 pub judge-before-rows-spec : {M : Type 1} → statement M
 judge-before-rows-spec =
     tie.close
-    (tie.spec
-    (λ c. search (front-short, front-head, needs))
-    (λ c κs. search needs)
-    (λ c κs. search needs)
-    (λ c. search (front-short, front-head, needs))
-    (λ c κs. search needs)
-    (λ c κs. search needs)
-    returns-3
-    (λ c κs. search needs)
-    returns-4)
+    (tie.spec (λ c. search (front-short, front-head, needs)) (λ c κs. search needs) (λ c κs. search needs)
+    (λ c. search (front-short, front-head, needs)) (λ c κs. search needs) (λ c κs. search needs) returns-3 (λ c κs. search needs) returns-4)

@@ -18,14 +18,5 @@ abbrev μ-loop : tie.MeasureT-loop
 pub judge-entries-spec : {M : Type 1} → statement M
 judge-entries-spec =
     tie.close
-    (tie.spec
-    Inv-loop
-    μ-loop
-    (λ c. search (turns, needs))
-    (λ c κs. search needs)
-    (λ c κs. search needs)
-    (λ c. search (turns, needs))
-    (λ c. search needs)
-    (λ c. search needs)
-    (λ c. search (turns, needs))
-    (λ c. search (turns, needs)))
+    (tie.spec Inv-loop μ-loop (λ c. search (turns, needs)) (λ c κs. search needs) (λ c κs. search needs) (λ c. search (turns, needs))
+    (λ c. search needs) (λ c. search needs) (λ c. search (turns, needs)) (λ c. search (turns, needs)))

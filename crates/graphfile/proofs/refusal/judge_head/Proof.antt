@@ -6,17 +6,6 @@ use Rattle.graphfile.proofs.refusal.judge_head.Tie as tie
 pub judge-head-spec : {M : Type 1} → statement M
 judge-head-spec =
     tie.close
-    (tie.spec
-    (λ c. search needs)
-    (λ c κs. search needs)
-    (λ c. search (heads, needs))
-    (λ c. search needs)
-    (λ c. search (heads, needs))
-    (λ c κs. search needs)
-    (λ c κs. search needs)
-    (λ c κs. search needs)
-    (λ c. search (heads, needs))
-    (λ c κs. search needs)
-    (λ c κs. search needs)
-    (λ c. search (heads, needs))
-    (λ c. search (heads, needs)))
+    (tie.spec (λ c. search needs) (λ c κs. search needs) (λ c. search (heads, needs)) (λ c. search needs) (λ c. search (heads, needs))
+    (λ c κs. search needs) (λ c κs. search needs) (λ c κs. search needs) (λ c. search (heads, needs)) (λ c κs. search needs)
+    (λ c κs. search needs) (λ c. search (heads, needs)) (λ c. search (heads, needs)))

@@ -6,12 +6,5 @@ use Rattle.graphfile.proofs.refusal.judge_row.Tie as tie
 pub judge-row-spec : {M : Type 1} → statement M
 judge-row-spec =
     tie.close
-    (tie.spec
-    (λ c κs. search needs)
-    (λ c. search (row-by-row, needs))
-    (λ c κs. search needs)
-    (λ c. search (row-by-row, needs))
-    (λ c κs. search needs)
-    (λ c. search (row-by-row, needs))
-    (λ c. search (row-by-row, needs))
-    (λ c. search (row-by-row, needs)))
+    (tie.spec (λ c κs. search needs) (λ c. search (row-by-row, needs)) (λ c κs. search needs) (λ c. search (row-by-row, needs))
+    (λ c κs. search needs) (λ c. search (row-by-row, needs)) (λ c. search (row-by-row, needs)) (λ c. search (row-by-row, needs)))

@@ -6,11 +6,5 @@ use Rattle.graphfile.proofs.refusal.key_rises.Tie as tie
 pub key-rises-spec : {M : Type 1} → statement M
 key-rises-spec =
     tie.close
-    (tie.spec
-    (λ c. search (keys, needs))
-    (λ c. search needs)
-    (λ c. search needs)
-    (λ c κs. search needs)
-    (λ c. search needs)
-    (λ c κs. search needs)
-    (λ c. search (keys, needs)))
+    (tie.spec (λ c. search (keys, needs)) (λ c. search needs) (λ c. search needs) (λ c κs. search needs) (λ c. search needs)
+    (λ c κs. search needs) (λ c. search (keys, needs)))

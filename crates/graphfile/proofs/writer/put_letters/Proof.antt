@@ -13,13 +13,5 @@ slice-write-out-3 c = simp length-set (omega arith)
 pub put-letters-spec : {M : Type 1} → statement M
 put-letters-spec =
     tie.close
-    (tie.spec
-    (λ c. search needs)
-    (λ c. search needs)
-    (λ c. search needs)
-    slice-write-out-2
-    (λ c. search needs)
-    slice-write-out-3
-    (λ c. search needs)
-    (λ c. search needs)
-    (λ c. search needs))
+    (tie.spec (λ c. search needs) (λ c. search needs) (λ c. search needs) slice-write-out-2 (λ c. search needs) slice-write-out-3
+    (λ c. search needs) (λ c. search needs) (λ c. search needs))

@@ -6,11 +6,5 @@ use Rattle.graphfile.proofs.writer.put_marking.Tie as tie
 pub put-marking-spec : {M : Type 1} → statement M
 put-marking-spec =
     tie.close
-    (tie.spec
-    (λ c κs. search needs)
-    (λ c. search needs)
-    (λ c κs. search needs)
-    (λ c. search needs)
-    (λ c κs. search needs)
-    (λ c. search needs)
-    (λ c. search (marking-stored, needs)))
+    (tie.spec (λ c κs. search needs) (λ c. search needs) (λ c κs. search needs) (λ c. search needs) (λ c κs. search needs)
+    (λ c. search needs) (λ c. search (marking-stored, needs)))

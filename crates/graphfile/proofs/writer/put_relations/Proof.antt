@@ -22,13 +22,5 @@ abbrev μ-loop : tie.MeasureT-loop
 pub put-relations-spec : {M : Type 1} → statement M
 put-relations-spec =
     tie.close
-    (tie.spec
-    Inv-loop
-    μ-loop
-    (λ c. search (each-relation, needs))
-    (λ c κs. search (each-relation, needs))
-    (λ c. search needs)
-    (λ c. search needs)
-    (λ c. search (each-relation, kept-length, needs))
-    (λ c. search needs)
-    (λ c. search (each-relation, needs)))
+    (tie.spec Inv-loop μ-loop (λ c. search (each-relation, needs)) (λ c κs. search (each-relation, needs)) (λ c. search needs)
+    (λ c. search needs) (λ c. search (each-relation, kept-length, needs)) (λ c. search needs) (λ c. search (each-relation, needs)))

@@ -23,14 +23,6 @@ abbrev μ-loop : tie.MeasureT-loop
 pub put-rows-spec : {M : Type 1} → statement M
 put-rows-spec =
     tie.close
-    (tie.spec
-    Inv-loop
-    μ-loop
-    (λ c. search needs)
-    (λ c κs. search needs)
-    (λ c κs. search (place-room, needs))
-    (λ c. search needs)
-    (λ c. search needs)
-    (λ c. search (place-turn, rows-turn, kept-length, needs))
-    (λ c. search needs)
+    (tie.spec Inv-loop μ-loop (λ c. search needs) (λ c κs. search needs) (λ c κs. search (place-room, needs)) (λ c. search needs)
+    (λ c. search needs) (λ c. search (place-turn, rows-turn, kept-length, needs)) (λ c. search needs)
     (λ c. search (place-end, rows-end, needs)))

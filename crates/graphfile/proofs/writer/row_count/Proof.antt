@@ -1,4 +1,4 @@
-use Prim.Native.Nat.{_+_, _-_, _*_, _≤_}
+use Prim.Native.Nat.{_+_, _-_, _≤_}
 use mathlib.Core.Path.{_≡_}
 use borrow.Author.Needs.{needs}
 use Rattle.sets.specs.Members.{width}
@@ -18,14 +18,5 @@ abbrev μ-loop : tie.MeasureT-loop
 pub row-count-spec : {M : Type 1} → statement M
 row-count-spec =
     tie.close
-    (tie.spec
-    Inv-loop
-    μ-loop
-    (λ c. search (counts, needs))
-    (λ c κs. search needs)
-    (λ c κs. search needs)
-    (λ c. search needs)
-    (λ c. search needs)
-    (λ c. search needs)
-    (λ c. search (counts, needs))
-    (λ c. search (counts, needs)))
+    (tie.spec Inv-loop μ-loop (λ c. search (counts, needs)) (λ c κs. search needs) (λ c κs. search needs) (λ c. search needs)
+    (λ c. search needs) (λ c. search needs) (λ c. search (counts, needs)) (λ c. search (counts, needs)))

@@ -1,4 +1,4 @@
-use Prim.Native.Nat.{_+_, _-_, _*_, _≤_}
+use Prim.Native.Nat.{_-_, _*_, _≤_}
 use mathlib.Core.Path.{_≡_}
 use borrow.Author.Needs.{needs}
 use Rattle.sets.specs.Members.{width}
@@ -17,13 +17,5 @@ abbrev μ-loop : tie.MeasureT-loop
 pub row-total-spec : {M : Type 1} → statement M
 row-total-spec =
     tie.close
-    (tie.spec
-    Inv-loop
-    μ-loop
-    (λ c. search (counting, needs))
-    (λ c κs. search needs)
-    (λ c. search needs)
-    (λ c. search needs)
-    (λ c. search needs)
-    (λ c. search (counting, needs))
-    (λ c. search (counting, needs)))
+    (tie.spec Inv-loop μ-loop (λ c. search (counting, needs)) (λ c κs. search needs) (λ c. search needs) (λ c. search needs)
+    (λ c. search needs) (λ c. search (counting, needs)) (λ c. search (counting, needs)))

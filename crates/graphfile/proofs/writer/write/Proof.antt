@@ -14,14 +14,6 @@ returns-3 c =
 pub write-spec : {M : Type 1} → statement M
 write-spec =
     tie.close
-    (tie.spec
-    (λ c κs. search needs)
-    (λ c κs. search needs)
-    (λ c. search (write-refused, refused-keeps, needs))
-    (λ c κs. search needs)
-    (λ c. search needs)
-    (λ c. search needs)
-    (λ c. search (write-small, small-keeps, needs))
-    (λ c κs. search needs)
-    (λ c. search needs)
+    (tie.spec (λ c κs. search needs) (λ c κs. search needs) (λ c. search (write-refused, refused-keeps, needs)) (λ c κs. search needs)
+    (λ c. search needs) (λ c. search needs) (λ c. search (write-small, small-keeps, needs)) (λ c κs. search needs) (λ c. search needs)
     returns-3)

@@ -21,15 +21,6 @@ abbrev μ-loop : tie.MeasureT-loop
 pub pair-count-spec : {M : Type 1} → statement M
 pair-count-spec =
     tie.close
-    (tie.spec
-    Inv-loop
-    μ-loop
-    (λ c. search (counting, needs))
-    (λ c κs. search (counting, needs))
-    (λ c κs. search (counting, needs))
-    (λ c. search (counting, needs))
-    (λ c. search (counting, needs))
-    (λ c. search (counting, needs))
-    (λ c. search (counting, needs))
-    (λ c. search (counting, needs))
-    (λ c. search (counting, needs)))
+    (tie.spec Inv-loop μ-loop (λ c. search (counting, needs)) (λ c κs. search (counting, needs)) (λ c κs. search (counting, needs))
+    (λ c. search (counting, needs)) (λ c. search (counting, needs)) (λ c. search (counting, needs)) (λ c. search (counting, needs))
+    (λ c. search (counting, needs)) (λ c. search (counting, needs)))

@@ -6,14 +6,6 @@ use Rattle.report.proofs.heading.put_counts.Tie as tie
 pub put-counts-spec : {M : Type 1} → statement M
 put-counts-spec =
     tie.close
-    (tie.spec
-    (λ c. search needs)
-    (λ c κs. search (of-four-1, needs))
-    (λ c. search needs)
-    (λ c κs. search (of-four-2, needs))
-    (λ c. search needs)
-    (λ c κs. search (of-four-3, needs))
-    (λ c. search needs)
-    (λ c κs. search (of-four-4, needs))
-    (λ c. search needs)
+    (tie.spec (λ c. search needs) (λ c κs. search (of-four-1, needs)) (λ c. search needs) (λ c κs. search (of-four-2, needs))
+    (λ c. search needs) (λ c κs. search (of-four-3, needs)) (λ c. search needs) (λ c κs. search (of-four-4, needs)) (λ c. search needs)
     (λ c. search (put-four, needs)))

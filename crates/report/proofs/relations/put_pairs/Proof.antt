@@ -22,14 +22,6 @@ abbrev μ-loop : tie.MeasureT-loop
 pub put-pairs-spec : {M : Type 1} → statement M
 put-pairs-spec =
     tie.close
-    (tie.spec
-    Inv-loop
-    μ-loop
-    (λ c. search (row-by-row, needs))
-    (λ c κs. search (row-by-row, needs))
-    (λ c κs. search (row-by-row, needs))
-    (λ c. search (row-by-row, needs))
-    (λ c. search (row-by-row, needs))
-    (λ c. search (row-by-row, needs))
-    (λ c. search (row-by-row, needs))
+    (tie.spec Inv-loop μ-loop (λ c. search (row-by-row, needs)) (λ c κs. search (row-by-row, needs)) (λ c κs. search (row-by-row, needs))
+    (λ c. search (row-by-row, needs)) (λ c. search (row-by-row, needs)) (λ c. search (row-by-row, needs)) (λ c. search (row-by-row, needs))
     (λ c. search (row-by-row, needs)))

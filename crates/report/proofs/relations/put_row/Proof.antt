@@ -16,15 +16,6 @@ abbrev μ-loop : tie.MeasureT-loop
 pub put-row-spec : {M : Type 1} → statement M
 put-row-spec =
     tie.close
-    (tie.spec
-    Inv-loop
-    μ-loop
-    (λ c. search (members, needs))
-    (λ c κs. search (members, needs))
-    (λ c κs. search (members, needs))
-    (λ c κs. search (members, needs))
-    (λ c κs. search (members, needs))
-    (λ c. search (fewer-left, needs))
-    (λ c. search (members, needs))
-    (λ c. search (members, needs))
-    (λ c. search (members, needs)))
+    (tie.spec Inv-loop μ-loop (λ c. search (members, needs)) (λ c κs. search (members, needs)) (λ c κs. search (members, needs))
+    (λ c κs. search (members, needs)) (λ c κs. search (members, needs)) (λ c. search (fewer-left, needs)) (λ c. search (members, needs))
+    (λ c. search (members, needs)) (λ c. search (members, needs)))

@@ -6,11 +6,5 @@ use Rattle.report.proofs.replays.put_trace.Tie as tie
 pub put-trace-spec : {M : Type 1} → statement M
 put-trace-spec =
     tie.close
-    (tie.spec
-    (λ c κs. search needs)
-    (λ c κs. search needs)
-    (λ c κs. search needs)
-    (λ c. search needs)
-    (λ c κs. search (trace-room, needs))
-    (λ c. search needs)
-    (λ c. search (trace-put, needs)))
+    (tie.spec (λ c κs. search needs) (λ c κs. search needs) (λ c κs. search needs) (λ c. search needs) (λ c κs. search (trace-room, needs))
+    (λ c. search needs) (λ c. search (trace-put, needs)))

@@ -6,11 +6,5 @@ use Rattle.report.proofs.replays.put_trace_line.Tie as tie
 pub put-trace-line-spec : {M : Type 1} → statement M
 put-trace-line-spec =
     tie.close
-    (tie.spec
-    (λ c. search needs)
-    (λ c κs. search (of-four-1, needs))
-    (λ c κs. search (of-four-2, needs))
-    (λ c κs. search (of-four-3, needs))
-    (λ c κs. search (of-four-4, needs))
-    (λ c. search needs)
-    (λ c. search (put-four, needs)))
+    (tie.spec (λ c. search needs) (λ c κs. search (of-four-1, needs)) (λ c κs. search (of-four-2, needs))
+    (λ c κs. search (of-four-3, needs)) (λ c κs. search (of-four-4, needs)) (λ c. search needs) (λ c. search (put-four, needs)))

@@ -26,18 +26,6 @@ add-end c = omega (arith, part-within _ _ _ (c .before .trace-part .ensures))
 pub put-traces-spec : {M : Type 1} → statement M
 put-traces-spec =
     tie.close
-    (tie.spec
-    Inv-loop
-    μ-loop
-    (λ c. search (traces-start, needs))
-    (λ c κs. search needs)
-    add-end
-    (λ c. search needs)
-    (λ c. search needs)
-    (λ c. search (part-within, needs))
-    (λ c κs. search (traces-room, needs))
-    (λ c. search needs)
-    (λ c. search needs)
-    (λ c. search (traces-turn, needs))
-    (λ c. search needs)
-    (λ c. search (traces-end, needs)))
+    (tie.spec Inv-loop μ-loop (λ c. search (traces-start, needs)) (λ c κs. search needs) add-end (λ c. search needs) (λ c. search needs)
+    (λ c. search (part-within, needs)) (λ c κs. search (traces-room, needs)) (λ c. search needs) (λ c. search needs)
+    (λ c. search (traces-turn, needs)) (λ c. search needs) (λ c. search (traces-end, needs)))

@@ -14,16 +14,6 @@ abbrev μ-loop : tie.MeasureT-loop
 pub put-bytes-spec : {M : Type 1} → statement M
 put-bytes-spec =
     tie.close
-    (tie.spec
-    Inv-loop
-    μ-loop
-    (λ c. search (byte-first, needs))
-    (λ c. search needs)
-    (λ c. search needs)
-    (λ c. search (byte-room, needs))
-    (λ c. search needs)
-    (λ c. search needs)
-    (λ c. search (byte-next, needs))
-    (λ c. search needs)
-    (λ c. search needs)
+    (tie.spec Inv-loop μ-loop (λ c. search (byte-first, needs)) (λ c. search needs) (λ c. search needs) (λ c. search (byte-room, needs))
+    (λ c. search needs) (λ c. search needs) (λ c. search (byte-next, needs)) (λ c. search needs) (λ c. search needs)
     (λ c. search (byte-last, needs)))

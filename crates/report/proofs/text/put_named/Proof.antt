@@ -5,9 +5,4 @@ use Rattle.report.proofs.text.put_named.Tie as tie
 
 pub put-named-spec : {M : Type 1} → statement M
 put-named-spec =
-    tie.close
-    (tie.spec
-    (λ c κs. search (naming, needs))
-    (λ c κs. search (naming, needs))
-    (λ c. search needs)
-    (λ c. search (naming, needs)))
+    tie.close (tie.spec (λ c κs. search (naming, needs)) (λ c κs. search (naming, needs)) (λ c. search needs) (λ c. search (naming, needs)))

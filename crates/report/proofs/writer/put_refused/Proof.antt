@@ -6,10 +6,5 @@ use Rattle.report.proofs.writer.put_refused.Tie as tie
 pub put-refused-spec : {M : Type 1} → statement M
 put-refused-spec =
     tie.close
-    (tie.spec
-    (λ c κs. search needs)
-    (λ c. search needs)
-    (λ c. search needs)
-    (λ c κs. search (refused-room, needs))
-    (λ c. search needs)
+    (tie.spec (λ c κs. search needs) (λ c. search needs) (λ c. search needs) (λ c κs. search (refused-room, needs)) (λ c. search needs)
     (λ c. search (refused-put, needs)))

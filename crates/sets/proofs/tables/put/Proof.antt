@@ -6,13 +6,5 @@ use Rattle.sets.proofs.tables.put.Tie as tie
 pub put-spec : {M : Type 1} → statement M
 put-spec =
     tie.close
-    (tie.spec
-    (λ c. search needs)
-    (λ c. search needs)
-    (λ c. search needs)
-    (λ c. search needs)
-    (λ c. search needs)
-    (λ c. search needs)
-    (λ c. search (placing, needs))
-    (λ c. search (placing, needs))
-    (λ c. search (placing, needs)))
+    (tie.spec (λ c. search needs) (λ c. search needs) (λ c. search needs) (λ c. search needs) (λ c. search needs) (λ c. search needs)
+    (λ c. search (placing, needs)) (λ c. search (placing, needs)) (λ c. search (placing, needs)))

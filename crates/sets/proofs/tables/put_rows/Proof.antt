@@ -16,14 +16,6 @@ abbrev μ-loop : tie.MeasureT-loop
 pub put-rows-spec : {M : Type 1} → statement M
 put-rows-spec =
     tie.close
-    (tie.spec
-    Inv-loop
-    μ-loop
-    (λ c. search (putting, needs))
-    (λ c κs. search (putting, needs))
-    (λ c κs. search (putting, needs))
-    (λ c. search (putting, needs))
-    (λ c. search (putting, needs))
-    (λ c. search (putting, needs))
-    (λ c. search (putting, needs))
+    (tie.spec Inv-loop μ-loop (λ c. search (putting, needs)) (λ c κs. search (putting, needs)) (λ c κs. search (putting, needs))
+    (λ c. search (putting, needs)) (λ c. search (putting, needs)) (λ c. search (putting, needs)) (λ c. search (putting, needs))
     (λ c. search (putting, needs)))

@@ -6,12 +6,5 @@ use Rattle.sets.proofs.tables.row.Tie as tie
 pub row-spec : {M : Type 1} → statement M
 row-spec =
     tie.close
-    (tie.spec
-    (λ c. search needs)
-    (λ c. search (placing, needs))
-    (λ c. search needs)
-    (λ c. search needs)
-    (λ c. search (placing, needs))
-    (λ c. search needs)
-    (λ c. search needs)
-    (λ c. search (placing, needs)))
+    (tie.spec (λ c. search needs) (λ c. search (placing, needs)) (λ c. search needs) (λ c. search needs) (λ c. search (placing, needs))
+    (λ c. search needs) (λ c. search needs) (λ c. search (placing, needs)))

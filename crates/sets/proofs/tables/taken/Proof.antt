@@ -17,15 +17,5 @@ abbrev μ-loop : tie.MeasureT-loop
 pub taken-spec : {M : Type 1} → statement M
 taken-spec =
     tie.close
-    (tie.spec
-    Inv-loop
-    μ-loop
-    (λ c κs. search needs)
-    (λ c. search (putting, needs))
-    (λ c. search (putting, needs))
-    (λ c κs. search needs)
-    (λ c κs. search needs)
-    (λ c. search needs)
-    (λ c. search needs)
-    (λ c. search (putting, needs))
-    (λ c. search (putting, needs)))
+    (tie.spec Inv-loop μ-loop (λ c κs. search needs) (λ c. search (putting, needs)) (λ c. search (putting, needs)) (λ c κs. search needs)
+    (λ c κs. search needs) (λ c. search needs) (λ c. search needs) (λ c. search (putting, needs)) (λ c. search (putting, needs)))

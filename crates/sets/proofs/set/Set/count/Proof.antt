@@ -8,8 +8,6 @@ use Rattle.sets.proofs.set.Set.count.Tie as tie
 cast-result : tie.Need-cast-result
 cast-result c = omega (arith, ones-le 64 (c .before .args .self .bits) (search needs))
 
-returns : tie.Need-returns
-returns c = search (operations, needs)
-
 pub count-spec : {M : Type 1} → statement M
-count-spec = tie.close (tie.spec cast-result returns)
+count-spec =
+    tie.close (tie.spec cast-result (λ c. search (operations, needs)))

@@ -8,8 +8,6 @@ use Rattle.sets.proofs.set.Set.least.Tie as tie
 cast-t3 : tie.Need-cast-t3
 cast-t3 c = omega (arith, trailing-le 64 (c .before .args .self .bits))
 
-returns : tie.Need-returns
-returns c = search (operations, needs)
-
 pub least-spec : {M : Type 1} → statement M
-least-spec = tie.close (tie.spec cast-t3 returns)
+least-spec =
+    tie.close (tie.spec cast-t3 (λ c. search (operations, needs)))
