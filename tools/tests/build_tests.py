@@ -80,11 +80,11 @@ def rebuilds(folder):
     same(small.run("./list", data=b"").out, b"7\n", "before")
     small.write("8")
     gave = small.run("./list", data=b"")
-    same((gave.status, gave.out), (0, b"8\n"), "after a change of a library")
+    holds((gave.status, gave.out) == (0, b"8\n"), f"after a change of a library: {gave}")
     small.write("9", " +")
     for time_ in ("first", "second"):
         gave = small.run("./list", data=b"")
-        same((gave.status, gave.out), (3, b""), f"{time_} call after a build that failed")
+        holds((gave.status, gave.out) == (3, b""), f"{time_} call after a build that failed: {gave}")
         holds("could not be built" in gave.err and "crates/figures/src/lib.rt:3:1: error" in gave.err, f"it says {gave.err!r}")
 
 
