@@ -1,13 +1,15 @@
 // Cases of graph files: read, written again, written into a buffer of a certain size, mined; and of graphs that no file can hold.
 use crate::files;
-use crate::steps;
+use crate::moves;
 use crate::text;
 use engine::Graph;
-use engine::Marking;
+use engine::Head;
+use engine::Relations;
+use engine::graph::KINDS;
 use sets::Activity;
-use sets::Rows;
 use sets::Set;
-use sets::rows;
+use sets::activity::WIDTH;
+use sets::tables;
 
 // Room for the greatest graph file: 52 bytes, and 9 for each of 64 rows in 4 relations.
 const ROOM: usize = 2356;
@@ -103,22 +105,6 @@ pub fn lend(file: &[u8], i: u32) {
     write_into(r.graph, file, &before[..n], &mut out[..k]);
 }
 
-// A graph put together by hand: nothing judges it, so it may be one that no file can hold. It has one row, in the relation of that
-// number, in the file's order.
-fn graph_of(activities: u8, events: Set, opening: Marking, relation: u8, row: Rows) -> Graph {
-    let mut g = Graph::empty();
-    g.activities = activities;
-    g.events = events;
-    g.opening = opening;
-    match relation {
-        0 => g.conditions = row,
-        1 => g.responses = row,
-        2 => g.includes = row,
-        _ => g.excludes = row,
-    }
-    g
-}
-
 // The set in the first 8 bytes: a marking's executed activities stand first.
 fn set_of(bytes: &[u8]) -> Set {
     let m = graphfile::marking::read_marking(bytes);
@@ -128,14 +114,20 @@ fn set_of(bytes: &[u8]) -> Set {
 // A value's bytes: how large a buffer is lent to its write; A; relation, key and set of its row; events; opening marking.
 const VALUE: usize = 44;
 
+// A graph put together by hand: nothing judges it, so it may be one that no file can hold. It has one row, in the relation of that number.
 fn value_of(bytes: &[u8]) -> Graph {
     if bytes.len() < VALUE {
         return Graph::empty();
     }
-    let mut row = rows::empty();
-    rows::put(&mut row, Activity(bytes[3]), set_of(&bytes[4..]));
-    let opening = graphfile::marking::read_marking(&bytes[20..]);
-    graph_of(bytes[1], set_of(&bytes[12..]), opening, bytes[2], row)
+    let head = Head {
+        activities: bytes[1],
+        events: set_of(&bytes[12..]),
+        opening: graphfile::marking::read_marking(&bytes[20..]),
+    };
+    let mut relations: Relations = [0; KINDS as usize * WIDTH];
+    let row = set_of(&bytes[4..]);
+    tables::put(&mut relations, bytes[2], Activity(bytes[3]), row);
+    Graph { head, relations }
 }
 
 // Writes a graph into the first bytes of a buffer.
@@ -152,7 +144,8 @@ pub fn value<'a>(file: &'a [u8], bytes: &'a [u8]) {
         let before = [170u8; 256];
         let mut out = [170u8; 256];
         let g = value_of(bytes);
-        steps::say_step(g, g.opening, Activity(bytes[3]));
+        let head = g.head;
+        moves::say_step(g, head.opening, Activity(bytes[3]));
         text::say(b"; written");
         write_first(g, file, &before, &mut out, bytes[0]);
     }

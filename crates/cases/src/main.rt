@@ -4,8 +4,8 @@
 mod files;
 mod graphs;
 mod logs;
+mod moves;
 mod replays;
-mod steps;
 mod text;
 
 // Far more words than any list of cases has.
@@ -23,7 +23,7 @@ fn run_pair(kind: u8, first: &[u8], i: u32) {
         b'm' => graphs::mine(first, &buf[..n]),
         b'r' => replays::replay_all(first, &buf[..n], i),
         b't' => replays::replay_whole(first, &buf[..n]),
-        b's' => steps::step(first, &buf[..n]),
+        b's' => moves::step(first, &buf[..n]),
         b'v' => graphs::value(first, &buf[..n]),
         _ => text::line(b": no such case"),
     }
