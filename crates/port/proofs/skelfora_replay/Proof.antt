@@ -3,37 +3,10 @@ use borrow.Author.Needs.{needs}
 use Rattle.port.proofs.skelfora_replay.Statement.{statement}
 use Rattle.port.proofs.skelfora_replay.Tie as tie
 
-read-requires : tie.Need-read-requires
-read-requires c κs = search needs
-
-is-done-requires : tie.Need-is-done-requires
-is-done-requires c κs = search needs
-
-packed-requires : tie.Need-packed-requires
-packed-requires c κs = search needs
-
-returns : tie.Need-returns
-returns c = search (replaying, needs)
-
-packed-requires-2 : tie.Need-packed-requires-2
-packed-requires-2 c κs = search needs
-
-returns-2 : tie.Need-returns-2
-returns-2 c = search (replaying, needs)
-
-run-requires : tie.Need-run-requires
-run-requires c κs = search needs
-
-packed-requires-3 : tie.Need-packed-requires-3
-packed-requires-3 c κs = search needs
-
-add-result : tie.Need-add-result
-add-result c = search needs
-
 returns-3 : tie.Need-returns-3
 returns-3 c =
     let run = c .before .before in
-    let short = run .before .before .before .before .before .before .before .before in
+    let short = run .before .before .before .before in
     let left = short .before in
     let read = left .before .before in
     replay-accepting _ _ _ (read .read .ensures) _ (left .before .is-done .ensures) (left .if1 .left)
@@ -42,7 +15,7 @@ returns-3 c =
 returns-4 : tie.Need-returns-4
 returns-4 c =
     let run = c .before .before in
-    let short = run .before .before .before .before .before .before .before .before in
+    let short = run .before .before .before .before in
     let left = short .before in
     let read = left .before .before in
     replay-other _ _ _ (read .read .ensures) _ (left .before .is-done .ensures) (left .if1 .left)
@@ -52,14 +25,14 @@ pub skelfora-replay-spec : {M : Type 1} → statement M
 skelfora-replay-spec =
     tie.close
     (tie.spec
-    read-requires
-    is-done-requires
-    packed-requires
-    returns
-    packed-requires-2
-    returns-2
-    run-requires
-    packed-requires-3
-    add-result
+    (λ c κs. search needs)
+    (λ c κs. search needs)
+    (λ c κs. search needs)
+    (λ c. search (replaying, needs))
+    (λ c κs. search needs)
+    (λ c. search (replaying, needs))
+    (λ c κs. search needs)
+    (λ c κs. search needs)
+    (λ c. search needs)
     returns-3
     returns-4)
