@@ -6,7 +6,7 @@ use Rattle.port.proofs.skelfora_replay.Tie as tie
 returns-3 : tie.Need-returns-3
 returns-3 c =
     let run = c .before .before in
-    let short = run .before .before .before .before .before .before .before .before in
+    let short = run .before .before .before .before in
     let left = short .before in
     let read = left .before .before in
     replay-accepting _ _ _ (read .read .ensures) _ (left .before .is-done .ensures) (left .if1 .left)
@@ -15,7 +15,7 @@ returns-3 c =
 returns-4 : tie.Need-returns-4
 returns-4 c =
     let run = c .before .before in
-    let short = run .before .before .before .before .before .before .before .before in
+    let short = run .before .before .before .before in
     let left = short .before in
     let read = left .before .before in
     replay-other _ _ _ (read .read .ensures) _ (left .before .is-done .ensures) (left .if1 .left)
