@@ -19,7 +19,8 @@ use Rattle.sets.specs.declared.answer.Answer.{Answer}
 use Rattle.sets.specs.declared.answer.Answer.the-variants.{Done, TooShort, WrongLetters, AboveLimit, WrongOffset, Outside, BadRow, BufferTooSmall, NoEvent, NotIncluded, Waiting, NoTrace}
 use Rattle.sets.proofs.Members.{mem-those}
 use Rattle.sets.proofs.Asking.{done-is}
-use Rattle.engine.specs.Markings.{noSet, emptyMarking, openingOf}
+use Rattle.sets.specs.Members.{noSet}
+use Rattle.engine.specs.Markings.{emptyMarking, openingOf}
 use Rattle.engine.specs.Relations.{emptyGraph, relationsOf}
 use Rattle.engine.specs.Steps.{enabled, after, accepting}
 use Rattle.engine.specs.Judged.{judgedFor, judged, judgedWith}

@@ -10,6 +10,7 @@ use lib.ListN.{length, take, drop, List·getD-eq-default}
 use Rattle.sets.specs.Tests.{_and_, _or_, non, when_then_else_}
 use Rattle.sets.specs.Members.{bit, bitsOf, someBelow, everyBelow, isEmpty, within, mem, those}
 use Rattle.sets.specs.Rows.{rowAt}
+use Rattle.sets.specs.Tables.{tableAt}
 use Rattle.sets.specs.Answers.{isDone}
 use Rattle.sets.specs.declared.answer.Answer.{Answer}
 use Rattle.sets.specs.declared.answer.Answer.the-variants.{Done}
@@ -57,7 +58,7 @@ module _ (bytes : List ℕ) where
 
 -- the empty graph is no reason to refuse
 pub empty-judged : judged emptyGraph ≡ Done
-unfolding judgedFor graphWithin relationsWithin rowsWithin rowWithin markingWithin within isEmpty everyBelow bitsOf bit mem those _and_ _or_ non rowAt
+unfolding judgedFor graphWithin relationsWithin rowsWithin rowWithin markingWithin within isEmpty everyBelow bitsOf bit mem those _and_ _or_ non rowAt tableAt
 empty-judged = refl
 
 -- nor is any graph that the miner gives

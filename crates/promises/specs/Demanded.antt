@@ -11,7 +11,8 @@ use Rattle.sets.specs.Answers.{numberOf, isDone}
 use Rattle.sets.specs.declared.set.Set.{Set}
 use Rattle.sets.specs.declared.answer.Answer.{Answer}
 use Rattle.sets.specs.declared.answer.Answer.the-variants.{Done}
-use Rattle.engine.specs.Markings.{noSet, openingOf}
+use Rattle.sets.specs.Members.{noSet}
+use Rattle.engine.specs.Markings.{openingOf}
 use Rattle.engine.specs.Relations.{Relations, relationsOf}
 use Rattle.engine.specs.Steps.{enabled, accepting}
 use Rattle.engine.specs.Replay.{replayFrom}

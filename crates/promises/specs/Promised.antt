@@ -9,7 +9,8 @@ use Rattle.sets.specs.Tests.{when_then_else_}
 use Rattle.sets.specs.Answers.{isDone, thenAsk}
 use Rattle.sets.specs.declared.answer.Answer.{Answer}
 use Rattle.sets.specs.declared.answer.Answer.the-variants.{Done, BufferTooSmall}
-use Rattle.engine.specs.Markings.{noSet, emptyMarking}
+use Rattle.sets.specs.Members.{noSet}
+use Rattle.engine.specs.Markings.{emptyMarking}
 use Rattle.engine.specs.Relations.{emptyGraph}
 use Rattle.engine.specs.Replay.{ending, replayOf}
 use Rattle.engine.specs.declared.graph.Graph.{Graph}
