@@ -16,9 +16,26 @@ Inv-loop head relations trace m₀ i₀ m i =
 abbrev μ-loop : tie.MeasureT-loop
 μ-loop head relations trace m₀ i₀ m i = length trace - i
 
+loop-holds : tie.Need-loop-holds Inv-loop μ-loop
+loop-holds c = search needs
+
+returns : tie.Need-returns Inv-loop μ-loop
+returns c = search (run-stop, needs)
+
 pub run-spec : {M : Type 1} → statement M
 run-spec =
     tie.close
-    (tie.spec Inv-loop μ-loop (λ c. search needs) (λ c. search needs) (λ c κs. search needs) (λ c κs. search needs)
-    (λ c. search (run-stop, needs)) (λ c κs. search needs) (λ c. search needs) (λ c. search needs) (λ c. search (run-next, needs))
-    (λ c κs. search needs) (λ c. search (run-end, needs)))
+    (tie.spec
+    Inv-loop
+    μ-loop
+    loop-holds
+    (λ c. search needs)
+    (λ c κs. search needs)
+    (λ c κs. search needs)
+    returns
+    (λ c κs. search needs)
+    (λ c. search needs)
+    (λ c. search needs)
+    (λ c. search (run-next, needs))
+    (λ c κs. search needs)
+    (λ c. search (run-end, needs)))

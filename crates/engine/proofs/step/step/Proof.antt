@@ -3,8 +3,18 @@ use Rattle.engine.proofs.Running.{step-refused, step-done}
 use Rattle.engine.proofs.step.step.Statement.{statement}
 use Rattle.engine.proofs.step.step.Tie as tie
 
+returns : tie.Need-returns
+returns c = search (step-refused, needs)
+
+returns-2 : tie.Need-returns-2
+returns-2 c = search (step-done, needs)
+
 pub step-spec : {M : Type 1} → statement M
 step-spec =
     tie.close
-    (tie.spec (λ c κs. search needs) (λ c κs. search needs) (λ c. search (step-refused, needs)) (λ c κs. search needs)
-    (λ c. search (step-done, needs)))
+    (tie.spec
+    (λ c κs. search needs)
+    (λ c κs. search needs)
+    returns
+    (λ c κs. search needs)
+    returns-2)
