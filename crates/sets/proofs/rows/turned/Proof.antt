@@ -14,9 +14,21 @@ Inv-loop rows out₀ x₀ out x = (x ≤ width) × (out ≡ rowsOf (onto (turned
 abbrev μ-loop : tie.MeasureT-loop
 μ-loop rows out₀ x₀ out x = width - x
 
+loop-again : tie.Need-loop-again Inv-loop μ-loop
+loop-again c = search (scattering, needs)
+
 pub turned-spec : {M : Type 1} → statement M
 turned-spec =
     tie.close
-    (tie.spec Inv-loop μ-loop (λ c κs. search (scattering, needs)) (λ c. search (scattering, needs)) (λ c κs. search (scattering, needs))
-    (λ c κs. search (scattering, needs)) (λ c κs. search (scattering, needs)) (λ c. search (scattering, needs))
-    (λ c. search (scattering, needs)) (λ c. search (scattering, needs)) (λ c. search (scattering, needs)))
+    (tie.spec
+    Inv-loop
+    μ-loop
+    (λ c κs. search (scattering, needs))
+    (λ c. search (scattering, needs))
+    (λ c κs. search (scattering, needs))
+    (λ c κs. search (scattering, needs))
+    (λ c κs. search (scattering, needs))
+    (λ c. search (scattering, needs))
+    (λ c. search (scattering, needs))
+    loop-again
+    (λ c. search (scattering, needs)))

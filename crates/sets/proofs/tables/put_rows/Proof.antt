@@ -13,9 +13,20 @@ Inv-loop tables₀ table rows i₀ tables i = (i ≤ width) × (tables ≡ withR
 abbrev μ-loop : tie.MeasureT-loop
 μ-loop tables₀ table rows i₀ tables i = width - i
 
+loop-again : tie.Need-loop-again Inv-loop μ-loop
+loop-again c = search (putting, needs)
+
 pub put-rows-spec : {M : Type 1} → statement M
 put-rows-spec =
     tie.close
-    (tie.spec Inv-loop μ-loop (λ c. search (putting, needs)) (λ c κs. search (putting, needs)) (λ c κs. search (putting, needs))
-    (λ c. search (putting, needs)) (λ c. search (putting, needs)) (λ c. search (putting, needs)) (λ c. search (putting, needs))
+    (tie.spec
+    Inv-loop
+    μ-loop
+    (λ c. search (putting, needs))
+    (λ c κs. search (putting, needs))
+    (λ c κs. search (putting, needs))
+    (λ c. search (putting, needs))
+    (λ c. search (putting, needs))
+    (λ c. search (putting, needs))
+    loop-again
     (λ c. search (putting, needs)))

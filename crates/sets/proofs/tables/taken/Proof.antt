@@ -14,8 +14,21 @@ Inv-loop tables table out₀ i₀ out i = (i ≤ width) × (out ≡ withRowsIn n
 abbrev μ-loop : tie.MeasureT-loop
 μ-loop tables table out₀ i₀ out i = width - i
 
+loop-again : tie.Need-loop-again Inv-loop μ-loop
+loop-again c = search (putting, needs)
+
 pub taken-spec : {M : Type 1} → statement M
 taken-spec =
     tie.close
-    (tie.spec Inv-loop μ-loop (λ c κs. search needs) (λ c. search (putting, needs)) (λ c. search (putting, needs)) (λ c κs. search needs)
-    (λ c κs. search needs) (λ c. search needs) (λ c. search needs) (λ c. search (putting, needs)) (λ c. search (putting, needs)))
+    (tie.spec
+    Inv-loop
+    μ-loop
+    (λ c κs. search needs)
+    (λ c. search (putting, needs))
+    (λ c. search (putting, needs))
+    (λ c κs. search needs)
+    (λ c κs. search needs)
+    (λ c. search needs)
+    (λ c. search needs)
+    loop-again
+    (λ c. search (putting, needs)))
