@@ -24,5 +24,15 @@ returns-4 c =
 pub skelfora-replay-spec : {M : Type 1} → statement M
 skelfora-replay-spec =
     tie.close
-    (tie.spec (λ c κs. search needs) (λ c κs. search needs) (λ c κs. search needs) (λ c. search (replaying, needs)) (λ c κs. search needs)
-    (λ c. search (replaying, needs)) (λ c κs. search needs) (λ c κs. search needs) (λ c. search needs) returns-3 returns-4)
+    (tie.spec
+    (λ c κs. search needs)
+    (λ c κs. search needs)
+    (λ c κs. search needs)
+    (λ c. search (replaying, needs))
+    (λ c κs. search needs)
+    (λ c. search (replaying, needs))
+    (λ c κs. search needs)
+    (λ c κs. search needs)
+    (λ c. search needs)
+    returns-3
+    returns-4)

@@ -3,6 +3,17 @@ use Rattle.port.proofs.Packing.{carrying}
 use Rattle.port.proofs.skelfora_rewrite.Statement.{statement}
 use Rattle.port.proofs.skelfora_rewrite.Tie as tie
 
+read-requires : tie.Need-read-requires
+read-requires c κs = search needs
+
+put-requires : tie.Need-put-requires
+put-requires c κs = search needs
+
+same-length : tie.Need-same-length
+same-length c = search needs
+
+returns : tie.Need-returns
+returns c = search (carrying, needs)
+
 pub skelfora-rewrite-spec : {M : Type 1} → statement M
-skelfora-rewrite-spec =
-    tie.close (tie.spec (λ c κs. search needs) (λ c κs. search needs) (λ c. search needs) (λ c. search (carrying, needs)))
+skelfora-rewrite-spec = tie.close (tie.spec read-requires put-requires same-length returns)

@@ -4,11 +4,32 @@ use Rattle.promises.proofs.Own.{own-refused, own-within, own-done}
 use Rattle.promises.proofs.replayed.replay_own.Statement.{statement}
 use Rattle.promises.proofs.replayed.replay_own.Tie as tie
 
+mine-requires : tie.Need-mine-requires
+mine-requires c κs = search needs
+
+find-trace-requires : tie.Need-find-trace-requires
+find-trace-requires c κs = search needs
+
+is-done-requires : tie.Need-is-done-requires
+is-done-requires c κs = search needs
+
 returns : tie.Need-returns
 returns c = own-refused _ _ _ _ (c .before .before .find-trace .ensures) (c .before .is-done .ensures) (c .if1 .taken)
 
 add-end : tie.Need-add-end
 add-end c = omega (arith, own-within _ _ _ _ (c .before .before .before .find-trace .ensures) (c .before .before .is-done .ensures) (c .before .if1 .left))
+
+sub-replay : tie.Need-sub-replay
+sub-replay c = search needs
+
+part-replay-start : tie.Need-part-replay-start
+part-replay-start c = search needs
+
+part-replay-end : tie.Need-part-replay-end
+part-replay-end c = search (own-within, needs)
+
+replay-requires : tie.Need-replay-requires
+replay-requires c κs = search needs
 
 returns-2 : tie.Need-returns-2
 returns-2 c =
@@ -18,5 +39,14 @@ returns-2 c =
 pub replay-own-spec : {M : Type 1} → statement M
 replay-own-spec =
     tie.close
-    (tie.spec (λ c κs. search needs) (λ c κs. search needs) (λ c κs. search needs) returns add-end (λ c. search needs) (λ c. search needs)
-    (λ c. search (own-within, needs)) (λ c κs. search needs) returns-2)
+    (tie.spec
+    mine-requires
+    find-trace-requires
+    is-done-requires
+    returns
+    add-end
+    sub-replay
+    part-replay-start
+    part-replay-end
+    replay-requires
+    returns-2)

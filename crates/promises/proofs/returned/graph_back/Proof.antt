@@ -25,11 +25,38 @@ machine c =
       rows = λ r a. table-whole _ r a small;
     }
 
+write-requires : tie.Need-write-requires
+write-requires c κs = search needs
+
+is-done-requires : tie.Need-is-done-requires
+is-done-requires c κs = search needs
+
+empty-requires : tie.Need-empty-requires
+empty-requires c κs = search needs
+
+same-length : tie.Need-same-length
+same-length c = search needs
+
 returns : tie.Need-returns
 returns c =
     let d = c .before .before in
     let w = d .before .before .before in
     graph-refused _ _ _ _ _ (w .write .ensures .0) (w .write .ensures .1) (d .is-done .ensures) (c .before .if1 .taken) _ (c .empty .ensures)
+
+sub-read : tie.Need-sub-read
+sub-read c = search needs
+
+part-read-start : tie.Need-part-read-start
+part-read-start c = search needs
+
+part-read-end : tie.Need-part-read-end
+part-read-end c = search (graph-within, needs)
+
+read-requires : tie.Need-read-requires
+read-requires c κs = search needs
+
+same-length-2 : tie.Need-same-length-2
+same-length-2 c = search needs
 
 returns-2 : tie.Need-returns-2
 returns-2 c =
@@ -40,5 +67,15 @@ returns-2 c =
 pub graph-back-spec : {M : Type 1} → statement M
 graph-back-spec =
     tie.close
-    (tie.spec (λ c κs. search needs) (λ c κs. search needs) (λ c κs. search needs) (λ c. search needs) returns (λ c. search needs)
-    (λ c. search needs) (λ c. search (graph-within, needs)) (λ c κs. search needs) (λ c. search needs) returns-2)
+    (tie.spec
+    write-requires
+    is-done-requires
+    empty-requires
+    same-length
+    returns
+    sub-read
+    part-read-start
+    part-read-end
+    read-requires
+    same-length-2
+    returns-2)
