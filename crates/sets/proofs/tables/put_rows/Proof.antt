@@ -27,6 +27,6 @@ put-rows-spec =
     (λ c κs. search (putting, needs))
     (λ c. search (putting, needs))
     (λ c. search (putting, needs))
-    (λ c. search (putting, needs))
     loop-again
+    (λ c. search (putting, needs))
     (λ c. search (putting, needs)))
