@@ -86,10 +86,9 @@ fn on_plain(
 
 /// A relation of any file into memory with and without room; an accepted graph on both engines.
 pub fn on_graph_file(comparison: &mut Comparison, prng: &mut Prng, file: &[u8], trace: &[u8]) {
-    let kind = prng.one_of(&[0, 1, 2, 3, 0, 1, 2, 3, 4, 5, 128, 255]);
+    let kind = prng.one_of(&plain::KINDS);
     let (result, _) = comparison.fill(file, kind, MOST_PAIRS);
-    let pairs = (result / 256) as usize;
-    let room = prng.one_of(&[0, pairs.saturating_sub(1), pairs, pairs + 1, 64]);
+    let room = plain::room(prng, (result / 256) as usize);
     comparison.fill(file, kind, room);
     if judge::graph_file::read(file).is_err() || !prng.percent(30) {
         return;

@@ -151,6 +151,14 @@ pub fn marking(prng: &mut Prng, events: u64) -> Vec<u8> {
     bytes
 }
 
+/// Relations to fill from, and numbers that are none.
+pub const KINDS: [u8; 12] = [0, 1, 2, 3, 0, 1, 2, 3, 4, 5, 128, 255];
+
+/// Room for so many pairs, or one too few, or more.
+pub fn room(prng: &mut Prng, pairs: usize) -> usize {
+    prng.one_of(&[0, pairs.saturating_sub(1), pairs, pairs + 1, 64])
+}
+
 /// A trace that goes on as long as it finds something enabled, at most so far.
 pub fn walk(prng: &mut Prng, value: &GraphValue, length: usize) -> Vec<u8> {
     let mut marking = value.marking;
