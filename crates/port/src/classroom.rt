@@ -65,13 +65,13 @@ fn plain_stepped<'a>(
 
 // One step at a marking of 24 lent bytes; they stay as they were where it is refused.
 #[no_mangle]
-pub extern "C" fn skelfora_plain_step(
-    head: &[u8],
-    conditions: &[u16],
-    responses: &[u16],
-    includes: &[u16],
-    excludes: &[u16],
-    marking: &mut [u8],
+pub extern "C" fn skelfora_plain_step<'a, 'm>(
+    head: &'a [u8],
+    conditions: &'a [u16],
+    responses: &'a [u16],
+    includes: &'a [u16],
+    excludes: &'a [u16],
+    marking: &'m mut [u8],
     activity: u8,
 ) -> u64
     ensures { λ r. ⌜ r ≡ numberOf (plainStepOf (now (head .entry)) (now (conditions .entry)) (now (responses .entry))
@@ -79,19 +79,27 @@ pub extern "C" fn skelfora_plain_step(
     ensures { λ _. ⌜ now (marking .exit) ≡ plainStepBytes (now (head .entry)) (now (conditions .entry)) (now (responses .entry))
         (now (includes .entry)) (now (excludes .entry)) (now (marking .entry)) activity ⌝ }
 {
-    let s = plain_stepped(head, conditions, responses, includes, excludes, marking, Activity(activity));
+    let s = plain_stepped(
+        head,
+        conditions,
+        responses,
+        includes,
+        excludes,
+        marking,
+        Activity(activity),
+    );
     store(s, marking)
 }
 
 // Whether a marking of 24 bytes is accepting: the number, and 2^32 where it is.
 #[no_mangle]
-pub extern "C" fn skelfora_plain_accepting(
-    head: &[u8],
-    conditions: &[u16],
-    responses: &[u16],
-    includes: &[u16],
-    excludes: &[u16],
-    marking: &[u8],
+pub extern "C" fn skelfora_plain_accepting<'a>(
+    head: &'a [u8],
+    conditions: &'a [u16],
+    responses: &'a [u16],
+    includes: &'a [u16],
+    excludes: &'a [u16],
+    marking: &'a [u8],
 ) -> u64
     ensures { λ r. ⌜ r ≡ plainAcceptingNumber (now (head .entry)) (now (conditions .entry)) (now (responses .entry))
         (now (includes .entry)) (now (excludes .entry)) (now (marking .entry)) ⌝ }
@@ -109,13 +117,13 @@ pub extern "C" fn skelfora_plain_accepting(
 
 // Replays a trace from the opening marking: the number, the place, and 2^32 where it ends accepting.
 #[no_mangle]
-pub extern "C" fn skelfora_plain_replay(
-    head: &[u8],
-    conditions: &[u16],
-    responses: &[u16],
-    includes: &[u16],
-    excludes: &[u16],
-    trace: &[u8],
+pub extern "C" fn skelfora_plain_replay<'a>(
+    head: &'a [u8],
+    conditions: &'a [u16],
+    responses: &'a [u16],
+    includes: &'a [u16],
+    excludes: &'a [u16],
+    trace: &'a [u8],
 ) -> u64
     ensures { λ r. ⌜ r ≡ plainReplayNumber (now (head .entry)) (now (conditions .entry)) (now (responses .entry))
         (now (includes .entry)) (now (excludes .entry)) (now (trace .entry)) ⌝ }

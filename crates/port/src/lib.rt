@@ -6,7 +6,8 @@ ghost use lib.ListN.{length};
 ghost use Rattle.port.specs.Port.{packedOf, verdictOf, storedOf, putNumber, putBuffer, mineNumber, mineBuffer, rewriteNumber, rewriteBuffer, replayNumber, listingNumber, stepOf, stepBytes};
 ghost use Rattle.report.specs.Listing.{listingAfter};
 ghost use Rattle.sets.specs.Answers.{numberOf};
-mod classroom;
+
+pub mod classroom;
 
 use engine::Graph;
 use engine::Marking;
