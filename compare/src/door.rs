@@ -5,6 +5,9 @@ use crate::value::PlainGraph;
 /// number + 256 x length; the lent buffer receives the file or the listing.
 pub type Fill = fn(&[u8], &mut [u8]) -> u64;
 
+/// A plain graph, and a marking or a trace beside it.
+pub type OnPlain = fn(&PlainGraph, &[u8]) -> u64;
+
 #[derive(Clone, Copy)]
 pub struct Door {
     pub name: &'static str,
@@ -22,9 +25,9 @@ pub struct Door {
     /// the plain engine's step: marking, activity -> number
     pub plain_step: fn(&PlainGraph, &mut [u8], u8) -> u64,
     /// marking -> number + 2^32 where accepting
-    pub plain_accepting: fn(&PlainGraph, &[u8]) -> u64,
+    pub plain_accepting: OnPlain,
     /// trace -> number + 256 x place + 2^32 where accepting
-    pub plain_replay: fn(&PlainGraph, &[u8]) -> u64,
+    pub plain_replay: OnPlain,
     /// graph file, relation, memory -> number + 256 x pairs
     pub fill: fn(&[u8], u8, &mut [u16]) -> u64,
 }

@@ -61,13 +61,7 @@ fn run(others: Vec<compare::door::Door>, count: u64, record: Record) -> bool {
     let start = Instant::now();
     let recorded = count.min(RECORDED);
     let next = AtomicU64::new(recorded);
-    let rest = |comparison: &mut Comparison| loop {
-        let seed = next.fetch_add(1, Ordering::Relaxed);
-        if seed >= count {
-            return;
-        }
-        rounds::round(comparison, seed);
-    };
+    let rest = |comparison: &mut Comparison| take_rounds(comparison, &next, count);
     let mut comparison = Comparison::with(others.clone());
     comparison.record = record;
     let cores = std::thread::available_parallelism().map_or(1, |cores| cores.get());
@@ -97,4 +91,14 @@ fn run(others: Vec<compare::door::Door>, count: u64, record: Record) -> bool {
     let well = comparison.report();
     println!("took {:.1} s", start.elapsed().as_secs_f64());
     well
+}
+
+fn take_rounds(comparison: &mut Comparison, next: &AtomicU64, count: u64) {
+    loop {
+        let seed = next.fetch_add(1, Ordering::Relaxed);
+        if seed >= count {
+            return;
+        }
+        rounds::round(comparison, seed);
+    }
 }

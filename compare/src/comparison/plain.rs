@@ -2,7 +2,7 @@
 //! engines on the same graphs.
 use super::record::{Call, Function};
 use super::{decimal, Comparison};
-use crate::door::{Door, MOST_PAIRS};
+use crate::door::{Door, OnPlain, MOST_PAIRS};
 use crate::judge::door::DOOR as JUDGE;
 use crate::value::PlainGraph;
 
@@ -76,7 +76,7 @@ impl Comparison {
         &mut self,
         function: &'static str,
         kept_as: Function,
-        pick: fn(&Door) -> fn(&PlainGraph, &[u8]) -> u64,
+        pick: fn(&Door) -> OnPlain,
         graph: &PlainGraph,
         beside: &[u8],
     ) -> u64 {

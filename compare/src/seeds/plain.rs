@@ -188,6 +188,7 @@ fn three() -> PlainGraph {
 /// At and just past every limit of a graph. The number beside it is what 02 says of it.
 pub fn borders() -> Vec<(u8, PlainGraph)> {
     let mut all = heads();
+    all.extend(sizes());
     for kind in 0..4 {
         let with = |list: Vec<u16>| {
             let mut graph = three();
@@ -222,12 +223,6 @@ fn heads() -> Vec<(u8, PlainGraph)> {
         change(&mut graph);
         graph
     };
-    let mut whole = with(|graph| graph.head[0] = 64);
-    whole.head[1..9].fill(255);
-    whole.lists = core::array::from_fn(|_| vec![63 * 256 + 63, 0, 63, 63 * 256]);
-    let mut empty = with(|graph| graph.head.fill(0));
-    let nothing = empty.clone();
-    empty.lists[0] = vec![0];
     vec![
         (7, with(|graph| graph.head.clear())),
         (7, with(|graph| graph.head.truncate(32))),
@@ -240,9 +235,6 @@ fn heads() -> Vec<(u8, PlainGraph)> {
         ),
         (0, three()),
         (0, with(|graph| graph.head.push(255))),
-        (0, nothing),
-        (5, empty),
-        (0, whole),
         (5, with(|graph| graph.head[0] = 2)),
         (0, with(|graph| graph.head[0] = 64)),
         (3, with(|graph| graph.head[0] = 65)),
@@ -258,4 +250,19 @@ fn heads() -> Vec<(u8, PlainGraph)> {
         (5, with(|graph| graph.head[24] = 128)),
         (5, with(|graph| graph.head[25] = 15)),
     ]
+}
+
+/// All 64 activities; none, and then a pair of none.
+fn sizes() -> [(u8, PlainGraph); 3] {
+    let whole = PlainGraph {
+        head: [vec![64], vec![255; 32]].concat(),
+        lists: core::array::from_fn(|_| vec![63 * 256 + 63, 0, 63, 63 * 256]),
+    };
+    let nothing = PlainGraph {
+        head: vec![0; 33],
+        ..PlainGraph::default()
+    };
+    let mut stray = nothing.clone();
+    stray.lists[0] = vec![0];
+    [(0, whole), (0, nothing), (5, stray)]
 }

@@ -61,54 +61,55 @@ fn found(mutant: Reading) -> Option<u64> {
     None
 }
 
+const READINGS: [(&str, Reading); 22] = [
+    ("a pair listed twice is none", |g| lists(g, odd)),
+    ("only the first pair of a source", |g| {
+        lists(g, first_of_source)
+    }),
+    ("only the last pair of a source", |g| {
+        lists(g, last_of_source)
+    }),
+    ("only the first pair of a target", |g| {
+        lists(g, first_of_target)
+    }),
+    ("the first pair is left out", |g| {
+        lists(g, |l| l.iter().skip(1).copied().collect())
+    }),
+    ("the last pair is left out", |g| {
+        lists(g, |l| l[..l.len().saturating_sub(1)].to_vec())
+    }),
+    ("nothing after a fall", |g| lists(g, rising_part)),
+    ("source and target swapped", |g| {
+        lists(g, |l| l.iter().map(|p| p.swap_bytes()).collect())
+    }),
+    ("target modulo 64", |g| {
+        lists(g, |l| l.iter().map(|p| p & 0xFF3F).collect())
+    }),
+    ("source modulo 64", |g| {
+        lists(g, |l| l.iter().map(|p| p & 0x3FFF).collect())
+    }),
+    ("target not judged", |g| {
+        judged_without(g, |events, [_, source]| holds(events, source))
+    }),
+    ("source not judged", |g| {
+        judged_without(g, |events, [target, _]| holds(events, target))
+    }),
+    ("pairs not judged", |g| judged_without(g, |_, _| true)),
+    ("5 before 3", five_first),
+    ("limit 4,095", |g| limited(g, MOST_PAIRS - 1)),
+    ("limit 4,097", |g| limited(g, MOST_PAIRS + 1)),
+    ("no limit", |g| limited(g, usize::MAX)),
+    ("limit on different pairs", |g| lists(g, once_each)),
+    ("limit on conditions alone", |g| limit_on(g, 0)),
+    ("limit on excludes alone", |g| limit_on(g, 3)),
+    ("opening marking not judged", opening_passes),
+    ("a head of 32 bytes is enough", short_head),
+];
+
 #[test]
 fn found_by_lists() {
-    let mutants: [(&str, Reading); 22] = [
-        ("a pair listed twice is none", |g| lists(g, odd)),
-        ("only the first pair of a source", |g| {
-            lists(g, first_of_source)
-        }),
-        ("only the last pair of a source", |g| {
-            lists(g, last_of_source)
-        }),
-        ("only the first pair of a target", |g| {
-            lists(g, first_of_target)
-        }),
-        ("the first pair is left out", |g| {
-            lists(g, |l| l.iter().skip(1).copied().collect())
-        }),
-        ("the last pair is left out", |g| {
-            lists(g, |l| l[..l.len().saturating_sub(1)].to_vec())
-        }),
-        ("nothing after a fall", |g| lists(g, rising_part)),
-        ("source and target swapped", |g| {
-            lists(g, |l| l.iter().map(|p| p.swap_bytes()).collect())
-        }),
-        ("target modulo 64", |g| {
-            lists(g, |l| l.iter().map(|p| p & 0xFF3F).collect())
-        }),
-        ("source modulo 64", |g| {
-            lists(g, |l| l.iter().map(|p| p & 0x3FFF).collect())
-        }),
-        ("target not judged", |g| {
-            judged_without(g, |events, [_, source]| holds(events, source))
-        }),
-        ("source not judged", |g| {
-            judged_without(g, |events, [target, _]| holds(events, target))
-        }),
-        ("pairs not judged", |g| judged_without(g, |_, _| true)),
-        ("5 before 3", five_first),
-        ("limit 4,095", |g| limited(g, MOST_PAIRS - 1)),
-        ("limit 4,097", |g| limited(g, MOST_PAIRS + 1)),
-        ("no limit", |g| limited(g, usize::MAX)),
-        ("limit on different pairs", |g| lists(g, once_each)),
-        ("limit on conditions alone", |g| limit_on(g, 0)),
-        ("limit on excludes alone", |g| limit_on(g, 3)),
-        ("opening marking not judged", opening_passes),
-        ("a head of 32 bytes is enough", short_head),
-    ];
     all_found(
-        mutants
+        READINGS
             .iter()
             .map(|&(name, mutant)| (name, found(mutant)))
             .collect(),
@@ -129,18 +130,19 @@ fn right_readings_are_not_told_apart() {
 }
 
 /// Each list limited by itself: the borders have each of them one too long.
+const LIMITS: [(&str, Reading); 8] = [
+    ("limit on conditions alone", |g| limit_on(g, 0)),
+    ("limit on responses alone", |g| limit_on(g, 1)),
+    ("limit on includes alone", |g| limit_on(g, 2)),
+    ("limit on excludes alone", |g| limit_on(g, 3)),
+    ("limit 4,095", |g| limited(g, MOST_PAIRS - 1)),
+    ("limit 4,097", |g| limited(g, MOST_PAIRS + 1)),
+    ("5 before 3", five_first),
+    ("a head of 32 bytes is enough", short_head),
+];
+
 #[test]
 fn found_by_the_borders() {
-    let limits: [(&str, Reading); 8] = [
-        ("limit on conditions alone", |g| limit_on(g, 0)),
-        ("limit on responses alone", |g| limit_on(g, 1)),
-        ("limit on includes alone", |g| limit_on(g, 2)),
-        ("limit on excludes alone", |g| limit_on(g, 3)),
-        ("limit 4,095", |g| limited(g, MOST_PAIRS - 1)),
-        ("limit 4,097", |g| limited(g, MOST_PAIRS + 1)),
-        ("5 before 3", five_first),
-        ("a head of 32 bytes is enough", short_head),
-    ];
     let found = |mutant: Reading| {
         let differs = |g: &PlainGraph| {
             let given = mutant(g).map_or_else(|number| number, |g| number_of(&g));
@@ -150,7 +152,7 @@ fn found_by_the_borders() {
         place.map(|place| place as u64)
     };
     all_found(
-        limits
+        LIMITS
             .iter()
             .map(|&(name, mutant)| (name, found(mutant)))
             .collect(),
@@ -317,35 +319,36 @@ fn accepting_by(graph: &PlainGraph, bytes: &[u8], open: fn(u64, u64, u64) -> boo
     1 << 32
 }
 
+const VERDICTS: [(&str, Accepting); 5] = [
+    ("pending and excluded keeps it open", |g, m| {
+        accepting_by(g, m, |_, pending, _| pending != 0)
+    }),
+    ("pending and executed does not", |g, m| {
+        accepting_by(g, m, |executed, pending, included| {
+            pending & included & !executed != 0
+        })
+    }),
+    ("always", |g, m| accepting_by(g, m, |_, _, _| false)),
+    ("the marking's 7 before the graph's 5", |g, m| {
+        let number = (JUDGE.plain_accepting)(g, m);
+        if number == 5 && m.len() < 24 {
+            7
+        } else {
+            number
+        }
+    }),
+    ("the marking's 5 passes", |g, m| {
+        let number = (JUDGE.plain_accepting)(g, m);
+        if number == 5 && read(g, 0).is_ok() {
+            0
+        } else {
+            number
+        }
+    }),
+];
+
 #[test]
 fn found_by_verdicts() {
-    let mutants: [(&str, Accepting); 5] = [
-        ("pending and excluded keeps it open", |g, m| {
-            accepting_by(g, m, |_, pending, _| pending != 0)
-        }),
-        ("pending and executed does not", |g, m| {
-            accepting_by(g, m, |executed, pending, included| {
-                pending & included & !executed != 0
-            })
-        }),
-        ("always", |g, m| accepting_by(g, m, |_, _, _| false)),
-        ("the marking's 7 before the graph's 5", |g, m| {
-            let number = (JUDGE.plain_accepting)(g, m);
-            if number == 5 && m.len() < 24 {
-                7
-            } else {
-                number
-            }
-        }),
-        ("the marking's 5 passes", |g, m| {
-            let number = (JUDGE.plain_accepting)(g, m);
-            if number == 5 && read(g, 0).is_ok() {
-                0
-            } else {
-                number
-            }
-        }),
-    ];
     let found = |mutant: Accepting| {
         for seed in 0..SEEDS {
             let mut prng = Prng::new(seed + SEEDS);
@@ -359,7 +362,7 @@ fn found_by_verdicts() {
         None
     };
     all_found(
-        mutants
+        VERDICTS
             .iter()
             .map(|&(name, mutant)| (name, found(mutant)))
             .collect(),
@@ -375,42 +378,43 @@ fn changed(file: &[u8], kind: u8, memory: &mut [u16], change: fn(&mut [u16])) ->
     given
 }
 
+const FILLS: [(&str, Fill); 8] = [
+    ("source and target swapped", |f, k, m| {
+        changed(f, k, m, |list| {
+            list.iter_mut().for_each(|p| *p = p.swap_bytes())
+        })
+    }),
+    ("falling", |f, k, m| changed(f, k, m, |list| list.reverse())),
+    ("rising by target, then source", |f, k, m| {
+        changed(f, k, m, |list| list.sort_by_key(|p| p.swap_bytes()))
+    }),
+    ("conditions by target", |f, k, m| {
+        let by_target: fn(&mut [u16]) = |list| list.sort_by_key(|p| p.swap_bytes());
+        changed(f, k, m, if k == 0 { by_target } else { |_| () })
+    }),
+    ("fills what fits, then 7", fills_what_fits),
+    ("no room for the last", |f, k, m| {
+        let given = (JUDGE.fill)(f, k, &mut m.to_vec());
+        if given / 256 == m.len() as u64 && given > 255 {
+            7
+        } else {
+            (JUDGE.fill)(f, k, m)
+        }
+    }),
+    ("clears the rest", |f, k, m| {
+        let given = (JUDGE.fill)(f, k, m);
+        if given % 256 == 0 {
+            m[(given / 256) as usize..].fill(0);
+        }
+        given
+    }),
+    ("the kinds go round", |f, k, m| (JUDGE.fill)(f, k % 4, m)),
+];
+
 #[test]
 fn found_by_filling() {
-    let mutants: [(&str, Fill); 8] = [
-        ("source and target swapped", |f, k, m| {
-            changed(f, k, m, |list| {
-                list.iter_mut().for_each(|p| *p = p.swap_bytes())
-            })
-        }),
-        ("falling", |f, k, m| changed(f, k, m, |list| list.reverse())),
-        ("rising by target, then source", |f, k, m| {
-            changed(f, k, m, |list| list.sort_by_key(|p| p.swap_bytes()))
-        }),
-        ("conditions by target", |f, k, m| {
-            let by_target: fn(&mut [u16]) = |list| list.sort_by_key(|p| p.swap_bytes());
-            changed(f, k, m, if k == 0 { by_target } else { |_| () })
-        }),
-        ("fills what fits, then 7", fills_what_fits),
-        ("no room for the last", |f, k, m| {
-            let given = (JUDGE.fill)(f, k, &mut m.to_vec());
-            if given / 256 == m.len() as u64 && given > 255 {
-                7
-            } else {
-                (JUDGE.fill)(f, k, m)
-            }
-        }),
-        ("clears the rest", |f, k, m| {
-            let given = (JUDGE.fill)(f, k, m);
-            if given % 256 == 0 {
-                m[(given / 256) as usize..].fill(0);
-            }
-            given
-        }),
-        ("the kinds go round", |f, k, m| (JUDGE.fill)(f, k % 4, m)),
-    ];
     all_found(
-        mutants
+        FILLS
             .iter()
             .map(|&(name, mutant)| (name, found_fill(mutant)))
             .collect(),
