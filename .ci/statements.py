@@ -107,10 +107,13 @@ def rows_of(crate, functions, names):
 
 
 def called(crate, symbol):
-    """What a function's theorem is called after: calllog's `ask` is not the engine's, and a table's `row` is not that of rows."""
+    """What a function's theorem is called after: calllog's `ask` is not the engine's, a table's `row` is not that of rows, and the plain
+    engine has a `step` of its own."""
     parts = symbol.split("::")
     both = parts[-2][0].isupper() or parts[-2] in ("tables", "log")
     name = "-".join(parts[-2:] if both else parts[-1:]).replace("_", "-")
+    if crate == "plain":
+        return f"plain-{name}"
     return "log-ask" if symbol == "calllog::trace::ask" else name
 
 

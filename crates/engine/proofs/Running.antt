@@ -6,21 +6,19 @@ use Prim.Native.Nat.{ℕ, suc, _+_, _≤_, _<_}
 use native.Mathlib.Numerals.{add-one}
 use lib.ListN.{length, getD, drop, drop-of-length-le}
 use lib.Seq.{drop-cons}
-use Rattle.sets.specs.Tests.{when_then_else_}
+use Rattle.sets.specs.Tests.{_and_, when_then_else_}
 use Rattle.sets.specs.Answers.{isDone}
 use Rattle.sets.specs.declared.set.Set.{Set}
 use Rattle.sets.specs.declared.answer.Answer.{Answer}
 use Rattle.sets.specs.declared.answer.Answer.the-variants.{Done}
 use Rattle.engine.specs.declared.marking.Marking.{Marking}
-use Rattle.engine.specs.declared.graph.Graph.{Graph}
 use Rattle.engine.specs.declared.step.Stepped.{Stepped}
 use Rattle.engine.specs.declared.step.Verdict.{Verdict}
 use Rattle.engine.specs.declared.replay.Replayed.{Replayed}
 use Rattle.engine.specs.Markings.{emptyMarking}
-use Rattle.engine.specs.Relations.{Relations, relationsOf}
+use Rattle.engine.specs.Relations.{Relations}
 use Rattle.engine.specs.Steps.{enabled, after, accepting}
-use Rattle.engine.specs.Judged.{judgedFor, judgedWith}
-use Rattle.engine.specs.Replay.{enabledOf, steppedOf, acceptingOf, ending, replayFrom, replayOf}
+use Rattle.engine.specs.Replay.{ending, replayFrom}
 use Rattle.sets.proofs.Ways.{failed, held, taken, passed-by, stops-l, goes}
 
 -- what an answer's test tells of the answer that the definition has
@@ -30,34 +28,30 @@ undone x a r h k t = failed (isDone x) r (k ∙ ap isDone h) t
 done : (x a : Answer) (r : Bool) → a ≡ x → r ≡ isDone a → not r ≡ false → true ≡ isDone x
 done x a r h k t = held (isDone x) r (k ∙ ap isDone h) t
 
-module _ (g : Graph) (m : Marking) (a : Answer) (r : Bool) (k : r ≡ isDone a) where
-  pub step-refused : (e : ℕ) → a ≡ enabledOf g m e → not r ≡ true → _≡_ {A = Stepped} (record { answer = a; marking = m }) (steppedOf g m e)
-  unfolding steppedOf
-  step-refused e h t j =
-      record {
-        answer = h j;
-        marking = passed-by (isDone (enabledOf g m e)) (after (relationsOf g) m e) m m (undone (enabledOf g m e) a r h k t) refl j;
-      }
+-- x is the answer that the definition has, a the one that the code was given
+module _ (x a : Answer) (r : Bool) (h : a ≡ x) (k : r ≡ isDone a) where
+  pub step-refused : (m m′ : Marking) → not r ≡ true
+      → _≡_ {A = Stepped} (record { answer = a; marking = m }) (record { answer = x; marking = when isDone x then m′ else m })
+  step-refused m m′ t j = record { answer = h j; marking = passed-by (isDone x) m′ m m (undone x a r h k t) refl j }
 
-  pub step-done : (e : ℕ) (m′ : Marking) → a ≡ enabledOf g m e → not r ≡ false → m′ ≡ after (relationsOf g) m e
-      → _≡_ {A = Stepped} (record { answer = a; marking = m′ }) (steppedOf g m e)
-  unfolding steppedOf
-  step-done e m′ h t n j =
-      record {
-        answer = h j;
-        marking = taken (isDone (enabledOf g m e)) (after (relationsOf g) m e) m m′ (done (enabledOf g m e) a r h k t) n j;
-      }
+  pub step-done : (m m′ n : Marking) → not r ≡ false → n ≡ m′
+      → _≡_ {A = Stepped} (record { answer = a; marking = n }) (record { answer = x; marking = when isDone x then m′ else m })
+  step-done m m′ n t e j = record { answer = h j; marking = taken (isDone x) m′ m n (done x a r h k t) e j }
 
-  pub verdict-refused : a ≡ judgedWith g m → not r ≡ true → _≡_ {A = Verdict} (record { answer = a; accepting = false }) (acceptingOf g m)
-  unfolding acceptingOf
-  verdict-refused h t j =
-      record { answer = h j; accepting = stops-l (isDone (judgedWith g m)) (accepting m) (undone (judgedWith g m) a r h k t) j }
+  pub verdict-refused : (y : Bool) → not r ≡ true
+      → _≡_ {A = Verdict} (record { answer = a; accepting = false }) (record { answer = x; accepting = isDone x and y })
+  verdict-refused y t j = record { answer = h j; accepting = stops-l (isDone x) y (undone x a r h k t) j }
 
-  pub verdict-done : (s : Bool) → a ≡ judgedWith g m → not r ≡ false → s ≡ accepting m
-      → _≡_ {A = Verdict} (record { answer = a; accepting = s }) (acceptingOf g m)
-  unfolding acceptingOf
-  verdict-done s h t n j =
-      record { answer = h j; accepting = goes (isDone (judgedWith g m)) (accepting m) s (done (judgedWith g m) a r h k t) n j }
+  pub verdict-done : (y s : Bool) → not r ≡ false → s ≡ y
+      → _≡_ {A = Verdict} (record { answer = a; accepting = s }) (record { answer = x; accepting = isDone x and y })
+  verdict-done y s t e j = record { answer = h j; accepting = goes (isDone x) y s (done x a r h k t) e j }
+
+  pub replay-refused : (R : Replayed) → not r ≡ true → ending a 0 emptyMarking false ≡ when isDone x then R else ending x 0 emptyMarking false
+  replay-refused R t =
+      ap (λ (b : Answer). ending b 0 emptyMarking false) h ∙ passed-by (isDone x) R _ _ (undone x a r h k t) refl
+
+  pub replay-done : (R S : Replayed) → not r ≡ false → S ≡ R → S ≡ when isDone x then R else ending x 0 emptyMarking false
+  replay-done R S t e = taken (isDone x) R _ S (done x a r h k t) e
 
 -- ---- the replay
 
@@ -89,14 +83,3 @@ module _ (events : Set) (q : Relations) (m : Marking) (n : ℕ) (trace : List �
   pub run-end : (s : Bool) → length trace ≤ n → s ≡ accepting m → replayFrom events q m n (drop n trace) ≡ R → ending Done n m s ≡ R
   unfolding replayFrom
   run-end s l h inv = ap (ending Done n m) h ∙ ap (replayFrom events q m n) (sym (drop-of-length-le trace l)) ∙ inv
-
-module _ (g : Graph) (trace : List ℕ) (a : Answer) (t : Bool) (k : t ≡ isDone a) (h : a ≡ judgedFor g (length trace)) where
-  pub replay-refused : not t ≡ true → ending a 0 emptyMarking false ≡ replayOf g trace
-  unfolding replayOf
-  replay-refused z = ap (λ (b : Answer). ending b 0 emptyMarking false) h
-      ∙ passed-by (isDone (judgedFor g (length trace))) _ _ _ (undone _ a t h k z) refl
-
-  pub replay-done : (R : Replayed) → not t ≡ false → R ≡ replayFrom (g .head .events) (relationsOf g) (g .head .opening) 0 trace
-      → R ≡ replayOf g trace
-  unfolding replayOf
-  replay-done R z e = taken (isDone (judgedFor g (length trace))) _ _ R (done _ a t h k z) e

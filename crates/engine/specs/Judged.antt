@@ -13,6 +13,7 @@ use Rattle.sets.specs.declared.set.Set.{Set}
 use Rattle.sets.specs.declared.answer.Answer.{Answer}
 use Rattle.sets.specs.declared.answer.Answer.the-variants.{Done, AboveLimit, Outside}
 use Rattle.engine.specs.declared.marking.Marking.{Marking}
+use Rattle.engine.specs.declared.graph.Head.{Head}
 use Rattle.engine.specs.declared.graph.Graph.{Graph}
 use Rattle.engine.specs.Relations.{relationCount}
 
@@ -32,12 +33,13 @@ rowsWithin events rows = everyBelow width (λ a. rowWithin events a (rowAt rows 
 unfoldable pub relationsWithin : Set → List ℕ → Bool
 relationsWithin events tables = everyBelow relationCount (λ k. rowsWithin events (tableAt tables k))
 
--- each event is below A, and the opening marking and the relations are within the events
+-- each event is below A, and the opening marking is within the events: what any graph is asked, however it keeps its relations
+abbrev pub headWithin : Head → Bool
+headWithin head = within (head .events) (those (λ a. ltb a (head .activities))) and markingWithin (head .events) (head .opening)
+
+-- and the relations are too
 unfoldable pub graphWithin : Graph → Bool
-graphWithin g =
-    within (g .head .events) (those (λ a. ltb a (g .head .activities)))
-    and markingWithin (g .head .events) (g .head .opening)
-    and relationsWithin (g .head .events) (g .relations)
+graphWithin g = headWithin (g .head) and relationsWithin (g .head .events) (g .relations)
 
 -- 3 for A, then 3 for the length of a trace beside it, then 5 for the graph
 unfoldable pub judgedFor : Graph → ℕ → Answer

@@ -50,15 +50,15 @@ use Rattle.promises.proofs.Walked.{execute-Post}
 
 module _ {K : Type 0} {A : K → Type 0} {R : K → Type 0} {E : K → Type 0} (Post : (κ : K) → A κ → R κ → E κ → Type 0) where
   -- some call with these arguments keeps the contract and gives r
-  abbrev Gives : ((κ : K) → A κ) → ((κ : K) → R κ) → Type 0
+  abbrev pub Gives : ((κ : K) → A κ) → ((κ : K) → R κ) → Type 0
   Gives a r = (κ : K) × (s : E κ) × Post κ (a κ) (r κ) s
 
   -- and leaves x in what was lent
-  abbrev Leaves : {X : Type 0} → ((κ : K) → E κ → X) → ((κ : K) → A κ) → ((κ : K) → R κ) → X → Type 0
+  abbrev pub Leaves : {X : Type 0} → ((κ : K) → E κ → X) → ((κ : K) → A κ) → ((κ : K) → R κ) → X → Type 0
   Leaves left a r x = (κ : K) × (s : E κ) × (left κ s ≡ x) × Post κ (a κ) (r κ) s
 
 -- memory that holds x
-abbrev Holding : {X : Type 0} → X → (RefT X → Type 0) → Type 0
+abbrev pub Holding : {X : Type 0} → X → (RefT X → Type 0) → Type 0
 Holding {X} x P = (m : RefT X) × (now m ≡ x) × P m
 
 -- ---- answers

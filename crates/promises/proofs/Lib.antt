@@ -10,3 +10,4 @@ pub mod Contracts
 pub mod Demands
 pub mod StandIns
 pub mod Counts
+pub mod PlainEngine

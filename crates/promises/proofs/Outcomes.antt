@@ -47,12 +47,20 @@ use Rattle.engine.proofs.step.step.Reads as step
 use Rattle.engine.proofs.step.accepting.Reads as accepting
 use Rattle.engine.proofs.replay.run.Reads as run
 use Rattle.engine.proofs.replay.replay.Reads as replay
+use Rattle.engine.proofs.judge.head_within.Reads as head-within
+use Rattle.plain.proofs.judge.judge_for.Reads as plain-judge-for
+use Rattle.plain.proofs.step.enabled.Reads as plain-enabled
+use Rattle.plain.proofs.step.step.Reads as plain-step
+use Rattle.plain.proofs.step.accepting.Reads as plain-accepting
+use Rattle.plain.proofs.replay.replay.Reads as plain-replay
+use Rattle.plain.proofs.fill.fill.Reads as plain-fill
 use Rattle.calllog.proofs.judge.judge_log.Reads as judge-log
 use Rattle.calllog.proofs.trace.trace_part.Reads as trace-part
 use Rattle.calllog.proofs.trace.find_trace.Reads as find-trace
 use Rattle.calllog.proofs.trace.ask.Reads as log-ask
 use Rattle.graphfile.proofs.reader.read.Reads as read
 use Rattle.graphfile.proofs.writer.write.Reads as write
+use Rattle.graphfile.proofs.head.read_head.Reads as read-head
 use Rattle.graphfile.proofs.marking.read_marking.Reads as read-marking
 use Rattle.graphfile.proofs.marking.write_marking.Reads as write-marking
 use Rattle.steps.proofs.relations.unbroken.Reads as unbroken
@@ -71,11 +79,15 @@ use Rattle.port.proofs.skelfora_listing.Reads as skelfora-listing
 use Rattle.port.proofs.skelfora_rewrite.Reads as skelfora-rewrite
 use Rattle.port.proofs.skelfora_replay.Reads as skelfora-replay
 use Rattle.port.proofs.skelfora_step.Reads as skelfora-step
+use Rattle.port.proofs.classroom.skelfora_plain_step.Reads as skelfora-plain-step
+use Rattle.port.proofs.classroom.skelfora_plain_accepting.Reads as skelfora-plain-accepting
+use Rattle.port.proofs.classroom.skelfora_plain_replay.Reads as skelfora-plain-replay
+use Rattle.port.proofs.classroom.skelfora_fill.Reads as skelfora-fill
 use Rattle.promises.proofs.replayed.replay_own.Reads as replay-own
 use Rattle.promises.proofs.replayed.replay_none.Reads as replay-none
 use Rattle.promises.proofs.returned.graph_back.Reads as graph-back
 use Rattle.promises.proofs.returned.file_back.Reads as file-back
-use Rattle.promises.proofs.Walked.{execute-Post, executed-Post, open-Post, trace-Post, next-trace-Post, read-trace-Post, read-next-Post}
+use Rattle.promises.proofs.Walked.{plain-execute-Post, execute-Post, executed-Post, open-Post, trace-Post, next-trace-Post, read-trace-Post, read-next-Post}
 
 module _ {K : Type 0} {A : K → Type 0} {R : K → Type 0} {E : K → Type 0} (Post : (κ : K) → A κ → R κ → E κ → Type 0) where
   -- two calls with the same arguments give the same
@@ -197,6 +209,9 @@ marking-within-once κ a r r′ s s′ h h′ = h ∙ sym h′
 pub rows-within-once : Once rows-within.Post
 rows-within-once κ a r r′ s s′ h h′ = h ∙ sym h′
 
+pub head-within-once : Once head-within.Post
+head-within-once κ a r r′ s s′ h h′ = h ∙ sym h′
+
 pub judge-for-once : Once judge-for.Post
 judge-for-once κ a r r′ s s′ h h′ = h ∙ sym h′
 
@@ -232,6 +247,29 @@ run-once κ a r r′ s s′ h h′ = h ∙ sym h′
 
 pub replay-once : Once replay.Post
 replay-once κ a r r′ s s′ h h′ = h ∙ sym h′
+
+-- ---- plain
+
+pub plain-judge-for-once : Once plain-judge-for.Post
+plain-judge-for-once κ a r r′ s s′ h h′ = h ∙ sym h′
+
+pub plain-enabled-once : Once plain-enabled.Post
+plain-enabled-once κ a r r′ s s′ h h′ = h ∙ sym h′
+
+pub plain-step-once : Once plain-step.Post
+plain-step-once κ a r r′ s s′ h h′ = h ∙ sym h′
+
+pub plain-execute-once : OnceLent plain-execute-Post (λ κ s. now (s .1 .1 .1 .1 .1 .0))
+plain-execute-once κ a r r′ s s′ h h′ = (h .0 ∙ sym (h′ .0), h .1 ∙ sym (h′ .1))
+
+pub plain-accepting-once : Once plain-accepting.Post
+plain-accepting-once κ a r r′ s s′ h h′ = h ∙ sym h′
+
+pub plain-replay-once : Once plain-replay.Post
+plain-replay-once κ a r r′ s s′ h h′ = h ∙ sym h′
+
+pub plain-fill-once : OnceLent plain-fill.Post (λ κ s. now (s .1 .1 .0))
+plain-fill-once κ a r r′ s s′ h h′ = (h .0 ∙ sym (h′ .0), h .1 ∙ sym (h′ .1))
 
 -- ---- calllog
 
@@ -269,6 +307,9 @@ read-once κ a r r′ s s′ h h′ = h ∙ sym h′
 
 pub write-once : OnceLent write.Post (λ κ s. now (s .1 .0))
 write-once κ a r r′ s s′ h h′ = (h .0 ∙ sym (h′ .0), h .1 ∙ sym (h′ .1))
+
+pub read-head-once : Once read-head.Post
+read-head-once κ a r r′ s s′ h h′ = h ∙ sym h′
 
 pub read-marking-once : Once read-marking.Post
 read-marking-once κ a r r′ s s′ h h′ = h ∙ sym h′
@@ -333,6 +374,18 @@ skelfora-replay-once κ a r r′ s s′ h h′ = h ∙ sym h′
 
 pub skelfora-step-once : OnceLent skelfora-step.Post (λ κ s. now (s .1 .0))
 skelfora-step-once κ a r r′ s s′ h h′ = (h .0 ∙ sym (h′ .0), h .1 ∙ sym (h′ .1))
+
+pub skelfora-plain-step-once : OnceLent skelfora-plain-step.Post (λ κ s. now (s .1 .1 .1 .1 .1 .0))
+skelfora-plain-step-once κ a r r′ s s′ h h′ = (h .0 ∙ sym (h′ .0), h .1 ∙ sym (h′ .1))
+
+pub skelfora-plain-accepting-once : Once skelfora-plain-accepting.Post
+skelfora-plain-accepting-once κ a r r′ s s′ h h′ = h ∙ sym h′
+
+pub skelfora-plain-replay-once : Once skelfora-plain-replay.Post
+skelfora-plain-replay-once κ a r r′ s s′ h h′ = h ∙ sym h′
+
+pub skelfora-fill-once : OnceLent skelfora-fill.Post (λ κ s. now (s .1 .1 .0))
+skelfora-fill-once κ a r r′ s s′ h h′ = (h .0 ∙ sym (h′ .0), h .1 ∙ sym (h′ .1))
 
 -- ---- promises; of replay_own's five equations the first fixes the result
 

@@ -9,6 +9,7 @@ use borrow.Fn.Read.{ReadAt, no-know, r-last}
 use borrow.Fn.Claims.{AllOf}
 use Rattle.engine.proofs.execute.execute as execute
 use Rattle.engine.proofs.execute.executed as executed
+use Rattle.plain.proofs.execute.execute as plain-execute
 use Rattle.calllog.proofs.reader.open as opens
 use Rattle.calllog.proofs.reader.trace as trace
 use Rattle.calllog.proofs.reader.next_trace as next-trace
@@ -70,3 +71,10 @@ module _ (κ : Lfts (read-next.signature .lifetimes)) (a : ArgsD read-next.signa
 
   abbrev pub read-next-Post : Type 0
   read-next-Post = Told read-next-read
+
+module _ (κ : Lfts (plain-execute.signature .lifetimes)) (a : ArgsD plain-execute.signature κ) (r : ResD plain-execute.signature κ) (s : AtExit plain-execute.ended κ) where
+  abbrev plain-execute-read : Read (plain-execute.clauses (w₀ .𝓤) (w₀ .H) (w₀ .𝓖 .A) (w₀ .𝓜 .mem) (w₀ .𝓡 .run) κ a .ensures tt r s)
+  plain-execute-read = r-last _
+
+  abbrev pub plain-execute-Post : Type 0
+  plain-execute-Post = Told plain-execute-read

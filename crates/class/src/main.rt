@@ -1,0 +1,118 @@
+// The engine to read in class, run: mistake 2's graph of docs/CLASSROOM.md in lists of pairs, one line a case. What each line must say was
+// worked out by hand from 01 and 02 (crates/class/stdout).
+mod text;
+
+use engine::Head;
+use engine::Marking;
+use engine::Relations;
+use engine::graph::CONDITIONS;
+use plain::fill::fill;
+use plain::replay::replay;
+use plain::step::step;
+use sets::Activity;
+use sets::Set;
+use sets::tables;
+
+// The condition 1 to 2, and the exclusion 0 to 1.
+const SURVEY_ASSIGN: u16 = 258;
+
+const WAIVE_SURVEY: u16 = 1;
+
+// 0 Waive, 1 Survey, 2 Assign, all included.
+fn waive() -> Head {
+    Head {
+        activities: 3,
+        events: Set::below(3),
+        opening: Marking::opening(Set::below(3)),
+    }
+}
+
+// A replay with these conditions and excludes, and no other arrow.
+fn show<'a>(name: &'a [u8], conditions: &'a [u16], excludes: &'a [u16], trace: &'a [u8]) {
+    let none = &conditions[0..0];
+    let r = replay(waive(), conditions, none, none, excludes, trace);
+    text::say(name);
+    let a = r.answer;
+    text::answer(a);
+    text::number(b" at ", r.place.0 as u64);
+    let m = r.marking;
+    text::marking(m);
+    if r.accepting {
+        text::say(b" accepting");
+    }
+    text::say(b"\n");
+}
+
+// The rows of mistake 2, and a step that the graph lacks.
+fn the_rows<'a>(conditions: &'a [u16], excludes: &'a [u16]) {
+    show(b"2", conditions, excludes, b"\x02");
+    show(b"1 2", conditions, excludes, b"\x01\x02");
+    show(b"0", conditions, excludes, b"\x00");
+    show(b"0 2", conditions, excludes, b"\x00\x02");
+    show(b"0 1", conditions, excludes, b"\x00\x01");
+    show(b"255", conditions, excludes, b"\xff");
+}
+
+// One step of Waive, at a marking handed beside.
+fn a_step<'a>(name: &'a [u8], conditions: &'a [u16], excludes: &'a [u16], included: Set) {
+    let none = &conditions[0..0];
+    let m = Marking::opening(included);
+    let s = step(waive(), conditions, none, none, excludes, m, Activity(0));
+    text::say(name);
+    let a = s.answer;
+    text::answer(a);
+    let after = s.marking;
+    text::marking(after);
+    text::say(b"\n");
+}
+
+// The conditions of the graph on sets, into lent memory.
+fn a_fill(name: &[u8], memory: &mut [u16]) {
+    let mut relations: Relations = [0; 256];
+    tables::put(
+        &mut relations,
+        CONDITIONS,
+        Activity(2),
+        Set::one(Activity(1)),
+    );
+    let f = fill(&relations, CONDITIONS, memory);
+    text::say(name);
+    let a = f.answer;
+    text::answer(a);
+    text::number(b" pairs ", f.pairs as u64);
+    if 0 < memory.len() {
+        text::number(b" first ", text::wide(memory[0]));
+    }
+    text::say(b"\n");
+}
+
+// No room at all: what stands in the memory stays.
+fn no_room(memory: &mut [u16]) {
+    a_fill(b"fill 0", &mut memory[0..0]);
+}
+
+// Lists that are long, or name what is no step.
+fn the_borders<'a>(excludes: &'a [u16]) {
+    let many = [SURVEY_ASSIGN; 4097];
+    show(b"4096 times, 2", &many[0..4096], excludes, b"\x02");
+    show(b"4097 times, 2", &many, excludes, b"\x02");
+    let far = [65535u16; 4097];
+    show(b"65535, 0", &far[0..1], excludes, b"\x00");
+    show(b"65535, 4097 times, 0", &far, excludes, b"\x00");
+    let source = [770u16];
+    show(b"3 to 2, 0", &source, excludes, b"\x00");
+}
+
+fn main() {
+    let c = [SURVEY_ASSIGN];
+    let x = [WAIVE_SURVEY];
+    the_rows(&c, &x);
+    let twice = [WAIVE_SURVEY, WAIVE_SURVEY];
+    show(b"listed twice, 0 2", &c, &twice, b"\x00\x02");
+    the_borders(&x);
+    a_step(b"step 0", &c, &x, Set::below(3));
+    a_step(b"step 0 at a marking outside", &c, &x, Set::below(4));
+    let mut memory = [7u16; 2];
+    no_room(&mut memory);
+    a_fill(b"fill 2", &mut memory);
+}

@@ -1,0 +1,43 @@
+// Text on standard output: the four steps that a class has at the board, by their numbers.
+use engine::Marking;
+use libc::STDOUT_FILENO;
+use sets::Activity;
+use sets::Answer;
+use sets::Set;
+
+pub fn say(s: &[u8]) {
+    io::write_all(STDOUT_FILENO, s);
+}
+
+pub fn number(name: &[u8], n: u64) {
+    say(name);
+    io::print_decimal(STDOUT_FILENO, n);
+}
+
+pub fn wide(n: u16) -> u64 {
+    n as u64
+}
+
+pub fn answer(a: Answer) {
+    number(b": ", a.number() as u64);
+}
+
+fn member(s: Set, a: u8) {
+    if s.has(Activity(a)) {
+        number(b" ", a as u64);
+    }
+}
+
+fn members(name: &[u8], s: Set) {
+    say(name);
+    member(s, 0);
+    member(s, 1);
+    member(s, 2);
+    member(s, 3);
+}
+
+pub fn marking(m: Marking) {
+    members(b" executed", m.executed);
+    members(b" pending", m.pending);
+    members(b" included", m.included);
+}

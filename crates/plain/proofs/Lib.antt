@@ -1,0 +1,6 @@
+-- The modules of `proofs/` that belong to no one function.
+pub mod PairLaws
+pub mod Stepping
+pub mod Putting
+pub mod SameResults
+pub mod SameGraphs

@@ -1,0 +1,16 @@
+use Rattle.engine.proofs.Running.{step-refused, step-done}
+use Rattle.plain.specs.Results.{plainSteppedOf}
+use Rattle.plain.proofs.Stepping.{next-alone}
+use borrow.Author.Needs.{needs}
+use Rattle.plain.proofs.step.step.Statement.{statement}
+use Rattle.plain.proofs.step.step.Tie as tie
+
+pub step-spec : {M : Type 1} → statement M
+step-spec =
+    tie.close
+    (tie.spec
+    (λ c κs. search needs)
+    (λ c κs. search needs)
+    (λ c. unfold plainSteppedOf in search (step-refused, needs))
+    (λ c κs. search needs)
+    (λ c. unfold plainSteppedOf in search (step-done, next-alone, needs)))

@@ -1,0 +1,195 @@
+// Enabled, the step and accepting (01, "A step"), each rule as a walk through a list of pairs.
+ghost use mathlib.Core.Path.{_≡_};
+ghost use mathlib.Core.List.{[]};
+ghost use lib.Dec.{eqb};
+ghost use Rattle.sets.specs.Tests.{_and_, _or_, non};
+ghost use Rattle.sets.specs.Members.{mem, those};
+ghost use Rattle.engine.specs.Steps as rules;
+ghost use Rattle.plain.specs.Pairs.{pairOf, sourceOf, targetOf, inPairs, blocks};
+ghost use Rattle.plain.specs.Graphs.{plainOf, inLists};
+ghost use Rattle.plain.specs.Results.{plainEnabledOf, plainSteppedOf, plainAcceptingOf};
+use crate::judge;
+use crate::pairs::source;
+use crate::pairs::target;
+use engine::Head;
+use engine::Marking;
+use engine::Stepped;
+use engine::Verdict;
+use engine::step::is_accepting;
+use sets::Activity;
+use sets::Answer;
+use sets::Set;
+
+// Whether a condition keeps the activity waiting: it leads to it, and its source is included and not executed.
+fn is_blocking(pair: u16, m: Marking, a: Activity) -> bool
+    ensures { λ r. ⌜ r ≡ blocks m (a .0) pair ⌝ }
+{
+    if target(pair).0 != a.0 {
+        return false;
+    }
+    if !m.included.has(source(pair)) {
+        return false;
+    }
+    !m.executed.has(source(pair))
+}
+
+// Whether some condition does.
+fn is_waiting(conditions: &[u16], m: Marking, a: Activity) -> bool
+    ensures { λ r. ⌜ r ≡ rules.waits (inLists (now (conditions .entry)) [] [] []) m (a .0) ⌝ }
+{
+    let mut i: usize = 0;
+    while i < conditions.len() {
+        if is_blocking(conditions[i], m, a) {
+            return true;
+        }
+        i += 1;
+    }
+    false
+}
+
+// Rules 8, 9, 10.
+pub(crate) fn ask(events: Set, conditions: &[u16], m: Marking, a: Activity) -> Answer
+    ensures { λ r. ⌜ r ≡ rules.enabled events (inLists (now (conditions .entry)) [] [] []) m (a .0) ⌝ }
+{
+    if !events.has(a) {
+        return Answer::NoEvent;
+    }
+    if !m.included.has(a) {
+        return Answer::NotIncluded;
+    }
+    if is_waiting(conditions, m, a) {
+        return Answer::Waiting;
+    }
+    Answer::Done
+}
+
+// The set, with the pair's target where its source is the activity.
+fn gain_target(s: Set, pair: u16, a: Activity) -> Set
+    ensures { λ r. ⌜ r ≡ those (λ b. mem s b or eqb pair (pairOf (a .0) b)) ⌝ }
+{
+    if source(pair).0 != a.0 {
+        return s;
+    }
+    s.union(Set::one(target(pair)))
+}
+
+// The set, with every target of the activity.
+fn gain_targets(s: Set, pairs: &[u16], a: Activity) -> Set
+    ensures { λ r. ⌜ r ≡ those (λ b. mem s b or inPairs (now (pairs .entry)) (a .0) b) ⌝ }
+{
+    let mut kept = s;
+    let mut i: usize = 0;
+    while i < pairs.len() {
+        kept = gain_target(kept, pairs[i], a);
+        i += 1;
+    }
+    kept
+}
+
+// The set, without the pair's target where its source is the activity.
+fn lose_target(s: Set, pair: u16, a: Activity) -> Set
+    ensures { λ r. ⌜ r ≡ those (λ b. mem s b and non (eqb pair (pairOf (a .0) b))) ⌝ }
+{
+    if source(pair).0 != a.0 {
+        return s;
+    }
+    s.difference(Set::one(target(pair)))
+}
+
+// The set, without any target of the activity.
+fn lose_targets(s: Set, pairs: &[u16], a: Activity) -> Set
+    ensures { λ r. ⌜ r ≡ those (λ b. mem s b and non (inPairs (now (pairs .entry)) (a .0) b)) ⌝ }
+{
+    let mut kept = s;
+    let mut i: usize = 0;
+    while i < pairs.len() {
+        kept = lose_target(kept, pairs[i], a);
+        i += 1;
+    }
+    kept
+}
+
+// The marking after a step that is enabled. Included loses before it gains, so an include wins.
+pub(crate) fn next<'a>(
+    responses: &'a [u16],
+    includes: &'a [u16],
+    excludes: &'a [u16],
+    m: Marking,
+    a: Activity,
+) -> Marking
+    ensures { λ r. ⌜ r ≡ rules.after (inLists [] (now (responses .entry)) (now (includes .entry)) (now (excludes .entry))) m (a .0) ⌝ }
+{
+    let one = Set::one(a);
+    let executed = m.executed.union(one);
+    let done = m.pending.difference(one);
+    let pending = gain_targets(done, responses, a);
+    let left = lose_targets(m.included, excludes, a);
+    let included = gain_targets(left, includes, a);
+    Marking::of(executed, pending, included)
+}
+
+// Whether a step is enabled on any graph at any marking: the refusals of both, then rules 8, 9, 10.
+pub fn enabled<'a>(
+    head: Head,
+    conditions: &'a [u16],
+    responses: &'a [u16],
+    includes: &'a [u16],
+    excludes: &'a [u16],
+    m: Marking,
+    a: Activity,
+) -> Answer
+    ensures { λ r. ⌜ r ≡ plainEnabledOf (plainOf head (now (conditions .entry)) (now (responses .entry)) (now (includes .entry))
+        (now (excludes .entry))) m (a .0) ⌝ }
+{
+    let answer = judge::judge_beside(head, conditions, responses, includes, excludes, m);
+    if !answer.is_done() {
+        return answer;
+    }
+    ask(head.events, conditions, m, a)
+}
+
+// The step on any graph at any marking: the marking after it, or the same where refused.
+pub fn step<'a>(
+    head: Head,
+    conditions: &'a [u16],
+    responses: &'a [u16],
+    includes: &'a [u16],
+    excludes: &'a [u16],
+    m: Marking,
+    a: Activity,
+) -> Stepped
+    ensures { λ r. ⌜ r ≡ plainSteppedOf (plainOf head (now (conditions .entry)) (now (responses .entry)) (now (includes .entry))
+        (now (excludes .entry))) m (a .0) ⌝ }
+{
+    let answer = enabled(head, conditions, responses, includes, excludes, m, a);
+    if !answer.is_done() {
+        return Stepped { answer, marking: m };
+    }
+    let marking = next(responses, includes, excludes, m, a);
+    Stepped { answer, marking }
+}
+
+// Whether a marking is accepting, on any graph; no where refused.
+pub fn accepting<'a>(
+    head: Head,
+    conditions: &'a [u16],
+    responses: &'a [u16],
+    includes: &'a [u16],
+    excludes: &'a [u16],
+    m: Marking,
+) -> Verdict
+    ensures { λ r. ⌜ r ≡ plainAcceptingOf (plainOf head (now (conditions .entry)) (now (responses .entry)) (now (includes .entry))
+        (now (excludes .entry))) m ⌝ }
+{
+    let answer = judge::judge_beside(head, conditions, responses, includes, excludes, m);
+    if !answer.is_done() {
+        return Verdict {
+            answer,
+            accepting: false,
+        };
+    }
+    Verdict {
+        answer,
+        accepting: is_accepting(m),
+    }
+}
