@@ -1,4 +1,5 @@
 -- The numbers that the port gives back, and what it leaves in lent memory.
+use mathlib.Core.Bool.{Bool}
 use mathlib.Core.List.{List}
 use Prim.Native.Nat.{ℕ, _+_, _*_, _%_, _^_}
 use lib.Dec.{ltb}
@@ -20,6 +21,10 @@ use Rattle.report.specs.Listing.{listedOf}
 -- a number of 01, and 256 times what goes with it; that has 24 bits
 unfoldable pub packedOf : Answer → ℕ → ℕ
 packedOf a n = numberOf a + 256 * (n % 2 ^ 24)
+
+-- the same, and 2^32 more where accepting
+unfoldable pub verdictOf : Answer → ℕ → Bool → ℕ
+verdictOf a n accepting = packedOf a n + (when accepting then 2 ^ 32 else 0)
 
 -- what mining or reading gave, written as a file where it was done
 unfoldable pub putNumber : Answer → Graph → ℕ → ℕ
@@ -56,6 +61,10 @@ replayNumber file trace =
 
 abbrev pub refusedStep : Answer → Stepped
 refusedStep a = record { answer = a; marking = emptyMarking }
+
+-- a marking's bytes after a step: as they were where refused
+unfoldable pub storedOf : Stepped → List ℕ → List ℕ
+storedOf s bytes = when isDone (s .answer) then markingInto (s .marking) bytes else bytes
 
 -- skelfora_step: the file's refusals, then 7 where the marking has too few bytes, then what the step gives
 unfoldable pub stepOf : List ℕ → List ℕ → ℕ → Stepped

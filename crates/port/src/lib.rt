@@ -3,9 +3,12 @@
 ghost use mathlib.Core.Path.{_≡_};
 ghost use Prim.Native.Nat.{_^_, _<_};
 ghost use lib.ListN.{length};
-ghost use Rattle.port.specs.Port.{packedOf, putNumber, putBuffer, mineNumber, mineBuffer, rewriteNumber, rewriteBuffer, replayNumber, listingNumber, stepOf, stepBytes};
+ghost use Rattle.port.specs.Port.{packedOf, verdictOf, storedOf, putNumber, putBuffer, mineNumber, mineBuffer, rewriteNumber, rewriteBuffer, replayNumber, listingNumber, stepOf, stepBytes};
 ghost use Rattle.report.specs.Listing.{listingAfter};
 ghost use Rattle.sets.specs.Answers.{numberOf};
+
+pub mod classroom;
+
 use engine::Graph;
 use engine::Marking;
 use engine::Stepped;
@@ -14,12 +17,37 @@ use sets::Answer;
 use sets::Place;
 
 // The number, and a length or place above it: 256 times. No length or place here reaches the 24 bits that it has.
-fn packed(answer: Answer, n: usize) -> u64
+pub(crate) fn packed(answer: Answer, n: usize) -> u64
     ensures { λ r. ⌜ r ≡ packedOf answer n ⌝ }
     ensures { λ r. ⌜ r < 2 ^ 32 ⌝ }
 {
     let low = answer.number() as u64;
     low + 256 * (n % 16777216) as u64
+}
+
+// The same, and 2^32 where accepting.
+pub(crate) fn packed_verdict(answer: Answer, n: usize, accepting: bool) -> u64
+    ensures { λ r. ⌜ r ≡ verdictOf answer n accepting ⌝ }
+{
+    let low = packed(answer, n);
+    if accepting {
+        return low + 4294967296;
+    }
+    low
+}
+
+// The marking after a step into the lent bytes, where it was done; its number.
+pub(crate) fn store(s: Stepped, marking: &mut [u8]) -> u64
+    ensures { λ r. ⌜ r ≡ numberOf (s .answer) ⌝ }
+    ensures { λ _. ⌜ now (marking .exit) ≡ storedOf s (now (marking .entry)) ⌝ }
+{
+    let answer = s.answer;
+    if !answer.is_done() {
+        return answer.number() as u64;
+    }
+    let after = s.marking;
+    graphfile::marking::write_marking(after, marking);
+    answer.number() as u64
 }
 
 // What mining or reading gave, written as a file where it was done.
@@ -88,11 +116,7 @@ pub extern "C" fn skelfora_replay(file: &[u8], trace: &[u8]) -> u64
     let p = engine::replay::run(head, &r.graph.relations, trace);
     let a = p.answer;
     let place = p.place.0;
-    let low = packed(a, place);
-    if p.accepting {
-        return low + 4294967296;
-    }
-    low
+    packed_verdict(a, place, p.accepting)
 }
 
 // A step on the graph of a file: the file's refusals, then 7 where the marking has too few bytes, then the step's.
@@ -125,11 +149,5 @@ pub extern "C" fn skelfora_step(file: &[u8], marking: &mut [u8], activity: u8) -
     ensures { λ _. ⌜ now (marking .exit) ≡ stepBytes (now (file .entry)) (now (marking .entry)) activity ⌝ }
 {
     let s = stepped(file, marking, Activity(activity));
-    let answer = s.answer;
-    if !answer.is_done() {
-        return answer.number() as u64;
-    }
-    let after = s.marking;
-    graphfile::marking::write_marking(after, marking);
-    answer.number() as u64
+    store(s, marking)
 }
