@@ -39,6 +39,14 @@ impl GraphValue {
     };
 }
 
+/// A graph as the plain engine has it (02, 1/12): the bytes of its head, and its lists of
+/// pairs in 01's order, conditions, responses, includes, excludes. Any bytes, any numbers.
+#[derive(Clone, PartialEq, Eq, Debug, Default)]
+pub struct PlainGraph {
+    pub head: Vec<u8>,
+    pub lists: [Vec<u16>; 4],
+}
+
 /// What replay returns.
 #[derive(Clone, Copy, PartialEq, Eq, Debug)]
 pub struct Replayed {

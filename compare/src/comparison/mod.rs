@@ -4,6 +4,8 @@ use record::Record;
 use std::collections::BTreeMap;
 
 pub mod doors;
+pub mod plain;
+pub mod plain_rounds;
 pub mod record;
 pub mod rounds;
 pub mod values;
@@ -12,13 +14,17 @@ pub mod values;
 /// them is not taken for a full one.
 type Expected = (&'static str, &'static [u8]);
 
-/// The five functions of `port`: here the proved code takes part.
-const WITH_PORT: [Expected; 5] = [
+/// The nine functions of `port`: here the proved code takes part.
+const WITH_PORT: [Expected; 9] = [
     ("mine", &[0, 1, 2, 3, 4, 5, 7]),
     ("listing", &[0, 1, 2, 3, 4, 5]),
     ("replay", &[0, 1, 2, 3, 4, 5, 6, 8, 9, 10]),
     ("rewrite", &[0, 1, 2, 3, 4, 5, 6, 7]),
     ("step", &[0, 1, 2, 3, 4, 5, 6, 7, 8, 9, 10]),
+    ("plain step", &[0, 3, 5, 7, 8, 9, 10]),
+    ("plain accepting", &[0, 3, 5, 7]),
+    ("plain replay", &[0, 3, 5, 7, 8, 9, 10]),
+    ("fill", &[0, 1, 2, 3, 4, 5, 6, 7]),
 ];
 
 /// What those do not show: judge and yardstick, both Rust. These say nothing of the proved code.

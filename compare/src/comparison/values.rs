@@ -1,4 +1,4 @@
-//! What the five functions don't show: graphs as values, markings after a replay, the log
+//! What the functions of `port` don't show: graphs as values, markings after a replay, the log
 //! reader, mining without step 6. Judge and yardstick only.
 use super::{decimal, Comparison};
 use crate::judge::graph::{graph_of, graph_value, marking_of, marking_value};

@@ -1,9 +1,11 @@
-//! The judge behind the five functions of `port`.
-use super::engine::{execute, replay as replay_graph};
+//! The judge behind the nine functions of `port`.
+use super::engine::{accepting, execute, replay as replay_graph};
+use super::graph::Graph;
 use super::graph_file::{self, read_marking, set_bytes};
 use super::listing::listing as list;
-use super::{log, miner};
+use super::{log, miner, plain};
 use crate::door::{filled, replayed, written, Door};
+use crate::value::PlainGraph;
 
 pub const DOOR: Door = Door {
     name: "judge",
@@ -12,6 +14,10 @@ pub const DOOR: Door = Door {
     replay,
     rewrite,
     step,
+    plain_step,
+    plain_accepting,
+    plain_replay,
+    fill,
 };
 
 fn mine(bytes: &[u8], file: &mut [u8]) -> u64 {
@@ -26,7 +32,48 @@ fn listing(bytes: &[u8], out: &mut [u8]) -> u64 {
 }
 
 fn replay(file: &[u8], trace: &[u8]) -> u64 {
-    match graph_file::read(file) {
+    replay_on(graph_file::read(file), trace)
+}
+
+fn rewrite(file: &[u8], out: &mut [u8]) -> u64 {
+    written(graph_file::read(file).and_then(|graph| graph_file::write(&graph, out)))
+}
+
+fn step(file: &[u8], lent: &mut [u8], activity: u8) -> u64 {
+    step_on(graph_file::read(file), lent, activity)
+}
+
+fn plain_step(graph: &PlainGraph, lent: &mut [u8], activity: u8) -> u64 {
+    step_on(plain::read(graph, 0), lent, activity)
+}
+
+fn plain_accepting(graph: &PlainGraph, marking: &[u8]) -> u64 {
+    let verdict = plain::read(graph, 0).and_then(|graph| {
+        if marking.len() < 24 {
+            return Err(7);
+        }
+        accepting(&graph, &read_marking(marking))
+    });
+    match verdict {
+        Err(number) => replayed(number, 0, false),
+        Ok(accepting) => replayed(0, 0, accepting),
+    }
+}
+
+fn plain_replay(graph: &PlainGraph, trace: &[u8]) -> u64 {
+    replay_on(plain::read(graph, trace.len()), trace)
+}
+
+fn fill(file: &[u8], kind: u8, memory: &mut [u16]) -> u64 {
+    written(graph_file::read(file).and_then(|graph| {
+        let pairs = plain::relation(&graph.relations, kind);
+        plain::fill(&pairs, memory)
+    }))
+}
+
+/// On the graph of a file or of lists, or with its refusal.
+fn replay_on(graph: Result<Graph, u8>, trace: &[u8]) -> u64 {
+    match graph {
         Err(number) => replayed(number, 0, false),
         Ok(graph) => {
             let done = replay_graph(&graph, trace);
@@ -35,12 +82,9 @@ fn replay(file: &[u8], trace: &[u8]) -> u64 {
     }
 }
 
-fn rewrite(file: &[u8], out: &mut [u8]) -> u64 {
-    written(graph_file::read(file).and_then(|graph| graph_file::write(&graph, out)))
-}
-
-fn step(file: &[u8], lent: &mut [u8], activity: u8) -> u64 {
-    let graph = match graph_file::read(file) {
+/// The graph's refusals come before those of what was lent.
+fn step_on(graph: Result<Graph, u8>, lent: &mut [u8], activity: u8) -> u64 {
+    let graph = match graph {
         Err(number) => return u64::from(number),
         Ok(graph) => graph,
     };

@@ -6,9 +6,9 @@ use compare::judge::{Pairs, Set};
 use compare::seeds::{graphs, Prng};
 
 /// The number, and the marking where the step is done.
-type Execute = fn(&Graph, &Marking, u8) -> Result<Marking, u8>;
+pub type Execute = fn(&Graph, &Marking, u8) -> Result<Marking, u8>;
 
-fn right(graph: &Graph, marking: &Marking, e: u8) -> Result<Marking, u8> {
+pub fn right(graph: &Graph, marking: &Marking, e: u8) -> Result<Marking, u8> {
     blocked(graph, marking, e)?;
     Ok(stepped(&graph.relations, marking, e))
 }
@@ -30,25 +30,27 @@ fn found(mutant: Execute) -> Option<u64> {
     None
 }
 
+/// The plain engine's inputs must find them too.
+pub const MUTANTS: [(&str, Execute); 8] = [
+    ("changes nothing", |g, m, e| {
+        blocked(g, m, e).map(|()| m.clone())
+    }),
+    ("excludes after includes", excludes_last),
+    ("pending cleared last", pending_cleared_last),
+    ("pending not cleared", pending_kept),
+    (
+        "conditions of excluded sources count",
+        excluded_sources_count,
+    ),
+    ("executed sources still hold up", executed_sources_count),
+    ("10 before 9", ten_before_nine),
+    ("9 before 8", nine_before_eight),
+];
+
 #[test]
 fn found_by_random_graphs() {
-    let mutants: [(&str, Execute); 8] = [
-        ("changes nothing", |g, m, e| {
-            blocked(g, m, e).map(|()| m.clone())
-        }),
-        ("excludes after includes", excludes_last),
-        ("pending cleared last", pending_cleared_last),
-        ("pending not cleared", pending_kept),
-        (
-            "conditions of excluded sources count",
-            excluded_sources_count,
-        ),
-        ("executed sources still hold up", executed_sources_count),
-        ("10 before 9", ten_before_nine),
-        ("9 before 8", nine_before_eight),
-    ];
     all_found(
-        mutants
+        MUTANTS
             .iter()
             .map(|&(name, mutant)| (name, found(mutant)))
             .collect(),
