@@ -10,10 +10,8 @@ store-spec =
     (tie.spec
     (λ c κs. search needs)
     (λ c κs. search needs)
-    (λ c. search needs)
     (λ c. unfold storedOf in search (choice, needs))
     (λ c κs. search needs)
     (λ c κs. search needs)
-    (λ c. search needs)
     (λ c. search needs)
     (λ c. unfold storedOf in search (choice, needs)))
