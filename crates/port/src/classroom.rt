@@ -105,9 +105,9 @@ pub extern "C" fn skelfora_plain_accepting<'a>(
     ensures { λ r. ⌜ r ≡ plainAcceptingNumber (now (head .entry)) (now (conditions .entry)) (now (responses .entry))
         (now (includes .entry)) (now (excludes .entry)) (now (marking .entry)) ⌝ }
 {
-    let answer = judge_handed(head, conditions, responses, includes, excludes, marking);
-    if !answer.is_done() {
-        return packed(answer, 0);
+    let refusal = judge_handed(head, conditions, responses, includes, excludes, marking);
+    if !refusal.is_done() {
+        return packed(refusal, 0);
     }
     let h = graphfile::head::read_head(head);
     let m = graphfile::marking::read_marking(marking);

@@ -12,6 +12,12 @@ returns-3 c =
     replay-run _ _ _ (read .read .ensures) _ (left .before .is-done .ensures) _ (left .if1 .left)
     (λ k. read .before .before .shared-slice-known .given k .fits) (short .if2 .left) _ (run .run .ensures) (c .packed-blocker3 .ensures)
 
+returns : tie.Need-returns
+returns c = search (replaying, needs)
+
+returns-2 : tie.Need-returns-2
+returns-2 c = search (replaying, needs)
+
 pub skelfora-replay-spec : {M : Type 1} → statement M
 skelfora-replay-spec =
     tie.close
@@ -19,9 +25,9 @@ skelfora-replay-spec =
     (λ c κs. search needs)
     (λ c κs. search needs)
     (λ c κs. search needs)
-    (λ c. search (replaying, needs))
+    returns
     (λ c κs. search needs)
-    (λ c. search (replaying, needs))
+    returns-2
     (λ c κs. search needs)
     (λ c κs. search needs)
     returns-3)

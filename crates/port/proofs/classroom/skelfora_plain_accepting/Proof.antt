@@ -4,6 +4,12 @@ use borrow.Author.Needs.{needs}
 use Rattle.port.proofs.classroom.skelfora_plain_accepting.Statement.{statement}
 use Rattle.port.proofs.classroom.skelfora_plain_accepting.Tie as tie
 
+returns : tie.Need-returns
+returns c = unfold plainAcceptingNumber in search (handing, needs)
+
+returns-2 : tie.Need-returns-2
+returns-2 c = unfold plainAcceptingNumber in search (handing, needs)
+
 pub skelfora-plain-accepting-spec : {M : Type 1} → statement M
 skelfora-plain-accepting-spec =
     tie.close
@@ -11,9 +17,9 @@ skelfora-plain-accepting-spec =
     (λ c κs. search needs)
     (λ c κs. search needs)
     (λ c κs. search needs)
-    (λ c. unfold plainAcceptingNumber in search (handing, needs))
+    returns
     (λ c κs. search needs)
     (λ c κs. search needs)
     (λ c κs. search needs)
     (λ c κs. search needs)
-    (λ c. unfold plainAcceptingNumber in search (handing, needs)))
+    returns-2)

@@ -3,6 +3,9 @@ use borrow.Author.Needs.{needs}
 use Rattle.port.proofs.classroom.skelfora_plain_step.Statement.{statement}
 use Rattle.port.proofs.classroom.skelfora_plain_step.Tie as tie
 
+returns : tie.Need-returns
+returns c = search (stored, step-number, needs)
+
 pub skelfora-plain-step-spec : {M : Type 1} → statement M
 skelfora-plain-step-spec =
     tie.close
@@ -10,4 +13,4 @@ skelfora-plain-step-spec =
     (λ c κs. search needs)
     (λ c κs. search needs)
     (λ c. search needs)
-    (λ c. search (stored, step-number, needs)))
+    returns)
