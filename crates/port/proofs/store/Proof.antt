@@ -4,6 +4,10 @@ use borrow.Author.Needs.{needs}
 use Rattle.port.proofs.store.Statement.{statement}
 use Rattle.port.proofs.store.Tie as tie
 
+returns-2 : tie.Need-returns-2
+unfolding storedOf
+returns-2 c = search (choice, needs)
+
 pub store-spec : {M : Type 1} → statement M
 store-spec =
     tie.close
@@ -14,4 +18,4 @@ store-spec =
     (λ c κs. search needs)
     (λ c κs. search needs)
     (λ c. search needs)
-    (λ c. unfold storedOf in search (choice, needs)))
+    returns-2)
