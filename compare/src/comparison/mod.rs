@@ -46,7 +46,6 @@ pub struct Comparison {
     inputs: BTreeMap<&'static str, u64>,
     numbers: BTreeMap<&'static str, [u64; 12]>,
     differences: u64,
-    first: Option<String>,
     /// the one that takes least room to print
     shortest: Option<String>,
 }
@@ -59,7 +58,6 @@ impl Comparison {
             inputs: BTreeMap::new(),
             numbers: BTreeMap::new(),
             differences: 0,
-            first: None,
             shortest: None,
         }
     }
@@ -75,16 +73,30 @@ impl Comparison {
 
     pub fn differ(&mut self, function: &str, other: &str, what: impl FnOnce() -> String) {
         self.differences += 1;
-        let text = format!("{function}: judge and {other} differ\n{}", what());
-        if self.first.is_none() {
-            self.first = Some(text.clone());
-        }
-        if self
-            .shortest
-            .as_ref()
-            .is_none_or(|least| text.len() < least.len())
-        {
+        self.keep_shorter(format!("{function}: judge and {other} differ\n{}", what()));
+    }
+
+    fn keep_shorter(&mut self, text: String) {
+        let least = self.shortest.as_ref();
+        if least.is_none_or(|least| (text.len(), &text) < (least.len(), least)) {
             self.shortest = Some(text);
+        }
+    }
+
+    /// Takes over what another has counted and found.
+    pub fn join(&mut self, other: Comparison) {
+        for (kind, count) in other.inputs {
+            *self.inputs.entry(kind).or_default() += count;
+        }
+        for (function, counts) in other.numbers {
+            let sums = self.numbers.entry(function).or_default();
+            for (sum, count) in sums.iter_mut().zip(counts) {
+                *sum += count;
+            }
+        }
+        self.differences += other.differences;
+        if let Some(text) = other.shortest {
+            self.keep_shorter(text);
         }
     }
 
@@ -112,11 +124,8 @@ impl Comparison {
         for (function, number) in self.unseen() {
             println!("never seen: {function} {number}");
         }
-        if let Some(first) = &self.first {
-            println!("first difference, {first}");
-        }
-        if self.shortest != self.first {
-            println!("shortest, {}", self.shortest.as_deref().unwrap_or_default());
+        if let Some(shortest) = &self.shortest {
+            println!("shortest difference, {shortest}");
         }
         println!("differences {}", self.differences);
         self.differences == 0 && self.unseen().is_empty()

@@ -84,20 +84,33 @@ fn on_plain(
     }
 }
 
-/// A relation of any file into memory with and without room; an accepted graph on both engines.
-pub fn on_graph_file(comparison: &mut Comparison, prng: &mut Prng, file: &[u8], trace: &[u8]) {
+/// A relation of any file into memory with and without room; a trace on both engines.
+pub fn on_graph_file(comparison: &mut Comparison, prng: &mut Prng, file: &[u8], trace: Vec<u8>) {
     let kind = prng.one_of(&plain::KINDS);
     let (result, _) = comparison.fill(file, kind, MOST_PAIRS);
     let room = plain::room(prng, (result / 256) as usize);
     comparison.fill(file, kind, room);
-    if judge::graph_file::read(file).is_err() || !prng.percent(30) {
+    if judge::graph_file::read(file).is_ok() {
+        on_traces(comparison, prng, file, &[trace]);
+    }
+}
+
+/// Every fifth accepted file on both engines. Recorded traces go far; with a change they go
+/// wrong late.
+pub fn on_traces(comparison: &mut Comparison, prng: &mut Prng, file: &[u8], traces: &[Vec<u8>]) {
+    if !prng.percent(20) {
         return;
     }
     let mut graph = comparison.lists_of(file);
     if prng.percent(50) {
         plain::reordered(prng, &mut graph);
     }
-    let marking = plain::marking(prng, plain::events_of(&graph));
-    let activity = graphs::activity(prng, file[3]);
-    comparison.on_both(file, &graph, trace, &marking, activity);
+    for trace in traces.iter().take(2) {
+        let changed = graphs::changed_trace(prng, trace, file[3]);
+        for trace in [trace, &changed] {
+            let marking = plain::marking(prng, plain::events_of(&graph));
+            let activity = graphs::activity(prng, file[3]);
+            comparison.on_both(file, &graph, trace, &marking, activity);
+        }
+    }
 }

@@ -70,6 +70,7 @@ fn on_log(comparison: &mut Comparison, prng: &mut Prng, kind: &'static str, log:
         let changed = graphs::changed_trace(prng, trace, sound.a);
         comparison.replay(&file, &changed);
     }
+    plain_rounds::on_traces(comparison, prng, &file, &sound.traces);
     on_graph_file(comparison, prng, "graph: mined", &file);
 }
 
@@ -116,7 +117,7 @@ fn on_graph_file(comparison: &mut Comparison, prng: &mut Prng, kind: &'static st
     let mut marking = graphs::marking_bytes(&graphs::any_marking(prng, events)).to_vec();
     marking.resize(prng.one_of(&[0, 8, 23, 25, 40]), 0);
     comparison.step(file, &marking, graphs::activity(prng, a));
-    plain_rounds::on_graph_file(comparison, prng, file, &trace);
+    plain_rounds::on_graph_file(comparison, prng, file, trace);
 }
 
 fn on_random_graph(comparison: &mut Comparison, prng: &mut Prng) {
