@@ -6,14 +6,14 @@
 -- 2. `same-..`: both engines name the same blocker, for a graph and lists that hold its pairs. PlainEngine's theorems of these names say more:
 --    the whole answer is the same.
 -- 3. That ⟨2⟩ on G gives 10 at place 0, blocked by 0, stands in the table of cases (rules/proofs/Cases).
-use mathlib.Core.Path.{_≡_, refl, sym, ap, subst, _∙_}
+use mathlib.Core.Path.{_≡_, refl, sym, ap, subst}
 use mathlib.Core.Bool.{Bool, true, false}
 use mathlib.Core.List.{List}
 use Prim.Native.Nat.{ℕ, _<_}
-use lib.Dec.{T, eqb, ltb}
+use lib.Dec.{eqb, ltb}
 use lib.ListN.{length, getD}
 use Rattle.sets.specs.Sizes.{mostActivities, longestTrace}
-use Rattle.sets.specs.Tests.{_and_, non, when_then_else_}
+use Rattle.sets.specs.Tests.{non, when_then_else_}
 use Rattle.sets.specs.Members.{width, mem}
 use Rattle.sets.specs.Answers.{numberOf, blockerOf, isDone, thenAsk}
 use Rattle.sets.specs.declared.activity.Activity.{Activity}
