@@ -92,6 +92,18 @@ static uint64_t call(int function, size_t n, size_t m, size_t room, uint8_t acti
     }
 }
 
+/* As the header reads it: a step and a replay name a blocker beside 10, and beside no other number; nothing else has those bits. */
+static int blocker_in_place(int function, uint64_t given) {
+    int waits = skelfora_number(given) == SKELFORA_WAITING;
+    switch (function) {
+    case REPLAY:
+    case STEP:
+    case PLAIN_STEP:
+    case PLAIN_REPLAY: return waits == (skelfora_blocker(given) != SKELFORA_NO_BLOCKER);
+    default: return skelfora_blocker(given) == 0;
+    }
+}
+
 /* What the comparison with the judge does not try: a listing's buffer that is too short gets 7 and stays as it was. */
 static int short_buffers(void) {
     memset(lent, UNTOUCHED, ROOM);
@@ -117,7 +129,7 @@ int main(void) {
         uint64_t given = call(function, n, m, room, activity);
         calls[function]++;
         all++;
-        if (given != wanted || hash(lent, room) != after || touched(lent + room)) different++;
+        if (given != wanted || hash(lent, room) != after || touched(lent + room) || !blocker_in_place(function, given)) different++;
     }
     if (function != END || number(8) != all) {
         printf("the record is not whole\n");

@@ -8,6 +8,10 @@ use compare::value::{GraphValue, PlainGraph};
 /// Where accepting.
 const YES: u64 = 1 << 32;
 
+/// A blocker of 0, and no blocker, above the rest of the number.
+const BY_0: u64 = 0;
+const BY_NONE: u64 = 255 << 40;
+
 fn pair(source: u16, target: u16) -> u16 {
     256 * source + target
 }
@@ -48,18 +52,18 @@ fn step(door: &Door, graph: &PlainGraph, marking: &[u8], activity: u8) -> (u64, 
     (number, lent)
 }
 
-/// 01, "Calls to try": number, place, accepting.
+/// 01, "Calls to try": number, place, accepting, and 02's blocker.
 #[test]
 fn traces_on_g() {
     let cases: [(&[u8], u64); 8] = [
-        (&[], YES),
-        (&[0], 256),
-        (&[2], 10),
-        (&[0, 0], 9 + 256),
-        (&[0, 2, 1], 9 + 512),
-        (&[3], 8),
-        (&[255], 8),
-        (&[0, 1, 2], 3 * 256 + YES),
+        (&[], YES + BY_NONE),
+        (&[0], 256 + BY_NONE),
+        (&[2], 10 + BY_0),
+        (&[0, 0], 9 + 256 + BY_NONE),
+        (&[0, 2, 1], 9 + 512 + BY_NONE),
+        (&[3], 8 + BY_NONE),
+        (&[255], 8 + BY_NONE),
+        (&[0, 1, 2], 3 * 256 + YES + BY_NONE),
     ];
     for door in doors() {
         for graph in [g(), g_doubled()] {
@@ -81,7 +85,7 @@ fn table_3() {
     let from = low_sets(&[1, 2 + 16, 2 + 16 + 128]);
     let then = low_sets(&[1 + 16, 2 + 4, 2 + 4 + 16]);
     for door in doors() {
-        assert_eq!(step(&door, &graph, &from, 4), (0, then.clone()));
+        assert_eq!(step(&door, &graph, &from, 4), (BY_NONE, then.clone()));
         assert_eq!((door.plain_accepting)(&graph, &from), 0);
         // 2 and 5 pending, 1 included: a pending step that is shut out does not matter
         let shut_out = low_sets(&[0, 4 + 32, 2]);
@@ -103,7 +107,7 @@ fn lose_then_gain() {
     };
     for door in doors() {
         let given = step(&door, &graph, &low_sets(&[0, 1, 3]), 0);
-        assert_eq!(given, (0, low_sets(&[1, 1, 2])), "{}", door.name);
+        assert_eq!(given, (BY_NONE, low_sets(&[1, 1, 2])), "{}", door.name);
     }
 }
 
@@ -115,20 +119,50 @@ fn a_condition_counts_while_its_source_is_in() {
         lists: [vec![pair(0, 1)], vec![], vec![], vec![]],
     };
     let cases = [
-        (low_sets(&[0, 0, 3]), 1, 10),
-        (low_sets(&[1, 0, 3]), 1, 0),
-        (low_sets(&[0, 0, 2]), 1, 0),
-        (low_sets(&[0, 0, 3]), 0, 0),
-        (low_sets(&[0, 0, 1]), 1, 9),
-        (low_sets(&[0, 0, 3]), 2, 8),
-        (low_sets(&[0, 0, 3]), 64, 8),
-        (low_sets(&[0, 0, 3]), 255, 8),
+        (low_sets(&[0, 0, 3]), 1, 10 + BY_0),
+        (low_sets(&[1, 0, 3]), 1, BY_NONE),
+        (low_sets(&[0, 0, 2]), 1, BY_NONE),
+        (low_sets(&[0, 0, 3]), 0, BY_NONE),
+        (low_sets(&[0, 0, 1]), 1, 9 + BY_NONE),
+        (low_sets(&[0, 0, 3]), 2, 8 + BY_NONE),
+        (low_sets(&[0, 0, 3]), 64, 8 + BY_NONE),
+        (low_sets(&[0, 0, 3]), 255, 8 + BY_NONE),
     ];
     for door in doors() {
         for (marking, activity, wanted) in &cases {
             let (number, lent) = step(&door, &graph, marking, *activity);
             assert_eq!(number, *wanted, "{} {marking:?} {activity}", door.name);
-            assert!(number == 0 || lent == *marking, "{}", door.name);
+            assert!(number == BY_NONE || lent == *marking, "{}", door.name);
+        }
+    }
+}
+
+/// 02, 2/12: conditions 4, 0 and 2 to 3, in this order. The smallest that is included and not
+/// executed, wherever its pair stands.
+#[test]
+fn the_smallest_blocks() {
+    let graph = PlainGraph {
+        head: [vec![5], low_sets(&[31, 0, 0, 31])].concat(),
+        lists: [
+            vec![pair(4, 3), pair(0, 3), pair(2, 3)],
+            vec![],
+            vec![],
+            vec![],
+        ],
+    };
+    let cases = [
+        (low_sets(&[0, 0, 31]), 10 + BY_0),
+        (low_sets(&[1, 0, 31]), 10 + (2 << 40)),
+        (low_sets(&[0, 0, 30]), 10 + (2 << 40)),
+        (low_sets(&[1, 0, 27]), 10 + (4 << 40)),
+        (low_sets(&[21, 0, 31]), BY_NONE),
+        (low_sets(&[0, 0, 10]), BY_NONE),
+        (low_sets(&[0, 0, 23]), 9 + BY_NONE),
+    ];
+    for door in doors() {
+        for (marking, wanted) in &cases {
+            let (given, _) = step(&door, &graph, marking, 3);
+            assert_eq!(given, *wanted, "{} {marking:?}", door.name);
         }
     }
 }
@@ -166,7 +200,7 @@ fn refusals_in_order() {
     for door in doors() {
         for (graph, marking, wanted) in cases {
             let given = step(&door, graph, marking, 200);
-            assert_eq!(given, (wanted, marking.to_vec()), "{}", door.name);
+            assert_eq!(given, (wanted + BY_NONE, marking.to_vec()));
             let verdict = (door.plain_accepting)(graph, marking);
             let done = if wanted == 8 { YES } else { wanted };
             assert_eq!(verdict, done, "{}", door.name);
@@ -182,17 +216,20 @@ fn a_trace_too_long() {
         ..PlainGraph::default()
     };
     for door in doors() {
-        assert_eq!((door.plain_replay)(&graph, &[0; 512]), 512 * 256 + YES);
-        assert_eq!((door.plain_replay)(&graph, &[0; 513]), 3);
+        assert_eq!(
+            (door.plain_replay)(&graph, &[0; 512]),
+            512 * 256 + YES + BY_NONE
+        );
+        assert_eq!((door.plain_replay)(&graph, &[0; 513]), 3 + BY_NONE);
     }
     graph.lists[1].push(65535);
     for door in doors() {
-        assert_eq!((door.plain_replay)(&graph, &[0; 512]), 5);
-        assert_eq!((door.plain_replay)(&graph, &[0; 513]), 3);
+        assert_eq!((door.plain_replay)(&graph, &[0; 512]), 5 + BY_NONE);
+        assert_eq!((door.plain_replay)(&graph, &[0; 513]), 3 + BY_NONE);
     }
     graph.head.pop();
     for door in doors() {
-        assert_eq!((door.plain_replay)(&graph, &[0; 513]), 7);
+        assert_eq!((door.plain_replay)(&graph, &[0; 513]), 7 + BY_NONE);
     }
 }
 

@@ -4,8 +4,8 @@ use super::graph::Graph;
 use super::graph_file::{self, read_marking, set_bytes};
 use super::listing::listing as list;
 use super::{log, miner, plain};
-use crate::door::{filled, replayed, written, Door};
-use crate::value::PlainGraph;
+use crate::door::{filled, replayed, stepped, verdict, written, Door};
+use crate::value::{Answer, PlainGraph};
 
 pub const DOOR: Door = Door {
     name: "judge",
@@ -40,24 +40,20 @@ fn rewrite(file: &[u8], out: &mut [u8]) -> u64 {
 }
 
 fn step(file: &[u8], lent: &mut [u8], activity: u8) -> u64 {
-    step_on(graph_file::read(file), lent, activity)
+    stepped(step_on(graph_file::read(file), lent, activity))
 }
 
 fn plain_step(graph: &PlainGraph, lent: &mut [u8], activity: u8) -> u64 {
-    step_on(plain::read(graph, 0), lent, activity)
+    stepped(step_on(plain::read(graph, 0), lent, activity))
 }
 
 fn plain_accepting(graph: &PlainGraph, marking: &[u8]) -> u64 {
-    let verdict = plain::read(graph, 0).and_then(|graph| {
+    verdict(plain::read(graph, 0).and_then(|graph| {
         if marking.len() < 24 {
             return Err(7);
         }
         accepting(&graph, &read_marking(marking))
-    });
-    match verdict {
-        Err(number) => replayed(number, 0, false),
-        Ok(accepting) => replayed(0, 0, accepting),
-    }
+    }))
 }
 
 fn plain_replay(graph: &PlainGraph, trace: &[u8]) -> u64 {
@@ -77,26 +73,21 @@ fn replay_on(graph: Result<Graph, u8>, trace: &[u8]) -> u64 {
         Err(number) => replayed(number, 0, false),
         Ok(graph) => {
             let done = replay_graph(&graph, trace);
-            replayed(done.number, done.place, done.accepting)
+            replayed(done.answer, done.place, done.accepting)
         }
     }
 }
 
 /// The graph's refusals come before those of what was lent.
-fn step_on(graph: Result<Graph, u8>, lent: &mut [u8], activity: u8) -> u64 {
-    let graph = match graph {
-        Err(number) => return u64::from(number),
-        Ok(graph) => graph,
-    };
+fn step_on(graph: Result<Graph, u8>, lent: &mut [u8], activity: u8) -> Result<(), Answer> {
+    let graph = graph?;
     if lent.len() < 24 {
-        return 7;
+        return Err(7.into());
     }
     let mut marking = read_marking(lent);
-    if let Err(number) = execute(&graph, &mut marking, activity) {
-        return u64::from(number);
-    }
+    execute(&graph, &mut marking, activity)?;
     lent[0..8].copy_from_slice(&set_bytes(&marking.executed));
     lent[8..16].copy_from_slice(&set_bytes(&marking.pending));
     lent[16..24].copy_from_slice(&set_bytes(&marking.included));
-    0
+    Ok(())
 }

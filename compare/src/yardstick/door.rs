@@ -1,8 +1,8 @@
 //! The yardstick behind the nine functions of `port`.
 use super::graph_file::{marking_at, read_into, write_judged};
 use super::{engine, listing as lister, log, miner, plain};
-use crate::door::{filled, replayed, written, Door};
-use crate::value::{GraphValue, MarkingValue, PlainGraph};
+use crate::door::{filled, replayed, stepped, verdict, written, Door};
+use crate::value::{Answer, GraphValue, MarkingValue, PlainGraph};
 
 pub const DOOR: Door = Door {
     name: "yardstick",
@@ -35,7 +35,7 @@ fn replay(file: &[u8], trace: &[u8]) -> u64 {
         return replayed(3, 0, false);
     }
     let done = engine::replay_judged(&graph, trace);
-    replayed(done.number, done.place, done.accepting)
+    replayed(done.answer, done.place, done.accepting)
 }
 
 fn rewrite(file: &[u8], out: &mut [u8]) -> u64 {
@@ -46,8 +46,8 @@ fn rewrite(file: &[u8], out: &mut [u8]) -> u64 {
 fn step(file: &[u8], lent: &mut [u8], activity: u8) -> u64 {
     let mut graph = GraphValue::EMPTY;
     match read_into(file, &mut graph) {
-        Err(number) => u64::from(number),
-        Ok(()) => step_judged(&graph, lent, activity),
+        Err(number) => stepped(Err(number.into())),
+        Ok(()) => stepped(step_judged(&graph, lent, activity)),
     }
 }
 
@@ -63,29 +63,24 @@ fn lent_marking(graph: &GraphValue, lent: &[u8]) -> Result<MarkingValue, u8> {
     Ok(m)
 }
 
-fn step_judged(graph: &GraphValue, lent: &mut [u8], activity: u8) -> u64 {
-    let m = match lent_marking(graph, lent).and_then(|m| engine::step(graph, m, activity)) {
-        Err(number) => return u64::from(number),
-        Ok(after) => after,
-    };
+fn step_judged(graph: &GraphValue, lent: &mut [u8], activity: u8) -> Result<(), Answer> {
+    let m = engine::step(graph, lent_marking(graph, lent)?, activity)?;
     lent[..8].copy_from_slice(&m.executed.to_le_bytes());
     lent[8..16].copy_from_slice(&m.pending.to_le_bytes());
     lent[16..24].copy_from_slice(&m.included.to_le_bytes());
-    0
+    Ok(())
 }
 
 fn plain_step(graph: &PlainGraph, lent: &mut [u8], activity: u8) -> u64 {
     match plain::read(graph, 0) {
-        Err(number) => u64::from(number),
-        Ok(graph) => step_judged(&graph, lent, activity),
+        Err(number) => stepped(Err(number.into())),
+        Ok(graph) => stepped(step_judged(&graph, lent, activity)),
     }
 }
 
 fn plain_accepting(graph: &PlainGraph, marking: &[u8]) -> u64 {
-    match plain::read(graph, 0).and_then(|graph| lent_marking(&graph, marking)) {
-        Err(number) => replayed(number, 0, false),
-        Ok(m) => replayed(0, 0, m.pending & m.included == 0),
-    }
+    let lent = plain::read(graph, 0).and_then(|graph| lent_marking(&graph, marking));
+    verdict(lent.map(|m| m.pending & m.included == 0))
 }
 
 fn plain_replay(graph: &PlainGraph, trace: &[u8]) -> u64 {
@@ -93,7 +88,7 @@ fn plain_replay(graph: &PlainGraph, trace: &[u8]) -> u64 {
         Err(number) => replayed(number, 0, false),
         Ok(graph) => {
             let done = engine::replay_judged(&graph, trace);
-            replayed(done.number, done.place, done.accepting)
+            replayed(done.answer, done.place, done.accepting)
         }
     }
 }

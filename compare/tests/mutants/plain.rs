@@ -2,7 +2,7 @@
 //! judge another graph than they were handed.
 use super::engine::{right, Execute, MUTANTS};
 use super::{all_found, SEEDS};
-use compare::door::{Door, MOST_PAIRS};
+use compare::door::{self, Door, MOST_PAIRS};
 use compare::judge::door::DOOR as JUDGE;
 use compare::judge::graph_file::read_marking;
 use compare::judge::plain::read;
@@ -11,7 +11,7 @@ use compare::value::PlainGraph;
 use std::collections::BTreeSet;
 
 /// Another graph in the place of this one, or a number straight away.
-type Reading = fn(&PlainGraph) -> Result<PlainGraph, u64>;
+type Reading = fn(&PlainGraph) -> Result<PlainGraph, u8>;
 
 /// The seeded inputs of the comparison: sound, then damaged graphs, with the borders first.
 fn graphs_of(seed: u64) -> Vec<PlainGraph> {
@@ -38,14 +38,17 @@ fn told_apart(prng: &mut Prng, graph: &PlainGraph, mutant: Reading) -> bool {
         let wanted = (JUDGE.plain_step)(graph, &mut lent[0], activity);
         let given = match mutant(graph) {
             Ok(other) => (JUDGE.plain_step)(&other, &mut lent[1], activity),
-            Err(number) => number,
+            Err(number) => door::stepped(Err(number.into())),
         };
         if wanted != given || lent[0] != lent[1] {
             return true;
         }
     }
     let trace = graphs::trace(prng, a);
-    let given = mutant(graph).map_or_else(|number| number, |g| (JUDGE.plain_replay)(&g, &trace));
+    let given = match mutant(graph) {
+        Ok(other) => (JUDGE.plain_replay)(&other, &trace),
+        Err(number) => door::replayed(number, 0, false),
+    };
     given != (JUDGE.plain_replay)(graph, &trace)
 }
 
@@ -145,7 +148,7 @@ const LIMITS: [(&str, Reading); 8] = [
 fn found_by_the_borders() {
     let found = |mutant: Reading| {
         let differs = |g: &PlainGraph| {
-            let given = mutant(g).map_or_else(|number| number, |g| number_of(&g));
+            let given = mutant(g).map_or_else(u64::from, |g| number_of(&g));
             given != number_of(g)
         };
         let place = plain::borders().iter().position(|(_, g)| differs(g));
@@ -163,7 +166,7 @@ fn number_of(graph: &PlainGraph) -> u64 {
     (JUDGE.plain_accepting)(graph, &[0; 24]) % 256
 }
 
-fn lists(graph: &PlainGraph, change: fn(&[u16]) -> Vec<u16>) -> Result<PlainGraph, u64> {
+fn lists(graph: &PlainGraph, change: fn(&[u16]) -> Vec<u16>) -> Result<PlainGraph, u8> {
     let mut other = graph.clone();
     other.lists = other.lists.map(|list| change(&list));
     Ok(other)
@@ -218,7 +221,7 @@ fn within(events: u64, pair: u16) -> bool {
 }
 
 /// A pair outside the events that passes has no effect.
-fn judged_without(graph: &PlainGraph, passes: fn(u64, [u8; 2]) -> bool) -> Result<PlainGraph, u64> {
+fn judged_without(graph: &PlainGraph, passes: fn(u64, [u8; 2]) -> bool) -> Result<PlainGraph, u8> {
     let events = plain::events_of(graph);
     let mut other = graph.clone();
     if other.lists.iter().all(|list| list.len() <= MOST_PAIRS) {
@@ -229,7 +232,7 @@ fn judged_without(graph: &PlainGraph, passes: fn(u64, [u8; 2]) -> bool) -> Resul
     Ok(other)
 }
 
-fn five_first(graph: &PlainGraph) -> Result<PlainGraph, u64> {
+fn five_first(graph: &PlainGraph) -> Result<PlainGraph, u8> {
     let events = plain::events_of(graph);
     let stray = |list: &Vec<u16>| list.iter().any(|&pair| !within(events, pair));
     if graph.head.len() >= 33 && graph.lists.iter().any(stray) {
@@ -238,7 +241,7 @@ fn five_first(graph: &PlainGraph) -> Result<PlainGraph, u64> {
     Ok(graph.clone())
 }
 
-fn limited(graph: &PlainGraph, limit: usize) -> Result<PlainGraph, u64> {
+fn limited(graph: &PlainGraph, limit: usize) -> Result<PlainGraph, u8> {
     if graph.head.len() >= 33 && graph.lists.iter().any(|list| list.len() > limit) {
         return Err(3);
     }
@@ -246,14 +249,14 @@ fn limited(graph: &PlainGraph, limit: usize) -> Result<PlainGraph, u64> {
 }
 
 /// All other lists may be as long as they like.
-fn limit_on(graph: &PlainGraph, kind: usize) -> Result<PlainGraph, u64> {
+fn limit_on(graph: &PlainGraph, kind: usize) -> Result<PlainGraph, u8> {
     let mut other = lists(graph, once_each)?;
     other.lists[kind] = graph.lists[kind].clone();
     Ok(other)
 }
 
 /// What is outside the events is not marked.
-fn opening_passes(graph: &PlainGraph) -> Result<PlainGraph, u64> {
+fn opening_passes(graph: &PlainGraph) -> Result<PlainGraph, u8> {
     let mut other = graph.clone();
     if other.head.len() >= 33 {
         for place in 9..33 {
@@ -263,7 +266,7 @@ fn opening_passes(graph: &PlainGraph) -> Result<PlainGraph, u64> {
     Ok(other)
 }
 
-fn short_head(graph: &PlainGraph) -> Result<PlainGraph, u64> {
+fn short_head(graph: &PlainGraph) -> Result<PlainGraph, u8> {
     let mut other = graph.clone();
     if other.head.len() == 32 {
         other.head.push(0);

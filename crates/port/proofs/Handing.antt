@@ -20,7 +20,7 @@ use Rattle.plain.specs.Graphs.{plainOf, plainJudgedFor}
 use Rattle.plain.specs.Results.{plainSteppedOf, plainAcceptingOf, plainReplayOf}
 use Rattle.plain.specs.Filling.{relationAt, filledOf, memoryAfter}
 use Rattle.plain.specs.declared.fill.Filled.{Filled}
-use Rattle.port.specs.Port.{packedOf, verdictOf, refusedStep}
+use Rattle.port.specs.Port.{packedOf, verdictOf, blockedOf, refusedStep}
 use Rattle.port.specs.Classroom.{handed, fillNumber, fillMemory}
 
 -- ---- x is the answer that the definition has, a the one that the code was given
@@ -57,13 +57,13 @@ module _ (head : List ℕ) (h : Head) (e : h ≡ headFrom head) (c r i x : List 
         (q ∙ ap₂ (λ (y : Head) (z : Marking). plainAcceptingOf (plainOf y c r i x) z) e k)
 
   pub handed-replay : (trace : List ℕ) (v : Replayed) (n : ℕ) → v ≡ plainReplayOf (plainOf h c r i x) trace
-      → n ≡ verdictOf (v .answer) (v .place .0) (v .accepting)
+      → n ≡ blockedOf (v .answer) (v .place .0) (v .accepting)
       → n
-      ≡ verdictOf (plainReplayOf (handed head c r i x) trace .answer) (plainReplayOf (handed head c r i x) trace .place .0)
+      ≡ blockedOf (plainReplayOf (handed head c r i x) trace .answer) (plainReplayOf (handed head c r i x) trace .place .0)
       (plainReplayOf (handed head c r i x) trace .accepting)
   handed-replay trace v n q p =
       p
-      ∙ ap (λ (y : Replayed). verdictOf (y .answer) (y .place .0) (y .accepting))
+      ∙ ap (λ (y : Replayed). blockedOf (y .answer) (y .place .0) (y .accepting))
       (q ∙ ap (λ (y : Head). plainReplayOf (plainOf y c r i x) trace) e)
 
 pub ruleset handing = (refused-step, refused-number, went-on, handed-judged, handed-stepped, handed-accepting, handed-replay)

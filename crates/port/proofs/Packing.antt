@@ -8,7 +8,7 @@ use borrow.Author.Tests.{not-true, not-false, lt-ltb, le-ltb}
 use lib.Dec.{ltb}
 use lib.ListN.{length}
 use Rattle.sets.specs.Tests.{non, when_then_else_}
-use Rattle.sets.specs.Answers.{numberOf, isDone}
+use Rattle.sets.specs.Answers.{numberOf, blockerOf, isDone}
 use Rattle.sets.specs.declared.answer.Answer.{Answer}
 use Rattle.sets.specs.declared.answer.Answer.the-variants.{Done, AboveLimit, BufferTooSmall}
 use Rattle.sets.specs.Sizes.{longestTrace}
@@ -31,7 +31,7 @@ use Rattle.graphfile.specs.declared.writer.Written.{Written}
 use Rattle.graphfile.specs.Markings.{markingFrom, markingInto}
 use Rattle.miner.specs.declared.mining.Mined.{Mined}
 use Rattle.report.specs.declared.writer.Listed.{Listed}
-use Rattle.port.specs.Port.{packedOf, verdictOf, storedOf, putNumber, putBuffer, replayNumber, refusedStep, stepOf, stepBytes}
+use Rattle.port.specs.Port.{packedOf, verdictOf, blockedOf, stepNumber, storedOf, putNumber, putBuffer, replayNumber, refusedStep, stepOf, stepBytes}
 
 pub packed-is : (a : Answer) (n low : ℕ) → low ≡ numberOf a → low + 256 * (n % 16777216) ≡ packedOf a n
 unfolding packedOf
@@ -51,6 +51,10 @@ module _ (a : Answer) (n low : ℕ) (t : Bool) (e : low ≡ packedOf a n) where
   pub verdict-no : t ≡ false → low ≡ verdictOf a n t
   unfolding verdictOf
   verdict-no y = let same : low ≡ low + 0 = omega arith in same ∙ ap₂ (λ (x : ℕ) (b : Bool). x + (when b then 2 ^ 32 else 0)) e (sym y)
+
+pub blocked-is : (a : Answer) (n low b : ℕ) (t : Bool) → low ≡ verdictOf a n t → b ≡ blockerOf a → low + 1099511627776 * b ≡ blockedOf a n t
+unfolding blockedOf
+blocked-is a n low b t e h = ap₂ (λ (x y : ℕ). x + 1099511627776 * y) e h
 
 -- ---- a graph written
 
@@ -115,28 +119,28 @@ module _ (file trace : List ℕ) (r : Reading) (hr : r ≡ readOf file) (d : Boo
   abbrev shown : Bool → ℕ
   shown t =
       when t then
-      packedOf (replayOf (readOf file .graph) trace .answer) (replayOf (readOf file .graph) trace .place .0)
-      + (when replayOf (readOf file .graph) trace .accepting then 2 ^ 32 else 0)
-      else packedOf (readOf file .answer) 0
+      blockedOf (replayOf (readOf file .graph) trace .answer) (replayOf (readOf file .graph) trace .place .0)
+      (replayOf (readOf file .graph) trace .accepting)
+      else blockedOf (readOf file .answer) 0 false
 
-  pub replay-refused : (n : ℕ) → not d ≡ true → n ≡ packedOf (r .answer) 0 → n ≡ replayNumber file trace
+  pub replay-refused : (n : ℕ) → not d ≡ true → n ≡ blockedOf (r .answer) 0 false → n ≡ replayNumber file trace
   unfolding replayNumber
-  replay-refused n h e = e ∙ ap (λ (x : Reading). packedOf (x .answer) 0) hr ∙ sym (ap shown (file-done false (not-true d h)))
+  replay-refused n h e = e ∙ ap (λ (x : Reading). blockedOf (x .answer) 0 false) hr ∙ sym (ap shown (file-done false (not-true d h)))
 
   abbrev said : Replayed → ℕ
-  said x = verdictOf (x .answer) (x .place .0) (x .accepting)
+  said x = blockedOf (x .answer) (x .place .0) (x .accepting)
 
-  pub replay-too-long : (n : ℕ) → not d ≡ false → longestTrace < length trace → n ≡ packedOf AboveLimit 0 → n ≡ replayNumber file trace
-  unfolding replayNumber verdictOf
+  pub replay-too-long : (n : ℕ) → not d ≡ false → longestTrace < length trace → n ≡ blockedOf AboveLimit 0 false → n ≡ replayNumber file trace
+  unfolding replayNumber
   replay-too-long n h l e =
-      verdict-no AboveLimit 0 n false e refl
+      e
       ∙ ap said (sym (replay-long (readOf file .graph) trace l))
       ∙ sym (ap shown (file-done true (not-false d h)))
 
   pub replay-run : (n : ℕ) → not d ≡ false → Bytes file → length trace ≤ longestTrace → (p : Replayed)
       → p ≡ replayFrom (r .graph .head .events) (relationsOf (r .graph)) (r .graph .head .opening) 0 trace
       → n ≡ said p → n ≡ replayNumber file trace
-  unfolding replayNumber verdictOf
+  unfolding replayNumber
   replay-run n h small l p hp e =
       e
       ∙ ap said (hp ∙ sym (replay-judged (r .graph) (read-judged file r d small hr hd h) trace l))
@@ -186,7 +190,7 @@ module _ (s x : Stepped) (hs : s ≡ x) where
   pub stored : (bytes bytes′ : List ℕ) → bytes′ ≡ storedOf s bytes → bytes′ ≡ storedOf x bytes
   stored bytes bytes′ e = e ∙ ap (λ (y : Stepped). storedOf y bytes) hs
 
-  pub step-number : (n : ℕ) → n ≡ numberOf (s .answer) → n ≡ numberOf (x .answer)
-  step-number n e = e ∙ ap (λ (y : Stepped). numberOf (y .answer)) hs
+  pub step-number : (n : ℕ) → n ≡ stepNumber s → n ≡ stepNumber x
+  step-number n e = e ∙ ap stepNumber hs
 
 pub ruleset stepping = (step-short, step-refused, step-taken, step-stored, step-number)

@@ -1,4 +1,5 @@
 -- The plain engine's functions: the head of a graph comes as bytes, its relations as four lists of pairs (02, 1/12).
+use mathlib.Core.Bool.{false}
 use mathlib.Core.List.{List}
 use Prim.Native.Nat.{ℕ}
 use lib.Dec.{ltb}
@@ -14,7 +15,7 @@ use Rattle.graphfile.specs.Markings.{markingFrom}
 use Rattle.plain.specs.Graphs.{PlainGraph, plainOf, plainJudgedFor}
 use Rattle.plain.specs.Results.{plainSteppedOf, plainAcceptingOf, plainReplayOf}
 use Rattle.plain.specs.Filling.{relationAt, filledOf, memoryAfter}
-use Rattle.port.specs.Port.{packedOf, verdictOf, refusedStep, storedOf}
+use Rattle.port.specs.Port.{packedOf, verdictOf, blockedOf, refusedStep, storedOf}
 
 -- the graph that is handed over
 abbrev pub handed : List ℕ → List ℕ → List ℕ → List ℕ → List ℕ → PlainGraph
@@ -45,11 +46,11 @@ plainAcceptingNumber head c r i x marking =
     (plainAcceptingOf (handed head c r i x) (markingFrom marking) .accepting)
     else packedOf (judgedHanded head c r i x marking) 0
 
--- skelfora_plain_replay: 7 where there are too few bytes for a head, then the replay's; 2^32 more where it ends accepting
+-- skelfora_plain_replay: 7 where there are too few bytes for a head, then the replay's
 unfoldable pub plainReplayNumber : List ℕ → List ℕ → List ℕ → List ℕ → List ℕ → List ℕ → ℕ
 plainReplayNumber head c r i x trace =
-    when ltb (length head) 33 then packedOf BufferTooSmall 0
-    else verdictOf (plainReplayOf (handed head c r i x) trace .answer) (plainReplayOf (handed head c r i x) trace .place .0)
+    when ltb (length head) 33 then blockedOf BufferTooSmall 0 false
+    else blockedOf (plainReplayOf (handed head c r i x) trace .answer) (plainReplayOf (handed head c r i x) trace .place .0)
     (plainReplayOf (handed head c r i x) trace .accepting)
 
 -- skelfora_fill: the file's refusals, then 7 or how many pairs its relation of that number has

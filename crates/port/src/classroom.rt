@@ -1,10 +1,11 @@
 // The plain engine's functions (02, 1/12). The head of a graph comes as 33 bytes, A, events, executed, pending, included; its relations as
 // four lists of pairs.
 ghost use mathlib.Core.Path.{_≡_};
-ghost use Rattle.sets.specs.Answers.{numberOf};
+ghost use Rattle.port.specs.Port.{stepNumber};
 ghost use Rattle.port.specs.Classroom.{judgedHanded, plainStepOf, plainStepBytes, plainAcceptingNumber, plainReplayNumber};
 ghost use Rattle.port.specs.Classroom.{fillNumber, fillMemory};
 use crate::packed;
+use crate::packed_blocker;
 use crate::packed_verdict;
 use crate::store;
 use engine::Marking;
@@ -74,8 +75,8 @@ pub extern "C" fn skelfora_plain_step<'a, 'm>(
     marking: &'m mut [u8],
     activity: u8,
 ) -> u64
-    ensures { λ r. ⌜ r ≡ numberOf (plainStepOf (now (head .entry)) (now (conditions .entry)) (now (responses .entry))
-        (now (includes .entry)) (now (excludes .entry)) (now (marking .entry)) activity .answer) ⌝ }
+    ensures { λ r. ⌜ r ≡ stepNumber (plainStepOf (now (head .entry)) (now (conditions .entry)) (now (responses .entry))
+        (now (includes .entry)) (now (excludes .entry)) (now (marking .entry)) activity) ⌝ }
     ensures { λ _. ⌜ now (marking .exit) ≡ plainStepBytes (now (head .entry)) (now (conditions .entry)) (now (responses .entry))
         (now (includes .entry)) (now (excludes .entry)) (now (marking .entry)) activity ⌝ }
 {
@@ -115,7 +116,7 @@ pub extern "C" fn skelfora_plain_accepting<'a>(
     packed_verdict(a, 0, v.accepting)
 }
 
-// Replays a trace from the opening marking: the number, the place, and 2^32 where it ends accepting.
+// Replays a trace from the opening marking: the number, the place, 2^32 where it ends accepting, and the blocker.
 #[no_mangle]
 pub extern "C" fn skelfora_plain_replay<'a>(
     head: &'a [u8],
@@ -129,13 +130,13 @@ pub extern "C" fn skelfora_plain_replay<'a>(
         (now (includes .entry)) (now (excludes .entry)) (now (trace .entry)) ⌝ }
 {
     if head.len() < graphfile::head::LENGTH {
-        return packed(Answer::BufferTooSmall, 0);
+        return packed_blocker(Answer::BufferTooSmall, 0, false);
     }
     let h = graphfile::head::read_head(head);
     let p = plain::replay::replay(h, conditions, responses, includes, excludes, trace);
     let a = p.answer;
     let place = p.place.0;
-    packed_verdict(a, place, p.accepting)
+    packed_blocker(a, place, p.accepting)
 }
 
 // A relation of a graph file, by its number in 01's order, as pairs in lent memory: the number, and how many there are.

@@ -7,6 +7,7 @@ use mathlib.Core.Path.{_≡_, sym, ap, _∙_}
 use denote.Ref.{now}
 use Rattle.sets.specs.declared.activity.Activity.{Activity}
 use Rattle.sets.proofs.answer.Answer.number.Reads as Answer-number
+use Rattle.sets.proofs.answer.Answer.blocker.Reads as Answer-blocker
 use Rattle.sets.proofs.answer.Answer.is_done.Reads as Answer-is-done
 use Rattle.sets.proofs.set.Set.one.Reads as Set-one
 use Rattle.sets.proofs.set.Set.below.Reads as Set-below
@@ -107,6 +108,9 @@ module _ {K : Type 0} {A : K → Type 0} {R : K → Type 0} {E : K → Type 0} (
 
 pub Answer-number-once : Once Answer-number.Post
 Answer-number-once κ a r r′ s s′ h h′ = h ∙ sym h′
+
+pub Answer-blocker-once : Once Answer-blocker.Post
+Answer-blocker-once κ a r r′ s s′ h h′ = h ∙ sym h′
 
 pub Answer-is-done-once : Once Answer-is-done.Post
 Answer-is-done-once κ a r r′ s s′ h h′ = h ∙ sym h′
