@@ -8,7 +8,7 @@ int printf(const char *format, ...);
 long read(int file, void *bytes, size_t count);
 void *memset(void *bytes, int value, size_t count);
 
-enum { MINE, LISTING, REWRITE, REPLAY, STEP, FUNCTIONS, END = 255 };
+enum { MINE, LISTING, REWRITE, REPLAY, STEP, SUMMARY, FUNCTIONS, END = 255 };
 enum { ROOM = 1 << 18, PAST = 64, UNTOUCHED = 165 };
 
 static uint8_t input[ROOM], beside[ROOM], lent[ROOM + PAST];
@@ -59,10 +59,12 @@ static int touched(const uint8_t *past) {
     return 0;
 }
 
+/* `activity` is that of a step, or the number of the profile. */
 static uint64_t call(int function, size_t n, size_t m, size_t room, uint8_t activity) {
     switch (function) {
-    case MINE: return skelfora_mine(input, n, lent, room);
-    case LISTING: return skelfora_listing(input, n, lent, room);
+    case MINE: return skelfora_mine(input, n, activity, lent, room);
+    case LISTING: return skelfora_listing(input, n, activity, lent, room);
+    case SUMMARY: return skelfora_summary(input, n, activity, lent, room);
     case REWRITE: return skelfora_rewrite(input, n, lent, room);
     case REPLAY: return skelfora_replay(input, n, beside, m);
     default: return skelfora_step(input, n, lent, room, activity);
@@ -73,7 +75,7 @@ static uint64_t call(int function, size_t n, size_t m, size_t room, uint8_t acti
 static int short_buffers(void) {
     memset(lent, UNTOUCHED, ROOM);
     uint64_t before = hash(lent, ROOM);
-    int wrong = skelfora_listing(input, 0, lent, SKELFORA_LISTING_ROOM - 1) != 7;
+    int wrong = skelfora_listing(input, 0, SKELFORA_FULL, lent, SKELFORA_LISTING_ROOM - 1) != 7;
     return wrong + (hash(lent, ROOM) != before);
 }
 
@@ -101,7 +103,7 @@ int main(void) {
     }
     for (int i = 0; i < FUNCTIONS; i++) different += calls[i] == 0;
     different += short_buffers();
-    printf("mine %lu, listing %lu, rewrite %lu, replay %lu, step %lu calls; %lu different\n", calls[MINE], calls[LISTING],
-           calls[REWRITE], calls[REPLAY], calls[STEP], different);
+    printf("mine %lu, listing %lu, summary %lu, rewrite %lu, replay %lu, step %lu calls; %lu different\n", calls[MINE], calls[LISTING],
+           calls[SUMMARY], calls[REWRITE], calls[REPLAY], calls[STEP], different);
     return different != 0;
 }

@@ -1,4 +1,4 @@
-//! Calls of the five functions with the judge's results, in a file, for a caller that is
+//! Calls of the six functions with the judge's results, in a file, for a caller that is
 //! not linked here: `caller.c` makes them again.
 use std::fs::File;
 use std::io::{BufWriter, Write};
@@ -10,6 +10,7 @@ pub enum Function {
     Rewrite,
     Replay,
     Step,
+    Summary,
 }
 
 pub struct Call<'a> {
@@ -19,6 +20,7 @@ pub struct Call<'a> {
     /// the trace, or the marking before the step
     pub beside: &'a [u8],
     pub room: usize,
+    /// the activity of a step, or the number of the profile
     pub activity: u8,
     pub result: u64,
     /// what was lent, after the call

@@ -1,4 +1,4 @@
-//! The judge: document 01 written down as literally as Rust allows. Sets of numbers, sets
+//! The judge: documents 01 and 02 written down as literally as Rust allows. Sets of numbers, sets
 //! of pairs, plain loops. Clarity decides, speed does not; nothing here is shared with the
 //! yardstick.
 use std::collections::BTreeSet;
@@ -12,6 +12,7 @@ pub mod listing;
 pub mod log;
 pub mod miner;
 pub mod steps;
+pub mod summary;
 
 /// A set of activities.
 pub type Set = BTreeSet<u8>;

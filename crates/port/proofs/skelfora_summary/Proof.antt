@@ -1,0 +1,16 @@
+use borrow.Author.Needs.{needs}
+use Rattle.port.proofs.Packing.{profiles}
+use Rattle.port.proofs.skelfora_summary.Statement.{statement}
+use Rattle.port.proofs.skelfora_summary.Tie as tie
+
+pub skelfora-summary-spec : {M : Type 1} → statement M
+skelfora-summary-spec =
+    tie.close
+    (tie.spec
+    (λ c κs. search needs)
+    (λ c. search (profiles, needs))
+    (λ c κs. search needs)
+    (λ c κs. search needs)
+    (λ c κs. search needs)
+    (λ c. search needs)
+    (λ c. search (profiles, needs)))

@@ -1,0 +1,16 @@
+use borrow.Author.Needs.{needs}
+use Rattle.report.proofs.SummaryLaws.{summarizing}
+use Rattle.report.proofs.summary.write_summary.Statement.{statement}
+use Rattle.report.proofs.summary.write_summary.Tie as tie
+
+pub write-summary-spec : {M : Type 1} → statement M
+write-summary-spec =
+    tie.close
+    (tie.spec
+    (λ c κs. search needs)
+    (λ c κs. search needs)
+    (λ c. search (summarizing, needs))
+    (λ c. search (summarizing, needs))
+    (λ c κs. search (summarizing, needs))
+    (λ c. search needs)
+    (λ c. search (summarizing, needs)))
