@@ -28,9 +28,11 @@ STATUS = "exit status: 0 listed, 1 the log is refused, 2 used wrongly, 3 somethi
 
 
 def parser():
-    words = Parser(prog="./list", description=ABOUT, epilog=STATUS)
+    words = Parser(prog="./list", usage="./list [full|light] [--names FILE] [LOG]", description=ABOUT, epilog=STATUS)
     words.add_argument("--names", metavar="FILE", help="print sentences; line k of FILE, counted from 0, is the name of activity k")
-    words.add_argument("given", metavar="[full|light] [LOG]", nargs="*", help="a log (docs/FORMATS.md); - is standard input")
+    words.add_argument(
+        "given", metavar="[full|light] [LOG]", nargs="*", help="the profile, full where none is named; a log (docs/FORMATS.md), - is standard input"
+    )
     return words
 
 
@@ -40,9 +42,9 @@ def meant(words, options):
     profile = given[:1] if given and given[0] in PROFILES else []
     rest = given[len(profile) :]
     if len(rest) > 1 and not profile:
-        words.error(f"{rest[0]} is neither full nor light")
+        words.error(f"'{rest[0]}' is neither full nor light")
     if len(rest) > 1:
-        words.error(f"{rest[1]} is one log too many")
+        words.error(f"'{rest[1]}' is one log too many")
     return profile, rest[0] if rest else None
 
 
@@ -70,7 +72,8 @@ def in_words(listing, given, path, data):
 
 def main(words):
     reader = parser()
-    options = reader.parse_args(words)
+    # the option may stand between the profile and the log
+    options = reader.parse_intermixed_args(words)
     profile, log = meant(reader, options)
     if sys.stdout is None:
         raise Fault("standard output is closed")
