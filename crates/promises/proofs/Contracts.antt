@@ -33,6 +33,7 @@ use Rattle.report.specs.Summary.{summaryAnswer, summaryAfter}
 use Rattle.report.specs.Choice.{choiceOf}
 use Rattle.report.specs.declared.choice.Choice.{Choice}
 use Rattle.report.specs.declared.writer.Listed.{Listed}
+use Rattle.port.specs.Port.{inProfile, inProfileBuffer, mineNumber, mineBuffer, listingNumber, summaryNumber}
 use Rattle.sets.proofs.answer.Answer.number.Reads as number
 use Rattle.engine.proofs.step.enabled.Reads as enabled
 use Rattle.engine.proofs.step.step.Reads as step
@@ -47,6 +48,9 @@ use Rattle.miner.proofs.mining.mine.Reads as mine
 use Rattle.report.proofs.choice.choose.Reads as choose
 use Rattle.report.proofs.summary.write_summary.Reads as write-summary
 use Rattle.report.proofs.writer.write_listing.Reads as write-listing
+use Rattle.port.proofs.skelfora_mine.Reads as skelfora-mine
+use Rattle.port.proofs.skelfora_listing.Reads as skelfora-listing
+use Rattle.port.proofs.skelfora_summary.Reads as skelfora-summary
 use Rattle.promises.specs.Promised.{OwnReplayed, graphBack, fileBack, fileCopied}
 use Rattle.promises.proofs.replayed.replay_own.Reads as replay-own
 use Rattle.promises.proofs.replayed.replay_none.Reads as replay-none
@@ -143,6 +147,44 @@ module _ (bytes : List ℕ) where
         d .3 .0 ∙ (λ i. summaryAnswer (c .1 i) (length (c .2 .1 i))),
         sym (d .2) ∙ d .3 .1 ∙ (λ i. summaryAfter (c .1 i) p (c .2 .1 i)),
       )
+
+  -- the same through the port, with the profile by its number
+  module _ (n : ℕ) (before : List ℕ) (r : ℕ) (after : List ℕ) where
+    abbrev pub skelfora-mine-gives : Type 0
+    skelfora-mine-gives =
+        Holding bytes (λ log. Holding before (λ out. Leaves skelfora-mine.Post (λ κ s. now (s .1 .0)) (λ κ. (log, (n, (out, tt)))) (λ κ. r) after))
+
+    pub skelfora-mine-said : skelfora-mine-gives
+        → (r ≡ inProfile n (mineNumber bytes (length before))) × (after ≡ inProfileBuffer n (mineBuffer bytes) before)
+    skelfora-mine-said c =
+        let d = c .2 .2 in (
+          d .3 .0 ∙ (λ i. inProfile n (mineNumber (c .1 i) (length (c .2 .1 i)))),
+          sym (d .2) ∙ d .3 .1 ∙ (λ i. inProfileBuffer n (mineBuffer (c .1 i)) (c .2 .1 i)),
+        )
+
+    abbrev pub skelfora-listing-gives : Type 0
+    skelfora-listing-gives =
+        Holding bytes (λ log. Holding before (λ out. Leaves skelfora-listing.Post (λ κ s. now (s .1 .0)) (λ κ. (log, (n, (out, tt)))) (λ κ. r) after))
+
+    pub skelfora-listing-said : skelfora-listing-gives
+        → (r ≡ inProfile n (listingNumber bytes (length before))) × (after ≡ inProfileBuffer n (listingAfter bytes) before)
+    skelfora-listing-said c =
+        let d = c .2 .2 in (
+          d .3 .0 ∙ (λ i. inProfile n (listingNumber (c .1 i) (length (c .2 .1 i)))),
+          sym (d .2) ∙ d .3 .1 ∙ (λ i. inProfileBuffer n (listingAfter (c .1 i)) (c .2 .1 i)),
+        )
+
+    abbrev pub skelfora-summary-gives : Type 0
+    skelfora-summary-gives =
+        Holding bytes (λ log. Holding before (λ out. Leaves skelfora-summary.Post (λ κ s. now (s .1 .0)) (λ κ. (log, (n, (out, tt)))) (λ κ. r) after))
+
+    pub skelfora-summary-said : skelfora-summary-gives
+        → (r ≡ inProfile n (λ p. summaryNumber bytes (length before))) × (after ≡ inProfileBuffer n (summaryAfter bytes) before)
+    skelfora-summary-said c =
+        let d = c .2 .2 in (
+          d .3 .0 ∙ (λ i. inProfile n (λ p. summaryNumber (c .1 i) (length (c .2 .1 i)))),
+          sym (d .2) ∙ d .3 .1 ∙ (λ i. inProfileBuffer n (summaryAfter (c .1 i)) (c .2 .1 i)),
+        )
 
   -- what so many arguments ask for, of which the first has these bytes
   abbrev pub choose-gives : ℕ → Choice → Type 0

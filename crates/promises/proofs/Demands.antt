@@ -7,7 +7,7 @@
 -- Beside this file: Outcomes, that each public function has one outcome; StandIns and Counts, in which functions that 01 does not want are shut
 -- out; and rules/proofs/Cases, the (P) cases of 01 in one table under one theorem. The requests of 02 have a file each:
 -- PlainEngine, 1/12: the engine on lists of pairs gives what the engine on sets gives.
--- Light, 3/12: what the profiles are, what the listing program's arguments mean, what the summary counts.
+-- Light, 3/12: what the profiles are, what the listing program's arguments mean, what 12 leaves, what the summary counts.
 use mathlib.Core.Path.{_≡_, refl, sym, ap, subst, _∙_}
 use mathlib.Core.Bool.{Bool, true, false}
 use mathlib.Core.Logic.{_⊎_}

@@ -1,6 +1,6 @@
 -- THE LIGHT PROFILE (02, 3/12), as theorems about the public functions. Demands 2 and 3 are in Demands, each one theorem over the profile;
 -- the light graph of L is in the table of rules/proofs/Cases, and both listings of L are in report/proofs/Examples. Here: what the profiles
--- are, what the listing program's arguments mean, and what the summary counts. Assumes nothing.
+-- are, what the listing program's arguments mean, what 12 leaves, and what the summary counts. Assumes nothing.
 use mathlib.Core.Path.{_≡_, refl, sym, ap, ap₂, _∙_}
 use mathlib.Core.Bool.{Bool, true, false}
 use mathlib.Core.List.{List, [], _∷_, _++_}
@@ -10,7 +10,7 @@ use native.Mathlib.Omega.{arith}
 use borrow.Author.Tests.{ltb-true, lt-ltb}
 use lib.Dec.{T, eqb, ltb, eqb→eq}
 use lib.ListN.{length, length-append, getD, drop, List·getD-append}
-use lib.Seq.{getD-append-add}
+use lib.Seq.{getD-append-add, take-all}
 use Rattle.sets.specs.Tests.{_and_, non, when_then_else_}
 use Rattle.sets.specs.Members.{width, countBelow}
 use Rattle.sets.specs.Rows.{Relation, listFrom}
@@ -18,9 +18,9 @@ use Rattle.sets.specs.Files.{opensWith}
 use Rattle.sets.specs.Answers.{numberOf, isDone}
 use Rattle.sets.specs.declared.answer.Answer.{Answer}
 use Rattle.sets.specs.declared.answer.Answer.the-variants.{WrongArgument}
-use Rattle.sets.proofs.Tests.{and-l, and-r, false→F, true→T, F→false}
-use Rattle.sets.proofs.Below.{count-ext}
-use Rattle.sets.proofs.RowLaws.{length-listFrom, getD-listFrom}
+use Rattle.sets.proofs.Tests.{and-l, and-r, false→F, F→false}
+use Rattle.sets.proofs.Files.{opens-is}
+use Rattle.sets.proofs.RowLaws.{getD-listFrom}
 use Rattle.engine.specs.Relations.{Relations}
 use Rattle.calllog.specs.Logs.{logOf}
 use Rattle.rules.specs.declared.Profile.{Profile}
@@ -33,7 +33,11 @@ use Rattle.report.specs.Choice.{fullWord, lightWord, says, choiceOf}
 use Rattle.report.specs.Summary.{othersOf, countsOf, summaryOf, summaryLength, summaryAnswer, summaryAfter}
 use Rattle.report.specs.declared.choice.Choice.{Choice}
 use Rattle.report.specs.declared.choice.Choice.the-variants.{Listing, Refused}
+use Rattle.report.proofs.SummaryLaws.{length-counts}
+use Rattle.port.specs.Port.{packedOf, inProfile}
+use Rattle.port.proofs.Packing.{no-profile, no-change}
 use Rattle.promises.proofs.Contracts.{choose-gives, choose-said, write-summary-gives, write-summary-said}
+use Rattle.promises.proofs.Contracts.{skelfora-mine-gives, skelfora-mine-said, skelfora-listing-gives, skelfora-listing-said, skelfora-summary-gives, skelfora-summary-said}
 
 -- ================ THE PROFILES: full has all ten steps, light has all but the sixth
 
@@ -53,13 +57,7 @@ module _ (L : Traces) where
 
 -- bytes that say a word are the word
 word-is : (word bytes : List ℕ) → length bytes ≡ length word → T (opensWith word bytes) → bytes ≡ word
-unfolding opensWith
-word-is [] [] l h = refl
-word-is [] (b ∷ bytes) l h = absurd (omega (arith, l))
-word-is (x ∷ word) [] l h = absurd h
-word-is (x ∷ word) (b ∷ bytes) l h =
-    let rest : length bytes ≡ length word = omega (arith, l) in
-    ap₂ _∷_ (eqb→eq b x (and-l _ _ h)) (word-is word bytes rest (and-r _ _ h))
+word-is word bytes l h = sym (take-all (length word) bytes (omega (arith, l))) ∙ opens-is word bytes h
 
 says-not : (word bytes : List ℕ) → (bytes ≡ word → ⊥) → says word bytes ≡ false
 says-not word bytes n = F→false _ (λ h. n (word-is word bytes (eqb→eq _ _ (and-l _ _ h)) (and-r _ _ h)))
@@ -96,11 +94,27 @@ pub the-word-light : (r : Choice) → choose-gives lightWord 1 r → r ≡ Listi
 unfolding choiceOf opensWith _and_
 the-word-light r c = choose-said lightWord 1 r c
 
--- ================ THE SUMMARY
+-- ================ 12 THROUGH THE PORT: a number that is no profile's gives 12 and nothing else, and changes nothing lent, whatever the log is
 
-length-counts : (r : Relation) → length (countsOf r) ≡ width
-unfolding countsOf
-length-counts r = length-listFrom width 0 (othersOf r)
+module _ (n : ℕ) (above : 1 < n) where
+  gives-12 : (f : Profile → ℕ) → inProfile n f ≡ 12
+  unfolding packedOf
+  gives-12 f = sym (no-profile n (packedOf WrongArgument 0) f above refl)
+
+  module _ (log before : List ℕ) (r : ℕ) (after : List ℕ) where
+    pub mine-no-profile : skelfora-mine-gives log n before r after → (r ≡ 12) × (after ≡ before)
+    mine-no-profile c =
+        let h = skelfora-mine-said log n before r after c in (h .0 ∙ gives-12 _, h .1 ∙ sym (no-change n _ before above))
+
+    pub listing-no-profile : skelfora-listing-gives log n before r after → (r ≡ 12) × (after ≡ before)
+    listing-no-profile c =
+        let h = skelfora-listing-said log n before r after c in (h .0 ∙ gives-12 _, h .1 ∙ sym (no-change n _ before above))
+
+    pub summary-no-profile : skelfora-summary-gives log n before r after → (r ≡ 12) × (after ≡ before)
+    summary-no-profile c =
+        let h = skelfora-summary-said log n before r after c in (h .0 ∙ gives-12 _, h .1 ∙ sym (no-change n _ before above))
+
+-- ================ THE SUMMARY
 
 count-at : (r : Relation) (s : ℕ) → s < width → getD (countsOf r) s 0 ≡ othersOf r s
 unfolding countsOf

@@ -131,7 +131,7 @@ module _ (A : ℕ) (L : Traces) (p : Profile) where
       (counts-ext (inRow (tableAt tables 3)) (mined L p .excludes)
       (λ s t ls lt. in-tablesOf relationCount (kept (mined L p)) 3 s t (lit≤ tt) ls lt))
 
-length-counts : (r : Relation) → length (countsOf r) ≡ width
+pub length-counts : (r : Relation) → length (countsOf r) ≡ width
 unfolding countsOf
 length-counts r = length-listFrom width 0 (othersOf r)
 

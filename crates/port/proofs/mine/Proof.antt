@@ -3,6 +3,9 @@ use Rattle.port.proofs.Packing.{carrying}
 use Rattle.port.proofs.mine.Statement.{statement}
 use Rattle.port.proofs.mine.Tie as tie
 
+returns : tie.Need-returns
+returns c = search (carrying, needs)
+
 pub mine-spec : {M : Type 1} → statement M
 mine-spec =
     tie.close
@@ -10,4 +13,4 @@ mine-spec =
     (λ c κs. search needs)
     (λ c κs. search needs)
     (λ c. search needs)
-    (λ c. search (carrying, needs)))
+    returns)

@@ -3,13 +3,19 @@ use Rattle.port.proofs.Packing.{profiles}
 use Rattle.port.proofs.skelfora_listing.Statement.{statement}
 use Rattle.port.proofs.skelfora_listing.Tie as tie
 
+returns : tie.Need-returns
+returns c = search (profiles, needs)
+
+returns-2 : tie.Need-returns-2
+returns-2 c = search (profiles, needs)
+
 pub skelfora-listing-spec : {M : Type 1} → statement M
 skelfora-listing-spec =
     tie.close
     (tie.spec
     (λ c κs. search needs)
-    (λ c. search (profiles, needs))
+    returns
     (λ c κs. search needs)
     (λ c κs. search needs)
     (λ c. search needs)
-    (λ c. search (profiles, needs)))
+    returns-2)
