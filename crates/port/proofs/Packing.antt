@@ -32,9 +32,8 @@ use Rattle.graphfile.specs.Markings.{markingFrom, markingInto}
 use Rattle.rules.specs.declared.Profile.{Profile}
 use Rattle.rules.specs.declared.Profile.the-variants.{Full, Light}
 use Rattle.miner.specs.declared.mining.Mined.{Mined}
-use Rattle.report.specs.Summary.{summaryAnswer}
 use Rattle.report.specs.declared.writer.Listed.{Listed}
-use Rattle.port.specs.Port.{packedOf, putNumber, putBuffer, profileOf, inProfile, inProfileBuffer, summaryNumber, replayNumber, refusedStep, stepOf, stepBytes}
+use Rattle.port.specs.Port.{packedOf, putNumber, putBuffer, profileOf, inProfile, inProfileBuffer, replayNumber, refusedStep, stepOf, stepBytes}
 
 pub packed-is : (a : Answer) (n low : ℕ) → low ≡ numberOf a → low + 256 * (n % 16777216) ≡ packedOf a n
 unfolding packedOf
@@ -116,11 +115,10 @@ module _ (n : ℕ) (p : Profile) (low : n ≤ 1) (e : p ≡ profileOf n) where
   in-buffer f out out′ h =
       h ∙ ap (λ (q : Profile). f q out) e ∙ sym (ap (λ (b : Bool). when b then out else f (profileOf n) out) (le-ltb 1 n low))
 
-  pub in-summary : (log out : List ℕ) (a : Answer) (r : ℕ) → a ≡ summaryAnswer log (length out) → r ≡ numberOf a
-      → r ≡ inProfile n (λ q. summaryNumber log (length out))
-  in-summary log out a r ha h = in-profile r (λ q. summaryNumber log (length out)) (h ∙ ap numberOf ha)
+pub number-as : (a a′ : Answer) (r : ℕ) → a ≡ a′ → r ≡ numberOf a → r ≡ numberOf a′
+number-as a a′ r e h = h ∙ ap numberOf e
 
-pub ruleset profiles = (no-profile, no-change, in-profile, in-buffer, in-summary)
+pub ruleset profiles = (no-profile, no-change, in-profile, in-buffer, number-as)
 
 -- ---- a replay
 

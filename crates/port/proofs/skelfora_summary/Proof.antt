@@ -19,4 +19,5 @@ skelfora-summary-spec =
     (λ c κs. search needs)
     (λ c κs. search needs)
     (λ c. search needs)
+    (λ c. search needs)
     returns-2)

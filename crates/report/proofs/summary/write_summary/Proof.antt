@@ -3,6 +3,9 @@ use Rattle.report.proofs.SummaryLaws.{summarizing}
 use Rattle.report.proofs.summary.write_summary.Statement.{statement}
 use Rattle.report.proofs.summary.write_summary.Tie as tie
 
+put-summary-requires : tie.Need-put-summary-requires
+put-summary-requires c κs = search (summarizing, needs)
+
 pub write-summary-spec : {M : Type 1} → statement M
 write-summary-spec =
     tie.close
@@ -11,6 +14,6 @@ write-summary-spec =
     (λ c κs. search needs)
     (λ c. search (summarizing, needs))
     (λ c. search (summarizing, needs))
-    (λ c κs. search (summarizing, needs))
+    put-summary-requires
     (λ c. search needs)
     (λ c. search (summarizing, needs)))
