@@ -125,7 +125,7 @@ module _ (bytes : List ℕ) where
   -- the listing, into a buffer
   abbrev pub write-listing-gives : Profile → List ℕ → Listed → List ℕ → Type 0
   write-listing-gives p before r after =
-      Holding bytes (λ log. Holding before (λ out. Leaves write-listing.Post (λ κ s. now (s .1 .0)) (λ κ. (log, (p, (out, tt)))) (λ κ. r) after))
+      Holding bytes (λ log. Holding before (λ out. Leaves write-listing.Post (λ κ s. now (s .1 .1 .0)) (λ κ. (log, (p, (out, tt)))) (λ κ. r) after))
 
   pub write-listing-said : (p : Profile) (before : List ℕ) (r : Listed) (after : List ℕ) → write-listing-gives p before r after
       → (r ≡ listedOf bytes p (length before)) × (after ≡ listingAfter bytes p before)
@@ -138,7 +138,7 @@ module _ (bytes : List ℕ) where
   -- the summary, into a buffer
   abbrev pub write-summary-gives : Profile → List ℕ → Answer → List ℕ → Type 0
   write-summary-gives p before r after =
-      Holding bytes (λ log. Holding before (λ out. Leaves write-summary.Post (λ κ s. now (s .1 .0)) (λ κ. (log, (p, (out, tt)))) (λ κ. r) after))
+      Holding bytes (λ log. Holding before (λ out. Leaves write-summary.Post (λ κ s. now (s .1 .1 .0)) (λ κ. (log, (p, (out, tt)))) (λ κ. r) after))
 
   pub write-summary-said : (p : Profile) (before : List ℕ) (r : Answer) (after : List ℕ) → write-summary-gives p before r after
       → (r ≡ summaryAnswer bytes (length before)) × (after ≡ summaryAfter bytes p before)
@@ -152,7 +152,7 @@ module _ (bytes : List ℕ) where
   module _ (n : ℕ) (before : List ℕ) (r : ℕ) (after : List ℕ) where
     abbrev pub skelfora-mine-gives : Type 0
     skelfora-mine-gives =
-        Holding bytes (λ log. Holding before (λ out. Leaves skelfora-mine.Post (λ κ s. now (s .1 .0)) (λ κ. (log, (n, (out, tt)))) (λ κ. r) after))
+        Holding bytes (λ log. Holding before (λ out. Leaves skelfora-mine.Post (λ κ s. now (s .1 .1 .0)) (λ κ. (log, (n, (out, tt)))) (λ κ. r) after))
 
     pub skelfora-mine-said : skelfora-mine-gives
         → (r ≡ inProfile n (mineNumber bytes (length before))) × (after ≡ inProfileBuffer n (mineBuffer bytes) before)
@@ -164,7 +164,7 @@ module _ (bytes : List ℕ) where
 
     abbrev pub skelfora-listing-gives : Type 0
     skelfora-listing-gives =
-        Holding bytes (λ log. Holding before (λ out. Leaves skelfora-listing.Post (λ κ s. now (s .1 .0)) (λ κ. (log, (n, (out, tt)))) (λ κ. r) after))
+        Holding bytes (λ log. Holding before (λ out. Leaves skelfora-listing.Post (λ κ s. now (s .1 .1 .0)) (λ κ. (log, (n, (out, tt)))) (λ κ. r) after))
 
     pub skelfora-listing-said : skelfora-listing-gives
         → (r ≡ inProfile n (listingNumber bytes (length before))) × (after ≡ inProfileBuffer n (listingAfter bytes) before)
@@ -176,7 +176,7 @@ module _ (bytes : List ℕ) where
 
     abbrev pub skelfora-summary-gives : Type 0
     skelfora-summary-gives =
-        Holding bytes (λ log. Holding before (λ out. Leaves skelfora-summary.Post (λ κ s. now (s .1 .0)) (λ κ. (log, (n, (out, tt)))) (λ κ. r) after))
+        Holding bytes (λ log. Holding before (λ out. Leaves skelfora-summary.Post (λ κ s. now (s .1 .1 .0)) (λ κ. (log, (n, (out, tt)))) (λ κ. r) after))
 
     pub skelfora-summary-said : skelfora-summary-gives
         → (r ≡ inProfile n (λ p. summaryNumber bytes (length before))) × (after ≡ inProfileBuffer n (summaryAfter bytes) before)

@@ -2,13 +2,12 @@
 -- the light graph of L is in the table of rules/proofs/Cases, and both listings of L are in report/proofs/Examples. Here: what the profiles
 -- are, what the listing program's arguments mean, what 12 leaves, and what the summary counts. Assumes nothing.
 use mathlib.Core.Path.{_≡_, refl, sym, ap, ap₂, _∙_}
-use mathlib.Core.Bool.{Bool, true, false}
-use mathlib.Core.List.{List, [], _∷_, _++_}
-use Prim.Native.Nat.{ℕ, zero, suc, _+_, _<_, _≤_}
+use mathlib.Core.Bool.{Bool, false}
+use mathlib.Core.List.{List, _++_}
+use Prim.Native.Nat.{ℕ, zero, suc, _+_, _<_}
 use native.Mathlib.Nat.{zero-add}
 use native.Mathlib.Omega.{arith}
-use borrow.Author.Tests.{ltb-true, lt-ltb}
-use lib.Dec.{T, eqb, ltb, eqb→eq}
+use lib.Dec.{T, eqb, eqb→eq}
 use lib.ListN.{length, length-append, getD, drop, List·getD-append}
 use lib.Seq.{getD-append-add, take-all}
 use Rattle.sets.specs.Tests.{_and_, non, when_then_else_}
@@ -30,10 +29,11 @@ use Rattle.rules.specs.Mining.{noRelations, event, step1, step2, step3, step4, 
 use Rattle.rules.proofs.Acceptable.{mined-reasons}
 use Rattle.rules.proofs.FromFile.{file-accepted}
 use Rattle.report.specs.Choice.{fullWord, lightWord, says, choiceOf}
-use Rattle.report.specs.Summary.{othersOf, countsOf, summaryOf, summaryLength, summaryAnswer, summaryAfter}
+use Rattle.report.specs.Summary.{othersOf, countsOf, summaryOf, summaryLength, summaryAfter}
 use Rattle.report.specs.declared.choice.Choice.{Choice}
 use Rattle.report.specs.declared.choice.Choice.the-variants.{Listing, Refused}
 use Rattle.report.proofs.SummaryLaws.{length-counts}
+use Rattle.report.proofs.Choosing.{chose-many}
 use Rattle.port.specs.Port.{packedOf, inProfile}
 use Rattle.port.proofs.Packing.{no-profile, no-change}
 use Rattle.promises.proofs.Contracts.{choose-gives, choose-said, write-summary-gives, write-summary-said}
@@ -42,15 +42,15 @@ use Rattle.promises.proofs.Contracts.{skelfora-mine-gives, skelfora-min
 -- ================ THE PROFILES: full has all ten steps, light has all but the sixth
 
 module _ (L : Traces) where
-  five : Relations
+  abbrev five : Relations
   five = step5 L (step4 L (step3 L (step2 L (step1 L noRelations))))
 
   pub full-has-ten : mined L Full ≡ step10 L (step9 L (step8 L (step7 L (step6 L five))))
-  unfolding five mined afterEight afterSeven afterSix afterFive
+  unfolding mined afterEight afterSeven afterSix afterFive
   full-has-ten = refl
 
   pub light-skips-six : mined L Light ≡ step10 L (step9 L (step8 L (step7 L five)))
-  unfolding five mined afterEight afterSeven afterSix afterFive
+  unfolding mined afterEight afterSeven afterSix afterFive
   light-skips-six = refl
 
 -- ================ THE ARGUMENTS: `choose` is given how many there are, and the bytes of the first
@@ -77,13 +77,9 @@ module _ (argument : List ℕ) (r : Choice) where
       else Refused WrongArgument)
 
   -- more than one: 12
-  pub many-arguments : (n : ℕ) → choose-gives argument (suc (suc n)) r → r ≡ Refused WrongArgument
-  unfolding choiceOf
-  many-arguments n c =
-      let more : 1 < suc (suc n) = omega arith in
-      choose-said argument (suc (suc n)) r c
-      ∙ ap (λ (b : Bool). when b then Refused WrongArgument else when says fullWord argument then Listing Full
-      else when says lightWord argument then Listing Light else Refused WrongArgument) (lt-ltb 1 (suc (suc n)) more)
+  pub many-arguments : (count : ℕ) → 1 < count → choose-gives argument count r → r ≡ Refused WrongArgument
+  many-arguments count more c =
+      choose-said argument count r c ∙ sym (chose-many argument count (λ none. omega (arith, none, more)) more)
 
 -- the two words
 pub the-word-full : (r : Choice) → choose-gives fullWord 1 r → r ≡ Listing Full
@@ -120,11 +116,15 @@ count-at : (r : Relation) (s : ℕ) → s < width → getD (countsOf r) s 0 ≡ 
 unfolding countsOf
 count-at r s l = getD-listFrom width 0 (othersOf r) s l ∙ ap (othersOf r) (zero-add s)
 
--- no pair, none counted
 none-below : (w : ℕ) (p : ℕ → Bool) → ((a : ℕ) → p a ≡ false) → countBelow w p ≡ 0
 unfolding countBelow
 none-below zero p e = refl
 none-below (suc w) p e = rw (e 0, none-below w (λ a. p (suc a)) (λ a. e (suc a)))
+
+-- no pair, none counted
+no-others : (r : Relation) (s : ℕ) → ((t : ℕ) → T (r s t) → ⊥) → othersOf r s ≡ 0
+unfolding _and_
+no-others r s n = none-below width _ (λ t. ap (λ (b : Bool). b and non (eqb t s)) (F→false (r s t) (n t)))
 
 module _ (bytes : List ℕ) (p : Profile) (before : List ℕ) (r : Answer) (after : List ℕ) (c : write-summary-gives bytes p before r after) where
   abbrev L : Traces
@@ -176,13 +176,8 @@ module _ (bytes : List ℕ) (p : Profile) (before : List ℕ) (r : Answer) (afte
 
       -- 0 and 0 for what is no event
       pub summary-no-event : event L s ≡ false → (getD after s 0 ≡ 0) × (getD after (width + s) 0 ≡ 0)
-      unfolding _and_
       summary-no-event n =
           let why = mined-reasons (logOf bytes .activities) L (file-accepted bytes) p in (
-            summary-conditions
-                ∙ none-below width _
-                (λ t. ap (λ (b : Bool). b and non (eqb t s)) (F→false _ (λ h. false→F n (why .condition s t h .0 .0)))),
-            summary-excludes
-                ∙ none-below width _
-                (λ t. ap (λ (b : Bool). b and non (eqb t s)) (F→false _ (λ h. false→F n (why .exclude s t h .0 .0)))),
+            summary-conditions ∙ no-others (mined L p .conditions) s (λ t h. false→F n (why .condition s t h .0 .0)),
+            summary-excludes ∙ no-others (mined L p .excludes) s (λ t h. false→F n (why .exclude s t h .0 .0)),
           )

@@ -353,21 +353,21 @@ choose-once κ a r r′ s s′ h h′ = h ∙ sym h′
 pub write-refused-once : OnceLent write-refused.Post (λ κ s. now (s .1 .0))
 write-refused-once κ a r r′ s s′ h h′ = (h .0 ∙ sym (h′ .0), h .1 ∙ sym (h′ .1))
 
-pub write-summary-once : OnceLent write-summary.Post (λ κ s. now (s .1 .0))
+pub write-summary-once : OnceLent write-summary.Post (λ κ s. now (s .1 .1 .0))
 write-summary-once κ a r r′ s s′ h h′ = (h .0 ∙ sym (h′ .0), h .1 ∙ sym (h′ .1))
 
-pub write-listing-once : OnceLent write-listing.Post (λ κ s. now (s .1 .0))
+pub write-listing-once : OnceLent write-listing.Post (λ κ s. now (s .1 .1 .0))
 write-listing-once κ a r r′ s s′ h h′ = (h .0 ∙ sym (h′ .0), h .1 ∙ sym (h′ .1))
 
 -- ---- port
 
-pub skelfora-mine-once : OnceLent skelfora-mine.Post (λ κ s. now (s .1 .0))
+pub skelfora-mine-once : OnceLent skelfora-mine.Post (λ κ s. now (s .1 .1 .0))
 skelfora-mine-once κ a r r′ s s′ h h′ = (h .0 ∙ sym (h′ .0), h .1 ∙ sym (h′ .1))
 
-pub skelfora-listing-once : OnceLent skelfora-listing.Post (λ κ s. now (s .1 .0))
+pub skelfora-listing-once : OnceLent skelfora-listing.Post (λ κ s. now (s .1 .1 .0))
 skelfora-listing-once κ a r r′ s s′ h h′ = (h .0 ∙ sym (h′ .0), h .1 ∙ sym (h′ .1))
 
-pub skelfora-summary-once : OnceLent skelfora-summary.Post (λ κ s. now (s .1 .0))
+pub skelfora-summary-once : OnceLent skelfora-summary.Post (λ κ s. now (s .1 .1 .0))
 skelfora-summary-once κ a r r′ s s′ h h′ = (h .0 ∙ sym (h′ .0), h .1 ∙ sym (h′ .1))
 
 pub skelfora-rewrite-once : OnceLent skelfora-rewrite.Post (λ κ s. now (s .1 .0))
