@@ -1,4 +1,4 @@
-//! The six functions of `port`, called on each implementation with the same bytes. Lent
+//! The six functions of `port` on files, called on each implementation with the same bytes. Lent
 //! buffers start with a pattern, so that a byte written where none should be shows.
 use super::record::{Call, Function};
 use super::{decimal, Comparison};
@@ -54,6 +54,7 @@ impl Comparison {
         self.record.keep(&Call {
             function: filling.kept_as,
             input,
+            lists: None,
             beside: &[],
             room,
             activity: filling.profile,
@@ -123,6 +124,7 @@ impl Comparison {
         self.record.keep(&Call {
             function: Function::Replay,
             input: file,
+            lists: None,
             beside: trace,
             room: 0,
             activity: 0,
@@ -147,6 +149,7 @@ impl Comparison {
         self.record.keep(&Call {
             function: Function::Step,
             input: file,
+            lists: None,
             beside: marking,
             room: marking.len(),
             activity,

@@ -7,7 +7,7 @@ use Prim.Native.Nat.{ℕ}
 use lib.Dec.{eqb, lit≤}
 use lib.ListN.{getD}
 use Rattle.sets.specs.Tests.{_and_, _or_, non}
-use Rattle.sets.specs.Members.{bit, bitsOf, someBelow, everyBelow, isEmpty, within, mem, those}
+use Rattle.sets.specs.Members.{bit, bitsOf, someBelow, leastBelow, everyBelow, isEmpty, within, mem, those}
 use Rattle.sets.specs.Rows.{rowAt, inRow}
 use Rattle.sets.specs.Tables.{noTables, tableAt, withRowIn}
 use Rattle.sets.specs.declared.set.Set.{Set}
@@ -17,7 +17,7 @@ use Rattle.engine.specs.declared.marking.Marking.{Marking}
 use Rattle.engine.specs.declared.graph.Graph.{Graph}
 use Rattle.engine.specs.Markings.{markingOf}
 use Rattle.engine.specs.Relations.{relationCount, headOf, graphOf}
-use Rattle.engine.specs.Steps.{waits, enabled, after, accepting}
+use Rattle.engine.specs.Steps.{waits, blocker, enabled, after, accepting}
 use Rattle.engine.specs.Judged.{markingWithin, rowWithin, rowsWithin, relationsWithin, graphWithin, judgedFor, judged}
 use Rattle.engine.specs.Replay.{steppedOf, ending, replayFrom, replayOf}
 use Rattle.engine.proofs.Acceptable.{judged-within, stepped-judged, replay-judged, opening-inside}
@@ -85,6 +85,10 @@ unfolding judgedFor graphWithin relationsWithin rowsWithin rowWithin markingWith
     bitsOf bit mem those _and_ _or_ non rowAt tableAt withRowIn
 paper-judged = refl
 
+-- 10, blocked by b
+abbrev pub waitingFor : ℕ → Answer
+waitingFor b = Waiting (record { 0 = b })
+
 abbrev pub run : List ℕ → Answer → ℕ → Marking → Bool → Type 0
 run trace a i m accepts = replayOf paper trace ≡ ending a i m accepts
 
@@ -94,10 +98,10 @@ pub examples :
     × run (0 ∷ []) Done 1 (markingOf (abcd 1 0 0 0) (abcd 0 1 0 0) (abcd 1 0 1 1)) true
     × run (0 ∷ 2 ∷ 1 ∷ 3 ∷ 0 ∷ []) Done 5 (markingOf (abcd 1 1 1 1) (abcd 0 1 0 0) (abcd 1 0 1 0)) true
     × run (2 ∷ 3 ∷ 2 ∷ []) Done 3 locked false
-    × run (2 ∷ 3 ∷ 2 ∷ 0 ∷ []) Waiting 3 locked false
-    × run (2 ∷ 3 ∷ 2 ∷ 1 ∷ []) Waiting 3 locked false
+    × run (2 ∷ 3 ∷ 2 ∷ 0 ∷ []) (waitingFor 1) 3 locked false
+    × run (2 ∷ 3 ∷ 2 ∷ 1 ∷ []) (waitingFor 0) 3 locked false
     × run (2 ∷ 3 ∷ 2 ∷ 3 ∷ []) NotIncluded 3 locked false
-unfolding replayFrom enabled waits after accepting someBelow bitsOf bit mem those _and_ _or_ non rowAt tableAt withRowIn inRow
+unfolding replayFrom enabled waits blocker after accepting someBelow leastBelow bitsOf bit mem those _and_ _or_ non rowAt tableAt withRowIn inRow
 examples =
     let on = paper-judged in (
       stepped-judged table3 table-judged table3-before (opening-inside table3 (judged-within table3 0 table-judged)) 4,

@@ -5,16 +5,18 @@ use mathlib.Core.List.{List}
 use Prim.Native.Nat.{ℕ}
 use lib.Dec.{eqb}
 use Rattle.sets.specs.Tests.{_and_, _or_, non}
-use Rattle.sets.specs.Members.{width, mem, those, someBelow, isEmpty}
+use Rattle.sets.specs.Members.{width, mem, those, someBelow, leastBelow, isEmpty}
 use Rattle.sets.specs.Rows.{rowAt, inRow}
 use Rattle.sets.specs.Tables.{tableAt}
+use Rattle.sets.specs.declared.activity.Activity.{Activity}
 use Rattle.sets.specs.declared.set.Set.{Set}
+use Rattle.sets.specs.declared.answer.Answer.the-variants.{Waiting}
 use Rattle.sets.proofs.Tests.{not-non, non-non}
-use Rattle.sets.proofs.Members.{those-of, some-of, empty-none}
+use Rattle.sets.proofs.Members.{those-of, some-of, least-of, empty-none}
 use Rattle.engine.specs.declared.marking.Marking.{Marking}
 use Rattle.engine.specs.Markings.{markingOf}
 use Rattle.engine.specs.Relations.{inTables}
-use Rattle.engine.specs.Steps.{waits, after, accepting}
+use Rattle.engine.specs.Steps.{blocking, waits, blocker, after, accepting}
 
 -- a set of members that pass is empty where none passes
 none-pass : (u : Set) (p : ℕ → Bool) → u ≡ those p → isEmpty u ≡ non (someBelow width p)
@@ -30,16 +32,29 @@ unfolding accepting
 accepting-by m u r h k = k ∙ none-pass u (λ a. mem (m .pending) a and mem (m .included) a) h
 
 module _ (tables : List ℕ) (m : Marking) (e : ℕ) where
-  pub waits-by : (sources live blocking : Set) (r : Bool) → sources ≡ rowAt (tableAt tables 0) e
-      → live ≡ those (λ s. mem sources s and mem (m .included) s) → blocking ≡ those (λ s. mem live s and non (mem (m .executed) s))
-      → r ≡ isEmpty blocking → not r ≡ waits (inTables tables) m e
-  unfolding waits inRow
-  waits-by sources live blocking r hs ho hb hr =
+  pub blocking-by : (sources live left : Set) → sources ≡ rowAt (tableAt tables 0) e
+      → live ≡ those (λ s. mem sources s and mem (m .included) s) → left ≡ those (λ s. mem live s and non (mem (m .executed) s))
+      → left ≡ those (blocking (inTables tables) m e)
+  unfolding inRow
+  blocking-by sources live left hs ho hb =
+      hb
+      ∙ those-of live (λ s. mem sources s and mem (m .included) s) (λ s t. t and non (mem (m .executed) s)) ho
+      ∙ ap (λ (u : Set). those (λ s. mem u s and mem (m .included) s and non (mem (m .executed) s))) hs
+
+  -- that set decides whether 10 is given
+  pub waits-by : (left : Set) (r : Bool) → left ≡ those (blocking (inTables tables) m e) → r ≡ isEmpty left
+      → not r ≡ waits (inTables tables) m e
+  unfolding waits
+  waits-by left r h k =
       not-non r
-      ∙ ap non (hr ∙ none-pass blocking (λ s. mem live s and non (mem (m .executed) s)) hb)
-      ∙ non-non (someBelow width (λ s. mem live s and non (mem (m .executed) s)))
-      ∙ some-of live (λ s. mem sources s and mem (m .included) s) (λ s t. t and non (mem (m .executed) s)) ho
-      ∙ ap (λ (u : Set). someBelow width (λ s. mem u s and mem (m .included) s and non (mem (m .executed) s))) hs
+      ∙ ap non (k ∙ none-pass left (blocking (inTables tables) m e) h)
+      ∙ non-non (someBelow width (blocking (inTables tables) m e))
+
+  -- and its least member is the blocker
+  pub blocker-by : (left : Set) (b : Activity) → left ≡ those (blocking (inTables tables) m e) → b .0 ≡ leastBelow width (mem left)
+      → Waiting b ≡ Waiting (blocker (inTables tables) m e)
+  unfolding blocker
+  blocker-by left b h k = let same = k ∙ least-of left (blocking (inTables tables) m e) h in λ i. Waiting (record { 0 = same i })
 
   pub next-by : (one ex r p x i n : Set) (m′ : Marking) → one ≡ those (λ b. eqb b e) → ex ≡ those (λ a. mem (m .executed) a or mem one a)
       → r ≡ rowAt (tableAt tables 1) e → p ≡ those (λ a. mem (m .pending) a and non (mem one a) or mem r a)

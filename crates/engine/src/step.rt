@@ -31,17 +31,16 @@ pub struct Verdict {
     pub accepting: bool,
 }
 
-// Whether some condition source is included and not executed.
-fn is_waiting(relations: &Relations, m: Marking, a: Activity) -> bool
-    ensures { λ r. ⌜ r ≡ rules.waits (inTables (now (relations .entry))) m (a .0) ⌝ }
+// The condition sources that are included and not executed.
+fn blocking(relations: &Relations, m: Marking, a: Activity) -> Set
+    ensures { λ r. ⌜ r ≡ those (rules.blocking (inTables (now (relations .entry))) m (a .0)) ⌝ }
 {
     let sources = tables::row(relations, CONDITIONS, a);
     let live = sources.intersection(m.included);
-    let blocking = live.difference(m.executed);
-    !blocking.is_empty()
+    live.difference(m.executed)
 }
 
-// Rules 8, 9, 10.
+// Rules 8, 9, 10. The set that decides 10 has the blocker as its least member.
 pub fn ask(events: Set, relations: &Relations, m: Marking, a: Activity) -> Answer
     ensures { λ r. ⌜ r ≡ rules.enabled events (inTables (now (relations .entry))) m (a .0) ⌝ }
 {
@@ -51,8 +50,9 @@ pub fn ask(events: Set, relations: &Relations, m: Marking, a: Activity) -> Answe
     if !m.included.has(a) {
         return Answer::NotIncluded;
     }
-    if is_waiting(relations, m, a) {
-        return Answer::Waiting;
+    let sources = blocking(relations, m, a);
+    if !sources.is_empty() {
+        return Answer::Waiting(sources.least());
     }
     Answer::Done
 }

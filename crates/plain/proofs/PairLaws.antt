@@ -2,16 +2,15 @@
 use mathlib.Core.Path.{_≡_, refl, sym, ap, _∙_, subst}
 use mathlib.Core.Bool.{Bool, true, false, not}
 use mathlib.Core.List.{List}
-use Prim.Native.Nat.{ℕ, zero, suc, _+_, _*_, _/_, _%_, _≤_, _<_}
+use Prim.Native.Nat.{ℕ, zero, suc, _<_}
 use native.Mathlib.Omega.{arith}
 use borrow.Author.Tests.{eq-eqb, ne-eqb}
-use borrow.Author.Count.{below-more}
 use lib.Dec.{T, eqb, eqb→eq, eqb-refl}
 use lib.ListN.{length, getD}
 use Rattle.sets.specs.Tests.{_and_, _or_, non}
-use Rattle.sets.specs.Members.{mem, someBelow, everyBelow}
+use Rattle.sets.specs.Members.{mem, someBelow}
 use Rattle.sets.specs.declared.set.Set.{Set}
-use Rattle.sets.proofs.Tests.{and-l, and-r, and-i, T-ext, T→true, F→false, true→T, false→F, eqb-of, not-non}
+use Rattle.sets.proofs.Tests.{and-l, and-r, and-i, T-ext, eqb-of, not-non}
 use Rattle.sets.proofs.Below.{some-i, some-e, every-i, every-e}
 use Rattle.plain.specs.Pairs.{pairOf, sourceOf, targetOf, someIn, everyIn, isAmong}
 
@@ -54,28 +53,15 @@ module _ (p a e : ℕ) (h : a ≡ targetOf p) where
 -- ---- what stands in a list
 
 module _ (pairs : List ℕ) where
-  pub some-in-i : (p : ℕ → Bool) (n : ℕ) → T (isAmong pairs n) → T (p n) → T (someIn pairs p)
+  pub stands : (i : ℕ) → i < length pairs → T (isAmong pairs (getD pairs i 0))
   unfolding isAmong someIn
-  some-in-i p n h t =
-      let at = some-e (length pairs) (λ i. eqb (getD pairs i 0) n) h in
-      let same : getD pairs (at .0) 0 ≡ n = eqb→eq (getD pairs (at .0) 0) n (at .2) in
-      some-i (length pairs) (λ i. p (getD pairs i 0)) (at .0) (at .1) (subst (λ (k : ℕ). T (p k)) (sym same) t)
-
-  pub some-in-e : (p : ℕ → Bool) → T (someIn pairs p) → (n : ℕ) × T (isAmong pairs n) × T (p n)
-  unfolding isAmong someIn
-  some-in-e p h =
-      let at = some-e (length pairs) (λ i. p (getD pairs i 0)) h in (
-        getD pairs (at .0) 0,
-        some-i (length pairs) (λ i. eqb (getD pairs i 0) (getD pairs (at .0) 0)) (at .0) (at .1)
-            (eqb-refl (getD pairs (at .0) 0)),
-        at .2,
-      )
+  stands i l = some-i (length pairs) (λ j. eqb (getD pairs j 0) (getD pairs i 0)) i l (eqb-refl (getD pairs i 0))
 
   pub every-in-i : (p : ℕ → Bool) → ((n : ℕ) → T (isAmong pairs n) → T (p n)) → T (everyIn pairs p)
   unfolding isAmong someIn everyIn
   every-in-i p f =
       every-i (length pairs) (λ i. p (getD pairs i 0))
-      (λ i l. f (getD pairs i 0) (some-i (length pairs) (λ j. eqb (getD pairs j 0) (getD pairs i 0)) i l (eqb-refl (getD pairs i 0))))
+      (λ i l. f (getD pairs i 0) (stands i l))
 
   pub every-in-e : (p : ℕ → Bool) → T (everyIn pairs p) → (n : ℕ) → T (isAmong pairs n) → T (p n)
   unfolding isAmong someIn everyIn
@@ -83,21 +69,6 @@ module _ (pairs : List ℕ) where
       let at = some-e (length pairs) (λ i. eqb (getD pairs i 0) n) t in
       subst (λ (k : ℕ). T (p k)) (eqb→eq (getD pairs (at .0) 0) n (at .2))
       (every-e (length pairs) (λ i. p (getD pairs i 0)) h (at .0) (at .1))
-
--- ---- a walk that looks for one that passes: `while i < w { if test(i) { return true; } i += 1; } false`
-
-abbrev pub missed : (ℕ → Bool) → ℕ → Type 0
-missed p i = (a : ℕ) → a < i → T (p a) → ⊥
-
-module _ (p : ℕ → Bool) (i : ℕ) where
-  pub some-more : (r : Bool) → r ≡ p i → r ≡ false → missed p i → missed p (i + 1)
-  some-more r h t inv = below-more (λ a. T (p a) → ⊥) i inv (false→F (sym h ∙ t))
-
-  pub some-found : (w : ℕ) (r : Bool) → i < w → r ≡ p i → r ≡ true → true ≡ someBelow w p
-  some-found w r l h t = sym (T→true _ (some-i w p i l (true→T (sym h ∙ t))))
-
-  pub some-end : (w : ℕ) → w ≤ i → missed p i → false ≡ someBelow w p
-  some-end w l inv = sym (F→false _ (λ s. let at = some-e w p s in inv (at .0) (omega arith) (at .2)))
 
 -- ---- one more number
 

@@ -13,13 +13,13 @@ use Rattle.sets.specs.Answers.{isDone, thenAsk}
 use Rattle.sets.specs.declared.set.Set.{Set}
 use Rattle.sets.specs.declared.answer.Answer.{Answer}
 use Rattle.sets.specs.declared.answer.Answer.the-variants.{Done, NoEvent, NotIncluded, Waiting}
-use Rattle.sets.proofs.Below.{some-ext}
+use Rattle.sets.proofs.Below.{some-ext, least-ext}
 use Rattle.sets.proofs.Members.{those-ext}
 use Rattle.engine.specs.declared.marking.Marking.{Marking}
 use Rattle.engine.specs.declared.step.Stepped.{Stepped}
 use Rattle.engine.specs.Markings.{markingOf}
 use Rattle.engine.specs.Relations.{Relations}
-use Rattle.engine.specs.Steps.{waits, enabled, after}
+use Rattle.engine.specs.Steps.{blocking, waits, blocker, enabled, after}
 use Rattle.engine.specs.Replay.{ending, replayFrom}
 
 -- as far as the rules ask: one of the two is any byte, the other a number that a set can hold
@@ -37,13 +37,14 @@ pub record Agree (q r : Relations) : Type 0 where
 
 module _ (events : Set) (q r : Relations) (same : Agree q r) where
   pub enabled-same : (m : Marking) (e : ℕ) → e < 256 → enabled events q m e ≡ enabled events r m e
-  unfolding enabled waits
+  unfolding enabled waits blocker
   enabled-same m e l =
-      let waiting = some-ext width
-      (λ s. q .conditions s e and mem (m .included) s and non (mem (m .executed) s))
-      (λ s. r .conditions s e and mem (m .included) s and non (mem (m .executed) s))
-      (λ s h. ap (λ (t : Bool). t and mem (m .included) s and non (mem (m .executed) s)) (same .conditions s e h l)) in
-      λ i. when non (mem events e) then NoEvent else when non (mem (m .included) e) then NotIncluded else when waiting i then Waiting
+      let each : (s : ℕ) → s < width → blocking q m e s ≡ blocking r m e s =
+      λ s h. ap (λ (t : Bool). t and mem (m .included) s and non (mem (m .executed) s)) (same .conditions s e h l) in
+      let waiting = some-ext width (blocking q m e) (blocking r m e) each in
+      let least = least-ext width (blocking q m e) (blocking r m e) each in
+      λ i. when non (mem events e) then NoEvent else when non (mem (m .included) e) then NotIncluded
+      else when waiting i then Waiting (record { 0 = least i })
       else Done
 
   pub after-same : (m : Marking) (e : ℕ) → e < 256 → after q m e ≡ after r m e

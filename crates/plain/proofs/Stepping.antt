@@ -1,32 +1,37 @@
 -- A step, pair by pair, as the set rules have it. Assumes nothing.
 use mathlib.Core.Path.{_≡_, refl, sym, ap, _∙_, subst}
-use mathlib.Core.Bool.{Bool, true, false, not}
+use mathlib.Core.Bool.{Bool, true, false}
 use mathlib.Core.List.{List, []}
+use mathlib.Core.Logic.{_⊎_, inl, inr}
 use Prim.Native.Nat.{ℕ, zero, suc, _+_, _≤_, _<_}
 use native.Mathlib.Numerals.{add-one}
 use native.Mathlib.Omega.{arith}
-use borrow.Author.Tests.{eq-eqb, ne-eqb, ltb-true, ltb-false}
+use borrow.Author.Count.{below-more}
+use borrow.Author.Tests.{eq-eqb, ne-eqb, lt-ltb, le-ltb, ltb-true, ltb-false}
 use lib.Dec.{T, eqb, eqb→eq, ltb}
 use lib.ListN.{length, getD}
-use Rattle.sets.specs.Tests.{_and_, _or_, non}
-use Rattle.sets.specs.Members.{width, mem, those, someBelow}
+use Rattle.sets.specs.Tests.{_and_, _or_, non, when_then_else_}
+use Rattle.sets.specs.Members.{width, mem, those, someBelow, leastBelow}
+use Rattle.sets.specs.declared.activity.Activity.{Activity}
 use Rattle.sets.specs.declared.set.Set.{Set}
 use Rattle.sets.specs.declared.answer.Answer.{Answer}
-use Rattle.sets.proofs.Tests.{and-l, and-r, and-i, T-ext, T→true, F→false, true→T, false→F, eqb-of, split, either, or-false}
-use Rattle.sets.proofs.Below.{some-i, some-e}
-use Rattle.sets.proofs.Members.{Fits, is-those, those-ext, those-of, mem-those, has-above}
+use Rattle.sets.specs.declared.answer.Answer.the-variants.{Waiting}
+use Rattle.sets.proofs.Tests.{and-l, and-r, and-i, T-ext, T→true, F→false, eqb-of, split}
+use Rattle.sets.proofs.Below.{some-e, least-only, some-least}
+use Rattle.sets.proofs.Members.{Fits, is-those, those-ext, those-of}
 use Rattle.engine.specs.declared.marking.Marking.{Marking}
 use Rattle.engine.specs.Markings.{markingOf}
-use Rattle.engine.specs.Steps.{waits, enabled, after}
+use Rattle.engine.specs.Relations.{Relations}
+use Rattle.engine.specs.Steps.{blocking, waits, blocker, enabled, after}
 use Rattle.plain.specs.Pairs.{pairOf, sourceOf, targetOf, someIn, isAmong, inPairs, blocks}
 use Rattle.plain.specs.Graphs.{inLists}
-use Rattle.plain.proofs.PairLaws.{pair-is, some-in-i, some-in-e, missed, some-found, some-end, some-last}
+use Rattle.plain.proofs.PairLaws.{pair-is, stands, some-last}
 
 -- ---- a rule that reads one relation reads it from its list alone
 
 module _ (c r i x : List ℕ) (m : Marking) (e : ℕ) where
   pub ask-alone : (events : Set) (a : Answer) → a ≡ enabled events (inLists c [] [] []) m e → a ≡ enabled events (inLists c r i x) m e
-  unfolding enabled waits
+  unfolding enabled waits blocker
   ask-alone events a h = h
 
   pub next-alone : (n : Marking) → n ≡ after (inLists [] r i x) m e → n ≡ after (inLists c r i x) m e
@@ -35,44 +40,103 @@ module _ (c r i x : List ℕ) (m : Marking) (e : ℕ) where
 
 -- ---- waiting
 
-module _ (c : List ℕ) (m : Marking) (e : ℕ) (fits : Fits (m .included)) (l : e < 256) where
-  inside : (s : ℕ) → T (mem (m .included) s) → s < width
-  inside s t =
-      either (split (ltb s width)) (λ h. ltb-true s width (T→true _ h))
-      (λ h. absurd (false→F (sym (has-above (m .included) fits s (ltb-false s width (F→false _ h)))) t))
+-- what the code asks of the source that it took out of a pair
+module _ (p a n : ℕ) (h : a ≡ sourceOf p) where
+  pub source-below : a < n → true ≡ ltb (sourceOf p) n
+  source-below l = sym (ap (λ (k : ℕ). ltb k n) (sym h) ∙ lt-ltb a n l)
 
-  -- some pair keeps e waiting where e waits
-  waits-pairs : someIn c (blocks m e) ≡ waits (inLists c [] [] []) m e
-  unfolding waits blocks
-  waits-pairs =
-      T-ext _ _
-      (λ h.
-      let at = some-in-e c (blocks m e) h in
-      let p = at .0 in
-      let t = at .2 in
+  pub source-not-below : n ≤ a → false ≡ ltb (sourceOf p) n
+  source-not-below l = sym (ap (λ (k : ℕ). ltb k n) (sym h) ∙ le-ltb a n l)
+
+module _ (c : List ℕ) (m : Marking) (e : ℕ) where
+  -- a blocking pair has a blocking source
+  from-pair : (p : ℕ) → T (isAmong c p) → T (blocks m e p) → T (blocking (inLists c [] [] []) m e (sourceOf p))
+  unfolding blocks
+  from-pair p h t =
       let target = eqb→eq (targetOf p) e (and-l _ _ (and-l _ _ t)) in
       let same : p ≡ pairOf (sourceOf p) e = omega arith in
-      some-i width (λ s. inPairs c s e and mem (m .included) s and non (mem (m .executed) s)) (sourceOf p)
-      (inside (sourceOf p) (and-r _ _ (and-l _ _ t)))
-      (and-i _ _ (and-i _ _ (subst (λ (k : ℕ). T (isAmong c k)) same (at .1)) (and-r _ _ (and-l _ _ t))) (and-r _ _ t)))
-      (λ h.
-      let at = some-e width (λ s. inPairs c s e and mem (m .included) s and non (mem (m .executed) s)) h in
-      let s = at .0 in
-      let t = at .2 in
+      and-i _ _ (and-i _ _ (subst (λ (k : ℕ). T (isAmong c k)) same h) (and-r _ _ (and-l _ _ t))) (and-r _ _ t)
+
+  -- and a blocking source has its pair
+  to-pair : (s : ℕ) → e < 256 → T (blocking (inLists c [] [] []) m e s) → T (blocks m e (pairOf s e))
+  unfolding blocks
+  to-pair s l t =
       let source : s ≡ sourceOf (pairOf s e) = omega arith in
       let target : targetOf (pairOf s e) ≡ e = omega arith in
-      some-in-i c (blocks m e) (pairOf s e) (and-l _ _ (and-l _ _ t))
-      (and-i _ _
+      and-i _ _
       (and-i _ _ (eqb-of target) (subst (λ (k : ℕ). T (mem (m .included) k)) source (and-r _ _ (and-l _ _ t))))
-      (subst (λ (k : ℕ). T (non (mem (m .executed) k))) source (and-r _ _ t))))
+      (subst (λ (k : ℕ). T (non (mem (m .executed) k))) source (and-r _ _ t))
 
-  pub waits-found : (i : ℕ) (r : Bool) → i < length c → r ≡ blocks m e (getD c i 0) → r ≡ true → true ≡ waits (inLists c [] [] []) m e
-  unfolding someIn
-  waits-found i r h k t = some-found (λ j. blocks m e (getD c j 0)) i (length c) r h k t ∙ waits-pairs
+  abbrev sourceAt : ℕ → ℕ
+  sourceAt i = sourceOf (getD c i 0)
 
-  pub waits-end : (i : ℕ) → length c ≤ i → missed (λ j. blocks m e (getD c j 0)) i → false ≡ waits (inLists c [] [] []) m e
-  unfolding someIn
-  waits-end i h inv = some-end (λ j. blocks m e (getD c j 0)) i (length c) h inv ∙ waits-pairs
+  -- pair i is blocking, and its source is below n
+  abbrev better : ℕ → ℕ → Bool
+  better n i = blocks m e (getD c i 0) and ltb (sourceAt i) n
+
+  -- the walk has come to pair i: n is the least source of those that block so far, the width where none does
+  pub record Smallest (n i : ℕ) : Type 0 where
+    pub within : n ≤ width
+    pub passes : n < width → T (blocking (inLists c [] [] []) m e n)
+    pub first : (j : ℕ) → j < i → T (blocks m e (getD c j 0)) → n ≤ sourceAt j
+
+  pub smallest-begin : Smallest width 0
+  smallest-begin = record { within = omega arith; passes = λ l. absurd (omega arith); first = λ j l t. absurd (omega arith) }
+
+  pub smallest-next : (n k i : ℕ) → i < length c
+      → k ≡ (when better n i then sourceAt i else n)
+      → Smallest n i → Smallest k (i + 1)
+  smallest-next n k i l h inv = by (split (better n i))
+    where
+      by : T (better n i) ⊎ (T (better n i) → ⊥)
+          → Smallest k (i + 1)
+      by (inl t) =
+          let is : k ≡ sourceAt i = h ∙ ap (λ (b : Bool). when b then sourceAt i else n) (T→true (better n i) t) in
+          let less = ltb-true (sourceAt i) n (T→true _ (and-r _ _ t)) in
+          let low = inv .within in
+          record {
+            within = omega arith;
+            passes = λ _. subst (λ (a : ℕ). T (blocking (inLists c [] [] []) m e a)) (sym is) (from-pair (getD c i 0) (stands c i l) (and-l _ _ t));
+            first =
+                below-more (λ j. T (blocks m e (getD c j 0)) → k ≤ sourceAt j) i
+                (λ j g u. let old = inv .first j g u in omega arith) (λ u. omega arith);
+          }
+      by (inr f) =
+          let is : k ≡ n = h ∙ ap (λ (b : Bool). when b then sourceAt i else n) (F→false (better n i) f) in
+          subst (λ (a : ℕ). Smallest a (i + 1)) (sym is)
+          (record {
+            within = inv .within;
+            passes = inv .passes;
+            first =
+                below-more (λ j. T (blocks m e (getD c j 0)) → n ≤ sourceAt j) i (inv .first)
+                (λ u. ltb-false (sourceAt i) n (F→false _ (λ t. f (and-i _ _ u t))));
+          })
+
+  pub smallest-end : (n i : ℕ) → e < 256 → length c ≤ i → Smallest n i → n ≡ leastBelow width (blocking (inLists c [] [] []) m e)
+  unfolding isAmong someIn
+  smallest-end n i byte l inv =
+      least-only width (blocking (inLists c [] [] []) m e) n (inv .within) (inv .passes)
+      (λ s low t.
+      let at = some-e (length c) (λ j. eqb (getD c j 0) (pairOf s e)) (and-l _ _ (and-l _ _ t)) in
+      let same = eqb→eq (getD c (at .0) 0) (pairOf s e) (at .2) in
+      let least = inv .first (at .0) (omega arith) (subst (λ (p : ℕ). T (blocks m e p)) (sym same) (to-pair s byte t)) in
+      let source : s ≡ sourceOf (getD c (at .0) 0) = omega arith in
+      omega arith)
+
+-- ---- 10 and its blocker, where the walk has given b
+
+module _ (r : Relations) (m : Marking) (e : ℕ) (b : Activity) (h : b .0 ≡ leastBelow width (blocking r m e)) where
+  pub waits-below : b .0 < width → true ≡ waits r m e
+  unfolding waits
+  waits-below l = sym (some-least width (blocking r m e) ∙ ap (λ (n : ℕ). ltb n width) (sym h) ∙ lt-ltb (b .0) width l)
+
+  pub waits-not : width ≤ b .0 → false ≡ waits r m e
+  unfolding waits
+  waits-not l = sym (some-least width (blocking r m e) ∙ ap (λ (n : ℕ). ltb n width) (sym h) ∙ le-ltb (b .0) width l)
+
+  pub blocker-is : Waiting b ≡ Waiting (blocker r m e)
+  unfolding blocker
+  blocker-is i = Waiting (record { 0 = h i })
 
 -- ---- a set that gains or loses the targets of e, one pair after another: both are an operation f that takes a test to what it was
 -- unless some pair has it

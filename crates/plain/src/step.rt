@@ -1,9 +1,9 @@
 // Enabled, the step and accepting (01, "A step"), each rule as a walk through a list of pairs.
 ghost use mathlib.Core.Path.{_≡_};
 ghost use mathlib.Core.List.{[]};
-ghost use lib.Dec.{eqb};
-ghost use Rattle.sets.specs.Tests.{_and_, _or_, non};
-ghost use Rattle.sets.specs.Members.{mem, those};
+ghost use lib.Dec.{eqb, ltb};
+ghost use Rattle.sets.specs.Tests.{_and_, _or_, non, when_then_else_};
+ghost use Rattle.sets.specs.Members.{width, mem, those, leastBelow};
 ghost use Rattle.engine.specs.Steps as rules;
 ghost use Rattle.plain.specs.Pairs.{pairOf, sourceOf, targetOf, inPairs, blocks};
 ghost use Rattle.plain.specs.Graphs.{plainOf, inLists};
@@ -33,18 +33,32 @@ fn is_blocking(pair: u16, m: Marking, a: Activity) -> bool
     !m.executed.has(source(pair))
 }
 
-// Whether some condition does.
-fn is_waiting(conditions: &[u16], m: Marking, a: Activity) -> bool
-    ensures { λ r. ⌜ r ≡ rules.waits (inLists (now (conditions .entry)) [] [] []) m (a .0) ⌝ }
+// The smaller of an activity and the pair's source, where the pair is blocking; else the activity.
+fn smaller(least: Activity, pair: u16, m: Marking, a: Activity) -> Activity
+    ensures { λ r. ⌜ r .0 ≡ when blocks m (a .0) pair and ltb (sourceOf pair) (least .0) then sourceOf pair else least .0 ⌝ }
 {
+    if !is_blocking(pair, m, a) {
+        return least;
+    }
+    let s = source(pair);
+    if s.0 < least.0 {
+        return s;
+    }
+    least
+}
+
+// The smallest source that keeps the activity waiting. The walk begins with a number above every activity's, and ends with it where
+// no condition is blocking.
+fn blocker(conditions: &[u16], m: Marking, a: Activity) -> Activity
+    ensures { λ r. ⌜ r .0 ≡ leastBelow width (rules.blocking (inLists (now (conditions .entry)) [] [] []) m (a .0)) ⌝ }
+{
+    let mut least = Activity(Activity::LIMIT);
     let mut i: usize = 0;
     while i < conditions.len() {
-        if is_blocking(conditions[i], m, a) {
-            return true;
-        }
+        least = smaller(least, conditions[i], m, a);
         i += 1;
     }
-    false
+    least
 }
 
 // Rules 8, 9, 10.
@@ -57,8 +71,9 @@ pub(crate) fn ask(events: Set, conditions: &[u16], m: Marking, a: Activity) -> A
     if !m.included.has(a) {
         return Answer::NotIncluded;
     }
-    if is_waiting(conditions, m, a) {
-        return Answer::Waiting;
+    let least = blocker(conditions, m, a);
+    if least.0 < Activity::LIMIT {
+        return Answer::Waiting(least);
     }
     Answer::Done
 }

@@ -11,4 +11,5 @@ pub mod Demands
 pub mod StandIns
 pub mod Counts
 pub mod PlainEngine
+pub mod Blocker
 pub mod Light

@@ -93,7 +93,7 @@ number-small BadRow = omega arith
 number-small BufferTooSmall = omega arith
 number-small NoEvent = omega arith
 number-small NotIncluded = omega arith
-number-small Waiting = omega arith
+number-small (Waiting b) = omega arith
 number-small NoTrace = omega arith
 number-small WrongArgument = omega arith
 

@@ -5,13 +5,13 @@ use mathlib.Core.Logic.{_⊎_, inl, inr}
 use Prim.Native.Nat.{ℕ, zero, suc, _+_, _*_, _/_, _%_, _^_, _≤_, _<_, suc-le-suc}
 use native.Mathlib.Nat.{not-suc-le-zero, le-of-suc-le-suc, mod-lt, zero-lt-suc}
 use native.Mathlib.Omega.{arith}
-use borrow.Author.Tests.{ne-eqb}
+use borrow.Author.Tests.{ne-eqb, lt-ltb, ltb-true, ltb-false}
 use lib.Arith.{lt-one}
-use lib.Dec.{T, eqb, eqb·suc-zero, eqb·zero-suc, eqb·suc-suc}
+use lib.Dec.{T, eqb, ltb, eqb·suc-zero, eqb·zero-suc, eqb·suc-suc}
 use lib.Count.{ones, ones-step, trailingZeros, under}
 use Rattle.sets.specs.Tests.{_and_, _or_, non}
 use Rattle.sets.specs.Members.{digit, bit, bitsOf, someBelow, everyBelow, countBelow, leastBelow, orNext}
-use Rattle.sets.proofs.Tests.{and-l, and-r, and-i, or-e, or-l, or-r, T-ext, non-i, non-e, and-true, T→true, true→T}
+use Rattle.sets.proofs.Tests.{and-l, and-r, and-i, or-e, or-l, or-r, T-ext, non-i, non-e, and-true, T→true, true→T, F→false, false→F, split, either}
 use Rattle.sets.proofs.Bits.{bit-first, bit-next, digit-first, half-lt}
 
 -- ---- some and every, number by number
@@ -172,6 +172,26 @@ least-lt (suc w) p t = by (λ k. least-lt w (λ b. p (suc b)) k) (p 0) t
         → (x : Bool) → T (x or someBelow w (λ b. p (suc b))) → orNext x (leastBelow w (λ b. p (suc b))) < suc w
     by ih true k = zero-lt-suc w
     by ih false k = suc-le-suc (ih k)
+
+-- it is the only number with these three properties
+pub least-only : (w : ℕ) (p : ℕ → Bool) (n : ℕ) → n ≤ w → (n < w → T (p n)) → ((a : ℕ) → a < w → T (p a) → n ≤ a) → n ≡ leastBelow w p
+least-only w p n low passes first =
+    let k = leastBelow w p in
+    let reach = least-le w p in
+    either (split (ltb n k))
+    (λ h. let l = ltb-true n k (T→true _ h) in absurd (false→F (least-before w p n l) (passes (omega arith))))
+    (λ h.
+    let l = ltb-false n k (F→false _ h) in
+    either (split (ltb k n))
+    (λ g. let below = ltb-true k n (T→true _ g) in let up = first k (omega arith) (least-is w p (omega arith)) in absurd (omega arith))
+    (λ g. let up = ltb-false k n (F→false _ g) in omega arith))
+
+-- some number passes just where the least is below the width
+pub some-least : (w : ℕ) (p : ℕ → Bool) → someBelow w p ≡ ltb (leastBelow w p) w
+some-least w p =
+    T-ext _ _
+    (λ t. true→T (lt-ltb (leastBelow w p) w (least-lt w p t)))
+    (λ t. let l = ltb-true (leastBelow w p) w (T→true _ t) in some-i w p (leastBelow w p) l (least-is w p l))
 
 -- the machine's trailing zeros
 under-digit : (d t : ℕ) → d < 2 → under d t ≡ orNext (eqb d 1) t

@@ -14,7 +14,7 @@ use Rattle.sets.specs.Members.{width, bit, bitsOf, mem, those, noSet, so
 use Rattle.sets.specs.declared.set.Set.{Set}
 use Rattle.sets.proofs.Tests.{non-or, non-non, T→true, true→T, F→false, false→F, non-false, non-i, non-e, imp-i, imp-e, split, either}
 use Rattle.sets.proofs.Bits.{is-bitsOf, bitsOf-lt, bitsOf-ext, bitsOf-bit, bit-bitsOf, bit-bitsOf-above, bit-and, bit-or, bit-non, bit-above, bit-zero, bit-pow, bit-ones, one-shl}
-use Rattle.sets.proofs.Below.{some-ext, every-i, every-e, every-ext, non-some, none-zero, count-ext, count-less, least-is, least-lt, ones-count, trailing-least}
+use Rattle.sets.proofs.Below.{some-ext, every-i, every-e, every-ext, non-some, none-zero, count-ext, count-less, least-ext, least-is, least-lt, ones-count, trailing-least}
 
 -- ---- a set and its members
 
@@ -90,6 +90,9 @@ those-of u p f e = those-ext (λ a. f a (mem u a)) (λ a. f a (p a)) (λ a l. ap
 
 pub some-of : (u : Set) (p : ℕ → Bool) (f : ℕ → Bool → Bool) → u ≡ those p → someBelow width (λ a. f a (mem u a)) ≡ someBelow width (λ a. f a (p a))
 some-of u p f e = some-ext width (λ a. f a (mem u a)) (λ a. f a (p a)) (λ a l. ap (f a) (member u p e a l))
+
+pub least-of : (u : Set) (p : ℕ → Bool) → u ≡ those p → leastBelow width (mem u) ≡ leastBelow width p
+least-of u p e = least-ext width (mem u) p (member u p e)
 
 pub every-of : (u : Set) (p : ℕ → Bool) (f : ℕ → Bool → Bool) → u ≡ those p → everyBelow width (λ a. f a (mem u a)) ≡ everyBelow width (λ a. f a (p a))
 every-of u p f e = every-ext width (λ a. f a (mem u a)) (λ a. f a (p a)) (λ a l. ap (f a) (member u p e a l))

@@ -1,5 +1,6 @@
 use Rattle.sets.proofs.Ways.{choice}
 use Rattle.engine.specs.Steps.{enabled}
+use Rattle.plain.proofs.Stepping.{waits-below, waits-not, blocker-is}
 use borrow.Author.Needs.{needs}
 use Rattle.plain.proofs.step.ask.Statement.{statement}
 use Rattle.plain.proofs.step.ask.Tie as tie
@@ -13,5 +14,5 @@ ask-spec =
     (λ c κs. search needs)
     (λ c. unfold enabled in search (choice, needs))
     (λ c κs. search needs)
-    (λ c. unfold enabled in search (choice, needs))
-    (λ c. unfold enabled in search (choice, needs)))
+    (λ c. unfold enabled in search (choice, waits-below, blocker-is, needs))
+    (λ c. unfold enabled in search (choice, waits-not, needs)))
