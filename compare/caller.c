@@ -8,11 +8,11 @@ int printf(const char *format, ...);
 long read(int file, void *bytes, size_t count);
 void *memset(void *bytes, int value, size_t count);
 
-enum { MINE, LISTING, REWRITE, REPLAY, STEP, PLAIN_STEP, PLAIN_ACCEPTING, PLAIN_REPLAY, FILL, FUNCTIONS, END = 255 };
+enum { MINE, LISTING, REWRITE, REPLAY, STEP, PLAIN_STEP, PLAIN_ACCEPTING, PLAIN_REPLAY, FILL, SUMMARY, FUNCTIONS, END = 255 };
 enum { ROOM = 1 << 18, PAST = 64, UNTOUCHED = 165 };
 
 static const char *const names[FUNCTIONS] = {"mine",       "listing",         "rewrite",      "replay", "step",
-                                             "plain step", "plain accepting", "plain replay", "fill"};
+                                             "plain step", "plain accepting", "plain replay", "fill",   "summary"};
 static uint8_t input[ROOM], beside[ROOM];
 static uint16_t memory[(ROOM + PAST) / 2], lists[4][ROOM / 2];
 static uint8_t *const lent = (uint8_t *)memory;
@@ -78,14 +78,16 @@ static int is_plain(int function) { return function >= PLAIN_STEP && function <=
 
 #define PLAIN input, n, lists[0], pairs[0], lists[1], pairs[1], lists[2], pairs[2], lists[3], pairs[3]
 
+/* `activity` is that of a step, the relation to fill from, or the number of the profile. */
 static uint64_t call(int function, size_t n, size_t m, size_t room, uint8_t activity) {
     switch (function) {
     case PLAIN_STEP: return skelfora_plain_step(PLAIN, lent, room, activity);
     case PLAIN_ACCEPTING: return skelfora_plain_accepting(PLAIN, beside, m);
     case PLAIN_REPLAY: return skelfora_plain_replay(PLAIN, beside, m);
     case FILL: return skelfora_fill(input, n, activity, memory, room / 2);
-    case MINE: return skelfora_mine(input, n, lent, room);
-    case LISTING: return skelfora_listing(input, n, lent, room);
+    case MINE: return skelfora_mine(input, n, activity, lent, room);
+    case LISTING: return skelfora_listing(input, n, activity, lent, room);
+    case SUMMARY: return skelfora_summary(input, n, activity, lent, room);
     case REWRITE: return skelfora_rewrite(input, n, lent, room);
     case REPLAY: return skelfora_replay(input, n, beside, m);
     default: return skelfora_step(input, n, lent, room, activity);
@@ -108,7 +110,7 @@ static int blocker_in_place(int function, uint64_t given) {
 static int short_buffers(void) {
     memset(lent, UNTOUCHED, ROOM);
     uint64_t before = hash(lent, ROOM);
-    int wrong = skelfora_listing(input, 0, lent, SKELFORA_LISTING_ROOM - 1) != 7;
+    int wrong = skelfora_listing(input, 0, SKELFORA_FULL, lent, SKELFORA_LISTING_ROOM - 1) != 7;
     return wrong + (hash(lent, ROOM) != before);
 }
 

@@ -6,7 +6,7 @@
 #include <stdlib.h>
 #include <string.h>
 
-uint64_t skelfora_mine(const uint8_t *log, uint64_t log_length, uint8_t *file, uint64_t room);
+uint64_t skelfora_mine(const uint8_t *log, uint64_t log_length, uint8_t profile, uint8_t *file, uint64_t room);
 
 enum { TRACES = 1024, LENGTH = 32, STACK = 4 << 20, PAINT = 0xA5 };
 
@@ -36,7 +36,7 @@ static void fill(void) {
 static void *rest(void *unused) { return unused; }
 
 static void *mine(void *unused) {
-    if (skelfora_mine(log_bytes, sizeof log_bytes, file, sizeof file) % 256 != 0) exit(1);
+    if (skelfora_mine(log_bytes, sizeof log_bytes, 0, file, sizeof file) % 256 != 0) exit(1);
     return unused;
 }
 

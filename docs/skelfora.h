@@ -23,8 +23,13 @@ enum {
     SKELFORA_NO_EVENT = 8,
     SKELFORA_NOT_INCLUDED = 9,
     SKELFORA_WAITING = 10,
-    SKELFORA_NO_TRACE = 11
+    SKELFORA_NO_TRACE = 11,
+    SKELFORA_WRONG_ARGUMENT = 12
 };
+
+/* The profiles; any other number is refused with 12, before the log is read. */
+#define SKELFORA_FULL 0  /* all ten steps of mining */
+#define SKELFORA_LIGHT 1 /* all but the sixth */
 
 /* What skelfora_blocker gives beside every number but SKELFORA_WAITING. */
 #define SKELFORA_NO_BLOCKER 255
@@ -33,18 +38,23 @@ enum {
 #define SKELFORA_LOG_ROOM 36871      /* a log read from a file: one byte more than the longest, so that a longer file is refused */
 #define SKELFORA_GRAPH_ROOM 2356     /* a graph file: 52, and 9 for each of 4 x 64 rows */
 #define SKELFORA_LISTING_ROOM 147506 /* a listing; skelfora_listing asks for no less */
+#define SKELFORA_SUMMARY_SIZE 128    /* a summary: a byte for each of 64 activities, twice */
 #define SKELFORA_MARKING_SIZE 24     /* a marking: executed, pending, included, 8 bytes each */
 #define SKELFORA_HEAD_AT 3           /* where the head of a graph stands in its file */
 #define SKELFORA_HEAD_SIZE 33        /* a head: A, then events, executed, pending, included, 8 bytes each */
 #define SKELFORA_PAIRS_ROOM 4096     /* the pairs of a relation, as 16-bit numbers; a longer list is refused */
 
-/* Mines a log and writes its graph file into the first bytes of file.
+/* Mines a log in a profile and writes its graph file into the first bytes of file.
  * Gives number + 256 * length of the file. */
-uint64_t skelfora_mine(const uint8_t *log, size_t log_len, uint8_t *file, size_t room);
+uint64_t skelfora_mine(const uint8_t *log, size_t log_len, uint8_t profile, uint8_t *file, size_t room);
 
-/* Mines a log, replays it, and writes its listing into the first bytes of out.
+/* Mines a log in a profile, replays it, and writes its listing into the first bytes of out.
  * Gives number + 256 * length of the listing. */
-uint64_t skelfora_listing(const uint8_t *log, size_t log_len, uint8_t *out, size_t room);
+uint64_t skelfora_listing(const uint8_t *log, size_t log_len, uint8_t profile, uint8_t *out, size_t room);
+
+/* Mines a log in a profile and counts its pairs: byte a of out is how many other events a is a condition for, byte 64 + a how many
+ * others it excludes; 0 and 0 for what is no event. Gives the number; the log is judged before the room. */
+uint64_t skelfora_summary(const uint8_t *log, size_t log_len, uint8_t profile, uint8_t *out, size_t room);
 
 /* Reads a graph file and writes it again into the first bytes of out.
  * Gives number + 256 * length of the file. */

@@ -11,10 +11,14 @@ from command import REFUSED, Command, Fault, Parser, say, write
 
 SAMPLE = os.path.join(program.ROOT, "data", "L.log")
 
+# The profiles that the program knows; it takes the first where none is named.
+PROFILES = ("full", "light")
+
 ABOUT = """\
 Mines a log and lists its graph: the proved program `listing` reads the log, and what it writes is printed as it is.
 
   ./list calls.log                       the listing of a file
+  ./list light calls.log                 of its light graph: without the many exclusions and inclusions of step 6
   ./list - <calls.log                    of standard input
   ./list --names calls.names calls.log   in sentences, with the steps' names (./log writes both files)
 
@@ -24,10 +28,24 @@ STATUS = "exit status: 0 listed, 1 the log is refused, 2 used wrongly, 3 somethi
 
 
 def parser():
-    words = Parser(prog="./list", description=ABOUT, epilog=STATUS)
+    words = Parser(prog="./list", usage="./list [full|light] [--names FILE] [LOG]", description=ABOUT, epilog=STATUS)
     words.add_argument("--names", metavar="FILE", help="print sentences; line k of FILE, counted from 0, is the name of activity k")
-    words.add_argument("log", metavar="LOG", nargs="?", help="a log (docs/FORMATS.md); - is standard input")
+    words.add_argument(
+        "given", metavar="[full|light] [LOG]", nargs="*", help="the profile, full where none is named; a log (docs/FORMATS.md), - is standard input"
+    )
     return words
+
+
+def meant(words, options):
+    """The profile by its word, as the program takes it, and the log, or none. A log that is called full or light is ./full or ./light."""
+    given = options.given
+    profile = given[:1] if given and given[0] in PROFILES else []
+    rest = given[len(profile) :]
+    if len(rest) > 1 and not profile:
+        words.error(f"'{rest[0]}' is neither full nor light")
+    if len(rest) > 1:
+        words.error(f"'{rest[1]}' is one log too many")
+    return profile, rest[0] if rest else None
 
 
 def nothing_to_read():
@@ -53,12 +71,15 @@ def in_words(listing, given, path, data):
 
 
 def main(words):
-    options = parser().parse_args(words)
+    reader = parser()
+    # the option may stand between the profile and the log
+    options = reader.parse_intermixed_args(words)
+    profile, log = meant(reader, options)
     if sys.stdout is None:
         raise Fault("standard output is closed")
     given = names.read(options.names) if options.names is not None else None
-    data = logfile.read(chosen(options.log))
-    listing = program.run("listing", data)
+    data = logfile.read(chosen(log))
+    listing = program.run("listing", data, profile)
     number = logfile.refusal(listing)
     if number:
         write(listing)

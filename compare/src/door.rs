@@ -1,9 +1,16 @@
-//! The nine functions of the proved library `port`, as every implementation offers them.
+//! The ten functions of the proved library `port`, as every implementation offers them.
 //! Numbers and bytes only, so that results can be compared to the byte.
 use crate::value::{Answer, PlainGraph};
 
-/// number + 256 x length; the lent buffer receives the file or the listing.
+/// number + 256 x length; the lent buffer receives the file.
 pub type Fill = fn(&[u8], &mut [u8]) -> u64;
+
+/// The same of a log, in the profile with this number (02, 3/12): 0 full, 1 light, and 12
+/// for any other. The lent buffer receives the graph file, the listing or the summary.
+pub type Mining = fn(&[u8], u8, &mut [u8]) -> u64;
+
+pub const FULL: u8 = 0;
+pub const LIGHT: u8 = 1;
 
 /// A plain graph, and a marking or a trace beside it.
 pub type OnPlain = fn(&PlainGraph, &[u8]) -> u64;
@@ -11,10 +18,12 @@ pub type OnPlain = fn(&PlainGraph, &[u8]) -> u64;
 #[derive(Clone, Copy)]
 pub struct Door {
     pub name: &'static str,
-    /// log, graph file
-    pub mine: Fill,
-    /// log, listing; the number is the log's, the text is there in either case
-    pub listing: Fill,
+    /// log, profile, graph file
+    pub mine: Mining,
+    /// log, profile, listing; the number is the log's, the text is there in either case
+    pub listing: Mining,
+    /// log, profile, summary -> number
+    pub summary: Mining,
     /// graph file, trace -> number + 256 x place + 2^32 where accepting + 2^40 x blocker
     pub replay: fn(&[u8], &[u8]) -> u64,
     /// graph file, graph file
@@ -35,6 +44,10 @@ pub struct Door {
 /// No listing is longer: four relations of 4,096 lines of 8 bytes, 1,024 lines of at
 /// most 17, and the first line.
 pub const LISTING_ROOM: usize = 4 * 4096 * 8 + 1024 * 17 + 128;
+
+/// A byte for each of 64 activities: how many others it is a condition for, then, in as many
+/// bytes more, how many others it excludes.
+pub const SUMMARY_ROOM: usize = 2 * 64;
 
 /// No graph file is longer: 52 bytes and four times 64 rows of 9.
 pub const GRAPH_ROOM: usize = 52 + 4 * 64 * 9;

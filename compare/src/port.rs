@@ -6,8 +6,27 @@ use crate::door::Door;
 #[cfg(port)]
 mod sys {
     extern "C" {
-        pub fn skelfora_mine(log: *const u8, log_len: usize, file: *mut u8, room: usize) -> u64;
-        pub fn skelfora_listing(log: *const u8, log_len: usize, out: *mut u8, room: usize) -> u64;
+        pub fn skelfora_mine(
+            log: *const u8,
+            log_len: usize,
+            profile: u8,
+            file: *mut u8,
+            room: usize,
+        ) -> u64;
+        pub fn skelfora_listing(
+            log: *const u8,
+            log_len: usize,
+            profile: u8,
+            out: *mut u8,
+            room: usize,
+        ) -> u64;
+        pub fn skelfora_summary(
+            log: *const u8,
+            log_len: usize,
+            profile: u8,
+            out: *mut u8,
+            room: usize,
+        ) -> u64;
         pub fn skelfora_replay(
             file: *const u8,
             file_len: usize,
@@ -82,12 +101,19 @@ mod calls {
     use super::sys;
     use crate::value::PlainGraph;
 
-    pub fn mine(log: &[u8], file: &mut [u8]) -> u64 {
-        unsafe { sys::skelfora_mine(log.as_ptr(), log.len(), file.as_mut_ptr(), file.len()) }
+    pub fn mine(log: &[u8], profile: u8, file: &mut [u8]) -> u64 {
+        let (lent, room) = (file.as_mut_ptr(), file.len());
+        unsafe { sys::skelfora_mine(log.as_ptr(), log.len(), profile, lent, room) }
     }
 
-    pub fn listing(log: &[u8], out: &mut [u8]) -> u64 {
-        unsafe { sys::skelfora_listing(log.as_ptr(), log.len(), out.as_mut_ptr(), out.len()) }
+    pub fn listing(log: &[u8], profile: u8, out: &mut [u8]) -> u64 {
+        let (lent, room) = (out.as_mut_ptr(), out.len());
+        unsafe { sys::skelfora_listing(log.as_ptr(), log.len(), profile, lent, room) }
+    }
+
+    pub fn summary(log: &[u8], profile: u8, out: &mut [u8]) -> u64 {
+        let (lent, room) = (out.as_mut_ptr(), out.len());
+        unsafe { sys::skelfora_summary(log.as_ptr(), log.len(), profile, lent, room) }
     }
 
     pub fn replay(file: &[u8], trace: &[u8]) -> u64 {
@@ -165,6 +191,7 @@ pub fn door() -> Option<Door> {
         name: "port",
         mine: calls::mine,
         listing: calls::listing,
+        summary: calls::summary,
         replay: calls::replay,
         rewrite: calls::rewrite,
         step: calls::step,

@@ -1,6 +1,7 @@
 //! Refusals of log and graph files and of the reader, with numbers worked out from 01.
 mod common;
 use common::*;
+use compare::door::FULL;
 use compare::seeds::{logs::borders, Prng};
 use compare::{judge, yardstick};
 
@@ -133,10 +134,10 @@ fn readings_9_and_14_keys_and_counts() {
 fn buffers_of_124_and_123_bytes() {
     for door in doors() {
         let mut enough = [3; 124];
-        assert_eq!((door.mine)(&L, &mut enough), 256 * 124, "{}", door.name);
+        assert_eq!((door.mine)(&L, FULL, &mut enough), 256 * 124, "{}", door.name);
         assert_eq!(enough[..], g_file(), "{}", door.name);
         let mut short = [3; 123];
-        assert_eq!((door.mine)(&L, &mut short), 7, "{}", door.name);
+        assert_eq!((door.mine)(&L, FULL, &mut short), 7, "{}", door.name);
         assert_eq!((door.rewrite)(&g_file(), &mut short), 7, "{}", door.name);
         assert_eq!(short, [3; 123], "{}", door.name);
     }
@@ -148,7 +149,7 @@ fn reading_16_a_set_in_bytes() {
     for door in doors() {
         let mut file = [0; 61];
         assert_eq!(
-            (door.mine)(&log(12, &[&[11]]), &mut file),
+            (door.mine)(&log(12, &[&[11]]), FULL, &mut file),
             256 * 61,
             "{}",
             door.name

@@ -1,10 +1,8 @@
-//! 01's "Calls to try" and the telling inputs of the readings on mining. Every expected
-//! line was worked out by hand from 01 and the readings.
+//! 01's "Calls to try", the light profile of 02 and the telling inputs of the readings on
+//! mining. Every expected line was worked out by hand from the documents and the readings.
 mod common;
 use common::*;
-use compare::judge::graph::{graph_of, graph_value};
-use compare::judge::listing::pair_lines;
-use compare::value::GraphValue;
+use compare::door::{FULL, LIGHT};
 use compare::{judge, yardstick};
 
 #[test]
@@ -20,7 +18,7 @@ fn l_is_listed_as_in_01() {
 fn l_gives_the_file_of_g() {
     for door in doors() {
         let mut room = vec![9; 130];
-        assert_eq!((door.mine)(&L, &mut room), 256 * 124, "{}", door.name);
+        assert_eq!((door.mine)(&L, FULL, &mut room), 256 * 124, "{}", door.name);
         assert_eq!(room[..124], g_file(), "{}", door.name);
         assert_eq!(room[124..], [9; 6], "{}", door.name);
     }
@@ -101,30 +99,66 @@ fn reading_2_redundant_excludes() {
     }
 }
 
-/// The excludes of mining without step 6, on judge and yardstick.
-fn light_excludes(bytes: &[u8]) -> [String; 2] {
-    let log = judge::log::read(bytes).expect("accepted");
-    let ours = judge::miner::mine_without_step6(&log);
-    let judged = yardstick::log::judge(bytes).expect("accepted");
-    let theirs = yardstick::miner::mine_without_step6(&judged);
-    [graph_value(&ours), theirs].map(|value: GraphValue| {
-        let text = pair_lines(&graph_of(&value).relations);
-        let kept: Vec<&str> = text.lines().filter(|line| line.starts_with('E')).collect();
-        kept.join(", ")
-    })
+/// Step 5 takes a self-exclusion of step 3 for one; steps 4 and 5 look at their own pairs.
+/// A full graph hides both.
+#[test]
+fn readings_3_and_4_in_the_light_graph() {
+    for door in doors() {
+        let light = |a: u8, traces: &[&[u8]]| {
+            let all = pairs_in(&door, &log(a, traces), LIGHT);
+            let kept: Vec<&str> = all.split(", ").filter(|p| p.starts_with('E')).collect();
+            kept.join(", ")
+        };
+        let chained = light(5, &[&[1, 2, 1, 2, 4], &[4]]);
+        assert_eq!(chained, "E 2 2, E 4 1, E 4 4", "{}", door.name);
+        let apart = light(2, &[&[0], &[1]]);
+        assert_eq!(apart, "E 0 0, E 0 1, E 1 0, E 1 1", "{}", door.name);
+        let closed = light(3, &[&[0, 0, 1], &[0, 0, 2]]);
+        assert_eq!(closed, "E 1 0, E 1 1, E 1 2, E 2 1, E 2 2", "{}", door.name);
+    }
 }
 
-/// Step 5 takes a self-exclusion of step 3 for one; steps 4 and 5 look at their own pairs.
+/// 02, 3/12: light on L has E 0 0, 1 1, 2 2 and otherwise the pairs of G.
 #[test]
-fn readings_3_and_4_without_step_6() {
-    for found in light_excludes(&log(5, &[&[1, 2, 1, 2, 4], &[4]])) {
-        assert_eq!(found, "E 2 2, E 4 1, E 4 4");
+fn l_is_listed_lightly_as_in_02() {
+    let wanted = "events 3 C 2 R 2 I 1 E 3 traces 2\nC 0 1\nC 0 2\nR 0 2\nR 1 2\nI 0 1\n\
+                  E 0 0\nE 1 1\nE 2 2\nT 0 3 0 1\nT 1 2 0 1\n";
+    for door in doors() {
+        assert_eq!(listing_in(&door, &L, LIGHT), wanted, "{}", door.name);
     }
-    for found in light_excludes(&log(2, &[&[0], &[1]])) {
-        assert_eq!(found, "E 0 0, E 0 1, E 1 0, E 1 1");
+}
+
+/// The summary of L: 0 is a condition for 1 and 2; in the full graph 2 excludes 1.
+#[test]
+fn summaries_of_l() {
+    for door in doors() {
+        for (profile, excluded) in [(FULL, 1), (LIGHT, 0)] {
+            let mut wanted = [0; 130];
+            wanted[0] = 2;
+            wanted[64 + 2] = excluded;
+            wanted[128..].fill(9);
+            let mut room = [9; 130];
+            assert_eq!((door.summary)(&L, profile, &mut room), 0, "{}", door.name);
+            assert_eq!(room, wanted, "{}", door.name);
+        }
     }
-    for found in light_excludes(&L) {
-        assert_eq!(found, "E 0 0, E 1 1, E 2 2");
+}
+
+/// 12 comes before the log is read, and changes nothing lent; a summary's log comes before 7.
+#[test]
+fn no_such_profile() {
+    for door in doors() {
+        for profile in [2, 255] {
+            let mut room = [9; 200];
+            assert_eq!((door.mine)(&[], profile, &mut room), 12, "{}", door.name);
+            assert_eq!((door.listing)(&[], profile, &mut room), 12, "{}", door.name);
+            assert_eq!((door.summary)(&[], profile, &mut room), 12, "{}", door.name);
+            assert_eq!(room, [9; 200], "{}", door.name);
+        }
+        let mut short = [9; 127];
+        assert_eq!((door.summary)(&L, FULL, &mut short), 7, "{}", door.name);
+        assert_eq!((door.summary)(&L[..18], FULL, &mut short), 1, "{}", door.name);
+        assert_eq!(short, [9; 127], "{}", door.name);
     }
 }
 
@@ -155,7 +189,7 @@ fn reading_7_the_empty_trace() {
     for door in doors() {
         for empty in [log(0, &[]), log(0, &[&[], &[]]), log(5, &[])] {
             let mut file = vec![0; 52];
-            assert_eq!((door.mine)(&empty, &mut file), 256 * 52, "{}", door.name);
+            assert_eq!((door.mine)(&empty, FULL, &mut file), 256 * 52, "{}", door.name);
             assert_eq!(
                 replay(&door, &file, &[]),
                 (0, 255, 0, true),

@@ -22,6 +22,8 @@ T 0 3 0 1
 T 1 2 0 1
 """
 
+LIGHT = LISTING.replace(b"E 4", b"E 3").replace(b"E 2 1\n", b"")
+
 # Each number that refuses a log, and a log that gets it.
 REFUSED = {
     1: L[:18],
@@ -45,6 +47,19 @@ def lists(folder):
     same(folder.run("./list", data=L), wanted, "a pipe")
     with open(folder.at("data", "L.log"), "rb") as file:
         same(folder.run("./list", stdin=file), wanted, "a file as standard input")
+
+
+@test("./list full and ./list light give the listing of that profile, of a file and of what is piped in")
+def lists_in_a_profile(folder):
+    for profile, wanted in (("full", LISTING), ("light", LIGHT)):
+        same(folder.run("./list", profile, "data/L.log"), Gave(0, wanted, ""), f"{profile}, a file")
+        same(folder.run("./list", profile, data=L), Gave(0, wanted, ""), f"{profile}, a pipe")
+        same(folder.run("./list", profile, "-", data=L[:18]).out, b"refused 1\n", f"{profile}, refused")
+    os.symlink("data/L.log", folder.at("light"))
+    same(folder.run("./list", "./light"), Gave(0, LISTING, ""), "a log that is called light")
+    for words in (["dark", "data/L.log"], ["", "data/L.log"], ["light", "full", "data/L.log"], ["data/L.log", "light"]):
+        gave = folder.run("./list", *words)
+        same((gave.status, gave.out, one_line(gave.err)), (2, b"", True), " ".join(words))
 
 
 @test("a socket as standard input is read")
@@ -124,6 +139,9 @@ def in_words(folder):
     folder.put("L.names", "Request\nInspect\nAssign\n")
     gave = folder.run("./list", "--names", "L.names", "data/L.log")
     same(gave, Gave(0, IN_WORDS.encode(), ""), "L in words")
+    light = IN_WORDS.replace("4 excludes", "3 excludes").replace("  Assign shuts Inspect out\n", "")
+    for words in (["light", "--names", "L.names", "data/L.log"], ["--names", "L.names", "light", "data/L.log"]):
+        same(folder.run("./list", *words), Gave(0, light.encode(), ""), " ".join(words))
     folder.put("few.names", "Request\nInspect\n")
     gave = folder.run("./list", "--names", "few.names", "data/L.log")
     same(gave, Gave(3, b"", "list: few.names has 2 names, and the log has 3 activities\n"), "too few names")

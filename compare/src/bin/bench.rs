@@ -6,7 +6,7 @@
 //! back an empty graph then, so `net judge` leaves out what the refusal of no bytes costs. Lent buffers are not cleared between calls. The implementations take turns,
 //! a tenth of a millisecond each, and the best turn counts: other work on the machine then
 //! disturbs both alike, and the best turns hardly at all.
-use compare::door::{Door, GRAPH_ROOM};
+use compare::door::{Door, FULL, GRAPH_ROOM, LIGHT};
 use compare::seeds::shapes::{of_size, small, SHAPES, SIZES};
 use compare::{judge, port, yardstick};
 use std::hint::black_box;
@@ -30,7 +30,7 @@ fn sample(name: &str, log: Vec<u8>) -> Sample {
     let mut bad = log.clone();
     *bad.last_mut().expect("shapes have events") = sound.a;
     let mut file = vec![0; GRAPH_ROOM];
-    let result = (yardstick::door::DOOR.mine)(&log, &mut file);
+    let result = (yardstick::door::DOOR.mine)(&log, FULL, &mut file);
     file.truncate((result / 256) as usize);
     let events = sound.traces.iter().map(Vec::len).sum();
     let name = name.to_string();
@@ -71,10 +71,11 @@ fn best(doors: &[Door], mut call: impl FnMut(&Door)) -> Vec<f64> {
     least
 }
 
-const COLUMNS: [&str; 6] = [
+const COLUMNS: [&str; 7] = [
     "judge",
     "net judge",
     "mine",
+    "light",
     "replay",
     "net replay",
     "read file",
@@ -85,18 +86,21 @@ fn less(all: &[f64], part: &[f64]) -> Vec<f64> {
 }
 
 /// For each column the figures of the implementations: judging, judging less the refusal of
-/// no bytes, mining (with judging and writing), replaying (with the file read for each
+/// no bytes, mining (with judging and writing), the same in the light profile, replaying (with the file read for each
 /// trace), replaying less the reading, in ns an event; reading in ns a file.
-fn figures(doors: &[Door], sample: &Sample) -> [Vec<f64>; 6] {
+fn figures(doors: &[Door], sample: &Sample) -> [Vec<f64>; 7] {
     let mut room = vec![0; GRAPH_ROOM];
     let judging = best(doors, |door| {
-        assert_eq!((door.mine)(black_box(&sample.bad), &mut room), 5);
+        assert_eq!((door.mine)(black_box(&sample.bad), FULL, &mut room), 5);
     });
     let refusing = best(doors, |door| {
-        assert_eq!((door.mine)(black_box(&[]), &mut room), 1);
+        assert_eq!((door.mine)(black_box(&[]), FULL, &mut room), 1);
     });
     let mining = best(doors, |door| {
-        black_box((door.mine)(black_box(&sample.log), &mut room));
+        black_box((door.mine)(black_box(&sample.log), FULL, &mut room));
+    });
+    let lightly = best(doors, |door| {
+        black_box((door.mine)(black_box(&sample.log), LIGHT, &mut room));
     });
     let replaying = best(doors, |door| {
         for trace in &sample.traces {
@@ -114,6 +118,7 @@ fn figures(doors: &[Door], sample: &Sample) -> [Vec<f64>; 6] {
         each(&judging, n),
         each(&less(&judging, &refusing), n),
         each(&mining, n),
+        each(&lightly, n),
         each(&replaying, n),
         each(&less(&replaying, &reading), n),
         each(&reading, sample.traces.len()),

@@ -1,7 +1,8 @@
-//! Logs for the listing program, with the judge's listings: `listings DIR` writes NAME.log
-//! and NAME.listing for each. The script `listings` runs the program on them.
+//! Logs for the listing program, with the judge's listings: `listings DIR` writes NAME.log,
+//! NAME.full and NAME.light for each. The script `listings` runs the program on them.
 //! The number beside a refused log is what 01 says of it; the judge has to agree.
 use compare::judge::listing::listing;
+use compare::judge::miner::Profile;
 use compare::seeds::{log_file, logs, shapes, Prng};
 use std::path::Path;
 use std::process::ExitCode;
@@ -110,12 +111,13 @@ fn main() -> ExitCode {
     let fixed = refused().into_iter().chain(long());
     let named = fixed.map(|(name, number, log)| (name.to_string(), number, log));
     for (name, number, log) in named.chain(accepted()) {
-        let wanted = listing(&log);
-        if wanted.number != number {
-            println!("{name}: 01 says {number}, the judge {}", wanted.number);
+        let [full, light] = [Profile::Full, Profile::Light].map(|p| listing(&log, p));
+        if full.number != number || light.number != number {
+            println!("{name}: 01 says {number}, the judge {}", full.number);
             return ExitCode::FAILURE;
         }
-        for (ending, bytes) in [("log", &log), ("listing", &wanted.text.into_bytes())] {
+        let (full, light) = (full.text.into_bytes(), light.text.into_bytes());
+        for (ending, bytes) in [("log", &log), ("full", &full), ("light", &light)] {
             let path = Path::new(&folder).join(format!("{name}.{ending}"));
             std::fs::write(path, bytes).expect("the folder can be written to");
         }

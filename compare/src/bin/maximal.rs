@@ -1,4 +1,5 @@
 //! The maximal log: 64 activities, 1,024 traces of 32 events. Best of 200 runs, in ns an event, with judging and writing.
+use compare::door::{Mining, FULL, LIGHT};
 use compare::{port, yardstick};
 use std::time::Instant;
 
@@ -23,12 +24,12 @@ fn maximal(in_order: bool) -> Vec<u8> {
     log
 }
 
-fn best(mine: fn(&[u8], &mut [u8]) -> u64, log: &[u8]) -> f64 {
+fn best(mine: Mining, profile: u8, log: &[u8]) -> f64 {
     let mut file = vec![0; compare::door::GRAPH_ROOM];
     let mut least = f64::MAX;
     for _ in 0..200 {
         let start = Instant::now();
-        let answer = mine(log, &mut file);
+        let answer = mine(log, profile, &mut file);
         least = least.min(start.elapsed().as_nanos() as f64);
         assert_eq!(answer % 256, 0, "the maximal log is accepted");
     }
@@ -42,13 +43,13 @@ fn main() {
     };
     for (name, in_order) in [("random", false), ("in order", true)] {
         let log = maximal(in_order);
-        let (rust, ours) = (
-            best(yardstick::door::DOOR.mine, &log),
-            best(proved.mine, &log),
-        );
-        println!(
-            "{name:9} yardstick {rust:5.2}  port {ours:5.2}  ratio {:4.2}",
-            ours / rust
-        );
+        for (profile, kind) in [(FULL, "full"), (LIGHT, "light")] {
+            let rust = best(yardstick::door::DOOR.mine, profile, &log);
+            let ours = best(proved.mine, profile, &log);
+            println!(
+                "{name:9} {kind:6} yardstick {rust:5.2}  port {ours:5.2}  ratio {:4.2}",
+                ours / rust
+            );
+        }
     }
 }

@@ -1,16 +1,36 @@
-//! The five functions of `port` on files, called on each implementation with the same bytes. Lent
+//! The six functions of `port` on files, called on each implementation with the same bytes. Lent
 //! buffers start with a pattern, so that a byte written where none should be shows.
 use super::record::{Call, Function};
 use super::{decimal, Comparison};
-use crate::door::{Fill, LISTING_ROOM};
+use crate::door::{Door, FULL, LISTING_ROOM};
 use crate::judge::door::DOOR as JUDGE;
 
 const UNTOUCHED: u8 = 165;
 
-fn call(fill: Fill, input: &[u8], room: usize) -> (u64, Vec<u8>) {
-    let mut lent = vec![UNTOUCHED; room];
-    let result = fill(input, &mut lent);
-    (result, lent)
+/// A function that fills lent bytes: what it is called in the tables and in the record, the
+/// number of the profile, or 0 where it takes none, and the call itself.
+#[derive(Clone, Copy)]
+struct Filling {
+    named: &'static str,
+    kept_as: Function,
+    profile: u8,
+    call: fn(&Door, &[u8], u8, &mut [u8]) -> u64,
+}
+
+impl Filling {
+    fn by(&self, door: &Door, input: &[u8], room: usize) -> (u64, Vec<u8>) {
+        let mut lent = vec![UNTOUCHED; room];
+        let result = (self.call)(door, input, self.profile, &mut lent);
+        (result, lent)
+    }
+}
+
+/// The name for a profile: those that there are not have a line of their own.
+fn in_profile(profile: u8, names: [&'static str; 2]) -> &'static str {
+    names
+        .get(usize::from(profile))
+        .copied()
+        .unwrap_or("no profile")
 }
 
 fn shown(result: u64, lent: &[u8]) -> String {
@@ -28,34 +48,27 @@ fn shown(result: u64, lent: &[u8]) -> String {
 
 impl Comparison {
     /// The judge's result and lent bytes, after comparing the others with them.
-    fn filled(
-        &mut self,
-        function: &'static str,
-        kept_as: Function,
-        pick: fn(&crate::door::Door) -> Fill,
-        input: &[u8],
-        room: usize,
-    ) -> (u64, Vec<u8>) {
-        let (wanted, lent) = call(pick(&JUDGE), input, room);
-        self.saw(function, wanted as u8);
+    fn filled(&mut self, filling: Filling, input: &[u8], room: usize) -> (u64, Vec<u8>) {
+        let (wanted, lent) = filling.by(&JUDGE, input, room);
+        self.saw(filling.named, wanted as u8);
         self.record.keep(&Call {
-            function: kept_as,
+            function: filling.kept_as,
             input,
             lists: None,
             beside: &[],
             room,
-            activity: 0,
+            activity: filling.profile,
             result: wanted,
             after: &lent,
         });
         for other in self.others.clone() {
-            let (result, bytes) = call(pick(&other), input, room);
+            let (result, bytes) = filling.by(&other, input, room);
             if result != wanted || bytes != lent {
-                self.differ(function, other.name, || {
+                self.differ(filling.named, other.name, || {
                     let judge = shown(wanted, &lent);
                     let theirs = shown(result, &bytes);
-                    let bytes = decimal(input);
-                    format!("input {bytes}\nroom {room}\njudge {judge}\nother {theirs}")
+                    let (bytes, profile) = (decimal(input), filling.profile);
+                    format!("input {bytes}\nprofile {profile}\nroom {room}\njudge {judge}\nother {theirs}")
                 });
             }
         }
@@ -63,30 +76,46 @@ impl Comparison {
     }
 
     /// Gives the graph file where the log is accepted.
-    pub fn mine(&mut self, log: &[u8], room: usize) -> Option<Vec<u8>> {
-        let (result, mut file) = self.filled("mine", Function::Mine, |door| door.mine, log, room);
+    pub fn mine(&mut self, log: &[u8], profile: u8, room: usize) -> Option<Vec<u8>> {
+        let filling = Filling {
+            named: in_profile(profile, ["mine", "mine, light"]),
+            kept_as: Function::Mine,
+            profile,
+            call: |door, log, profile, lent| (door.mine)(log, profile, lent),
+        };
+        let (result, mut file) = self.filled(filling, log, room);
         file.truncate((result / 256) as usize);
         (result % 256 == 0).then_some(file)
     }
 
-    pub fn listing(&mut self, log: &[u8]) {
-        self.filled(
-            "listing",
-            Function::Listing,
-            |door| door.listing,
-            log,
-            LISTING_ROOM,
-        );
+    pub fn listing(&mut self, log: &[u8], profile: u8) {
+        let filling = Filling {
+            named: in_profile(profile, ["listing", "listing, light"]),
+            kept_as: Function::Listing,
+            profile,
+            call: |door, log, profile, lent| (door.listing)(log, profile, lent),
+        };
+        self.filled(filling, log, LISTING_ROOM);
+    }
+
+    pub fn summary(&mut self, log: &[u8], profile: u8, room: usize) {
+        let filling = Filling {
+            named: in_profile(profile, ["summary", "summary"]),
+            kept_as: Function::Summary,
+            profile,
+            call: |door, log, profile, lent| (door.summary)(log, profile, lent),
+        };
+        self.filled(filling, log, room);
     }
 
     pub fn rewrite(&mut self, file: &[u8], room: usize) {
-        self.filled(
-            "rewrite",
-            Function::Rewrite,
-            |door| door.rewrite,
-            file,
-            room,
-        );
+        let filling = Filling {
+            named: "rewrite",
+            kept_as: Function::Rewrite,
+            profile: FULL,
+            call: |door, file, _, lent| (door.rewrite)(file, lent),
+        };
+        self.filled(filling, file, room);
     }
 
     pub fn replay(&mut self, file: &[u8], trace: &[u8]) {

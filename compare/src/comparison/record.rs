@@ -1,4 +1,4 @@
-//! Calls of the nine functions with the judge's results, in a file, for a caller that is
+//! Calls of the ten functions with the judge's results, in a file, for a caller that is
 //! not linked here: `caller.c` makes them again.
 use std::fs::File;
 use std::io::{BufWriter, Write};
@@ -14,6 +14,7 @@ pub enum Function {
     PlainAccepting,
     PlainReplay,
     Fill,
+    Summary,
 }
 
 pub struct Call<'a> {
@@ -26,7 +27,7 @@ pub struct Call<'a> {
     pub beside: &'a [u8],
     /// in bytes
     pub room: usize,
-    /// the activity, or the relation to fill from
+    /// the activity, the relation to fill from, or the number of the profile
     pub activity: u8,
     pub result: u64,
     /// what was lent, after the call

@@ -1,6 +1,6 @@
 //! Which inputs are tried: some sets of logs once, then rounds of seeded ones.
 use super::{plain_rounds, Comparison};
-use crate::door::GRAPH_ROOM;
+use crate::door::{FULL, GRAPH_ROOM, LIGHT, SUMMARY_ROOM};
 use crate::seeds::{damage, graphs, logs, shapes, Prng};
 use crate::{judge, seeds};
 
@@ -54,15 +54,14 @@ pub fn round(comparison: &mut Comparison, seed: u64) {
 
 fn on_log(comparison: &mut Comparison, prng: &mut Prng, kind: &'static str, log: &[u8]) {
     comparison.input(kind);
-    comparison.listing(log);
-    comparison.mine_light(log);
+    on_profiles(comparison, prng, log);
     on_reader(comparison, prng, log);
-    let Some(file) = comparison.mine(log, GRAPH_ROOM) else {
+    let Some(file) = comparison.mine(log, FULL, GRAPH_ROOM) else {
         return;
     };
     if log.len() < 400 {
         let room = prng.one_of(&[0, 51, file.len() - 1, file.len()]);
-        comparison.mine(log, room);
+        comparison.mine(log, prng.one_of(&[FULL, LIGHT]), room);
     }
     let sound = judge::log::read(log).expect("accepted above");
     for trace in sound.traces.iter().take(4) {
@@ -76,10 +75,26 @@ fn on_log(comparison: &mut Comparison, prng: &mut Prng, kind: &'static str, log:
 
 fn on_damaged_log(comparison: &mut Comparison, prng: &mut Prng, log: &[u8]) {
     comparison.input("log: damaged");
-    comparison.mine(log, GRAPH_ROOM);
-    comparison.listing(log);
-    comparison.mine_light(log);
+    comparison.mine(log, FULL, GRAPH_ROOM);
+    on_profiles(comparison, prng, log);
     on_reader(comparison, prng, log);
+}
+
+/// All that there is of a log in either profile but the full graph, and one call in a profile
+/// that there is not, on which the log has no say.
+fn on_profiles(comparison: &mut Comparison, prng: &mut Prng, log: &[u8]) {
+    comparison.listing(log, FULL);
+    comparison.listing(log, LIGHT);
+    comparison.mine(log, LIGHT, GRAPH_ROOM);
+    let room = prng.one_of(&[0, SUMMARY_ROOM - 1, SUMMARY_ROOM, SUMMARY_ROOM + 3]);
+    comparison.summary(log, FULL, room);
+    comparison.summary(log, LIGHT, SUMMARY_ROOM);
+    let none = prng.one_of(&[2, 3, 12, 128, 255]);
+    match prng.below(3) {
+        0 => drop(comparison.mine(log, none, room)),
+        1 => comparison.listing(log, none),
+        _ => comparison.summary(log, none, room),
+    }
 }
 
 /// The first reader starts where a reader does; another may have been put together by hand.

@@ -27,15 +27,6 @@ impl Comparison {
     }
 
     /// Mining as a value, without step 6; the doors show mining with it.
-    pub fn mine_light(&mut self, log: &[u8]) {
-        let read = judge::log::read(log);
-        let wanted = read.map(|log| graph_value(&judge::miner::mine_without_step6(&log)));
-        let judged = yardstick::log::judge(log);
-        let got = judged.map(|log| yardstick::miner::mine_without_step6(&log));
-        self.saw("mine, no step 6", number(&wanted));
-        self.same("mine, no step 6", &wanted, &got, || decimal(log));
-    }
-
     pub fn value_read(&mut self, file: &[u8]) {
         let wanted = judge::graph_file::read(file).map(|graph| graph_value(&graph));
         let got = yardstick::graph_file::read(file);

@@ -1,16 +1,18 @@
-//! The judge behind the nine functions of `port`.
+//! The judge behind the ten functions of `port`.
 use super::engine::{accepting, execute, replay as replay_graph};
 use super::graph::Graph;
 use super::graph_file::{self, read_marking, set_bytes};
 use super::listing::listing as list;
-use super::{log, miner, plain};
-use crate::door::{filled, replayed, stepped, verdict, written, Door};
+use super::miner::{mine as mine_log, Profile};
+use super::{log, plain, summary};
+use crate::door::{filled, replayed, stepped, verdict, written, Door, SUMMARY_ROOM};
 use crate::value::{Answer, PlainGraph};
 
 pub const DOOR: Door = Door {
     name: "judge",
     mine,
     listing,
+    summary: summarize,
     replay,
     rewrite,
     step,
@@ -20,12 +22,39 @@ pub const DOOR: Door = Door {
     fill,
 };
 
-fn mine(bytes: &[u8], file: &mut [u8]) -> u64 {
-    written(log::read(bytes).and_then(|log| graph_file::write(&miner::mine(&log), file)))
+/// A profile that there is not is refused before the log is read.
+fn mine(bytes: &[u8], profile: u8, file: &mut [u8]) -> u64 {
+    let profile = match Profile::numbered(profile) {
+        Err(number) => return filled(number, 0),
+        Ok(profile) => profile,
+    };
+    let read = log::read(bytes);
+    written(read.and_then(|log| graph_file::write(&mine_log(&log, profile), file)))
 }
 
-fn listing(bytes: &[u8], out: &mut [u8]) -> u64 {
-    let listed = list(bytes);
+fn summarize(bytes: &[u8], profile: u8, out: &mut [u8]) -> u64 {
+    let log = match Profile::numbered(profile).and_then(|p| Ok((p, log::read(bytes)?))) {
+        Err(number) => return filled(number, 0),
+        Ok(log) => log,
+    };
+    if out.len() < SUMMARY_ROOM {
+        return 7;
+    }
+    let graph = mine_log(&log.1, log.0);
+    for a in 0..64 {
+        let counts = summary::counts(&graph, a);
+        out[usize::from(a)] = counts.conditions;
+        out[64 + usize::from(a)] = counts.excludes;
+    }
+    0
+}
+
+fn listing(bytes: &[u8], profile: u8, out: &mut [u8]) -> u64 {
+    let profile = match Profile::numbered(profile) {
+        Err(number) => return filled(number, 0),
+        Ok(profile) => profile,
+    };
+    let listed = list(bytes, profile);
     let text = listed.text.as_bytes();
     out[..text.len()].copy_from_slice(text);
     filled(listed.number, text.len())

@@ -2,7 +2,7 @@
 use super::engine::replay;
 use super::graph::Graph;
 use super::log::{self, Log};
-use super::miner::mine;
+use super::miner::{mine, Profile};
 use super::Relations;
 
 pub struct Listing {
@@ -10,7 +10,7 @@ pub struct Listing {
     pub text: String,
 }
 
-pub fn listing(bytes: &[u8]) -> Listing {
+pub fn listing(bytes: &[u8], profile: Profile) -> Listing {
     match log::read(bytes) {
         Err(number) => Listing {
             number,
@@ -18,7 +18,7 @@ pub fn listing(bytes: &[u8]) -> Listing {
         },
         Ok(log) => Listing {
             number: 0,
-            text: lines(&log, &mine(&log)),
+            text: lines(&log, &mine(&log, profile)),
         },
     }
 }

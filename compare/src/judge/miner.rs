@@ -5,16 +5,35 @@ use super::log::Log;
 use super::steps::{Step, ALL};
 use super::{Relations, Set};
 
-pub fn mine(log: &Log) -> Graph {
-    mine_by(log, &ALL)
+/// 02, 3/12: how much is mined.
+#[derive(Clone, Copy, PartialEq, Eq, Debug)]
+pub enum Profile {
+    Full,
+    Light,
 }
 
-/// Without step 6. In the full graph step 6 covers what steps 1, 3, 4 and 5 exclude, so a
-/// slip there can only be seen here.
-pub fn mine_without_step6(log: &Log) -> Graph {
-    let mut steps = ALL.to_vec();
-    steps.remove(5);
-    mine_by(log, &steps)
+impl Profile {
+    /// The light profile skips step 6.
+    pub fn steps(self) -> Vec<Step> {
+        let mut steps = ALL.to_vec();
+        if self == Profile::Light {
+            steps.remove(5);
+        }
+        steps
+    }
+
+    /// As `port` has it: 0 full, 1 light. Any other number is refused with 12.
+    pub fn numbered(number: u8) -> Result<Profile, u8> {
+        match number {
+            0 => Ok(Profile::Full),
+            1 => Ok(Profile::Light),
+            _ => Err(12),
+        }
+    }
+}
+
+pub fn mine(log: &Log, profile: Profile) -> Graph {
+    mine_by(log, &profile.steps())
 }
 
 pub fn mine_by(log: &Log, steps: &[Step]) -> Graph {

@@ -1,4 +1,4 @@
-//! The judge: document 01 written down as literally as Rust allows. Sets of numbers, sets
+//! The judge: documents 01 and 02 written down as literally as Rust allows. Sets of numbers, sets
 //! of pairs, plain loops. Clarity decides, speed does not; nothing here is shared with the
 //! yardstick.
 use std::collections::BTreeSet;
@@ -13,6 +13,7 @@ pub mod log;
 pub mod miner;
 pub mod plain;
 pub mod steps;
+pub mod summary;
 
 /// A set of activities.
 pub type Set = BTreeSet<u8>;

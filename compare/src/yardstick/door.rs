@@ -1,13 +1,15 @@
-//! The yardstick behind the nine functions of `port`.
+//! The yardstick behind the ten functions of `port`.
 use super::graph_file::{marking_at, read_into, write_judged};
+use super::rows::transposed;
 use super::{engine, listing as lister, log, miner, plain};
-use crate::door::{filled, replayed, stepped, verdict, written, Door};
+use crate::door::{filled, replayed, stepped, verdict, written, Door, LIGHT, SUMMARY_ROOM};
 use crate::value::{Answer, GraphValue, MarkingValue, PlainGraph};
 
 pub const DOOR: Door = Door {
     name: "yardstick",
     mine,
     listing,
+    summary,
     replay,
     rewrite,
     step,
@@ -17,13 +19,40 @@ pub const DOOR: Door = Door {
     fill,
 };
 
-fn mine(bytes: &[u8], file: &mut [u8]) -> u64 {
-    written(log::judge(bytes).and_then(|log| write_judged(&miner::mine(&log), file)))
+fn mine(bytes: &[u8], profile: u8, file: &mut [u8]) -> u64 {
+    if profile > LIGHT {
+        return 12;
+    }
+    written(log::judge(bytes).and_then(|log| write_judged(&miner::mine_in(&log, profile), file)))
 }
 
-fn listing(bytes: &[u8], out: &mut [u8]) -> u64 {
-    let (number, length) = lister::listing(bytes, out);
+fn listing(bytes: &[u8], profile: u8, out: &mut [u8]) -> u64 {
+    if profile > LIGHT {
+        return 12;
+    }
+    let (number, length) = lister::listing(bytes, profile, out);
     filled(number, length)
+}
+
+fn summary(bytes: &[u8], profile: u8, out: &mut [u8]) -> u64 {
+    if profile > LIGHT {
+        return 12;
+    }
+    let log = match log::judge(bytes) {
+        Err(number) => return u64::from(number),
+        Ok(log) => log,
+    };
+    if out.len() < SUMMARY_ROOM {
+        return 7;
+    }
+    let graph = miner::mine_in(&log, profile);
+    let conditions = transposed(&graph.conditions);
+    for a in 0..64 {
+        let others = !(1u64 << a);
+        out[a] = (conditions[a] & others).count_ones() as u8;
+        out[64 + a] = (graph.excludes[a] & others).count_ones() as u8;
+    }
+    0
 }
 
 fn replay(file: &[u8], trace: &[u8]) -> u64 {

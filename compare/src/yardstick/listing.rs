@@ -1,7 +1,7 @@
 //! The listing, written straight into the lent bytes.
 use super::engine::replay_judged;
 use super::log::{judge, Log};
-use super::miner::mine;
+use super::miner::mine_in;
 use super::rows::{count, transposed, Bits};
 use crate::value::{GraphValue, Rows};
 
@@ -41,7 +41,7 @@ impl Page<'_> {
 }
 
 /// The log's number and the text's length. The lent bytes must have room for any listing.
-pub fn listing(bytes: &[u8], lent: &mut [u8]) -> (u8, usize) {
+pub fn listing(bytes: &[u8], profile: u8, lent: &mut [u8]) -> (u8, usize) {
     let mut page = Page { lent, length: 0 };
     match judge(bytes) {
         Err(number) => {
@@ -51,7 +51,7 @@ pub fn listing(bytes: &[u8], lent: &mut [u8]) -> (u8, usize) {
             (number, page.length)
         }
         Ok(log) => {
-            list(&log, &mine(&log), &mut page);
+            list(&log, &mine_in(&log, profile), &mut page);
             (0, page.length)
         }
     }

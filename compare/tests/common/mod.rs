@@ -1,6 +1,6 @@
 //! What the tests share: log L and its graph's file as 01 gives them, and short calls.
 #![allow(dead_code)]
-use compare::door::{Door, GRAPH_ROOM, LISTING_ROOM};
+use compare::door::{Door, FULL, GRAPH_ROOM, LISTING_ROOM};
 use compare::seeds::log_file;
 use compare::{judge, port, yardstick};
 
@@ -43,14 +43,22 @@ pub fn log(a: u8, traces: &[&[u8]]) -> Vec<u8> {
 }
 
 pub fn listing(door: &Door, log: &[u8]) -> String {
+    listing_in(door, log, FULL)
+}
+
+pub fn listing_in(door: &Door, log: &[u8], profile: u8) -> String {
     let mut out = vec![0; LISTING_ROOM];
-    let length = (door.listing)(log, &mut out) / 256;
+    let length = (door.listing)(log, profile, &mut out) / 256;
     String::from_utf8(out[..length as usize].to_vec()).expect("text")
 }
 
 /// The pairs of the listing, "C 0 1, R 0 2" and so on.
 pub fn pairs(door: &Door, log: &[u8]) -> String {
-    let text = listing(door, log);
+    pairs_in(door, log, FULL)
+}
+
+pub fn pairs_in(door: &Door, log: &[u8], profile: u8) -> String {
+    let text = listing_in(door, log, profile);
     let lines: Vec<&str> = text
         .lines()
         .skip(1)
@@ -75,7 +83,7 @@ pub fn has(door: &Door, log: &[u8], pair: &str) -> bool {
 
 /// The number of mining into a buffer with room for any graph.
 pub fn mined_number(door: &Door, log: &[u8]) -> u64 {
-    (door.mine)(log, &mut vec![0; GRAPH_ROOM]) % 256
+    (door.mine)(log, FULL, &mut vec![0; GRAPH_ROOM]) % 256
 }
 
 /// number, blocker, place, accepting

@@ -1,22 +1,27 @@
 //! Wrong versions of the mining steps, tried on the logs of the comparison's rounds.
 use super::wrong_steps::*;
 use super::{all_found, SEEDS};
+use compare::door::{self, Door, GRAPH_ROOM};
 use compare::judge::facts::{gather, Facts};
 use compare::judge::log;
+use compare::judge::graph_file;
 use compare::judge::miner::relations_by;
 use compare::judge::steps::{Step, ALL};
+use compare::judge::Relations;
 use compare::seeds::{logs, Prng};
+use compare::{judge, port, yardstick};
 
-/// Facts of the logs that the comparison's rounds make.
-fn each_log(mut look: impl FnMut(&Facts) -> bool) -> Option<u64> {
+/// The logs that the comparison's rounds make, and their facts.
+fn each_log(mut look: impl FnMut(&[u8], &Facts) -> bool) -> Option<u64> {
     let mut count = 0;
     for seed in 0..SEEDS {
         let mut prng = Prng::new(seed);
         for (_, of_a_kind, make) in logs::KINDS {
             for _ in 0..of_a_kind {
                 count += 1;
-                let log = log::read(&make(&mut prng)).expect("sound kinds");
-                if look(&gather(&log)) {
+                let bytes = make(&mut prng);
+                let log = log::read(&bytes).expect("sound kinds");
+                if look(&bytes, &gather(&log)) {
                     return Some(count);
                 }
             }
@@ -36,10 +41,10 @@ fn with(number: usize, mutant: Step, light: bool) -> Vec<Step> {
 }
 
 /// The first log on which the mutant gives other relations.
-fn found(number: usize, mutant: Step, light: bool) -> Option<u64> {
-    let right = with(number, ALL[number - 1], light);
-    let wrong = with(number, mutant, light);
-    each_log(|facts| relations_by(facts, &right) != relations_by(facts, &wrong))
+fn found(number: usize, mutant: Step) -> Option<u64> {
+    let right = ALL;
+    let wrong = with(number, mutant, false);
+    each_log(|_, facts| relations_by(facts, &right) != relations_by(facts, &wrong))
 }
 
 const FULL: [(&str, usize, Step); 20] = [
@@ -87,7 +92,7 @@ const FULL: [(&str, usize, Step); 20] = [
 fn found_in_the_full_graph() {
     all_found(
         FULL.iter()
-            .map(|&(name, n, step)| (name, found(n, step, false)))
+            .map(|&(name, n, step)| (name, found(n, step)))
             .collect(),
     );
 }
@@ -108,20 +113,36 @@ const LIGHT: [(&str, usize, Step); 7] = [
     ("step 5, s may exclude itself", 5, step5_any_s),
 ];
 
-#[test]
-fn found_without_step_6() {
-    all_found(
-        LIGHT
-            .iter()
-            .map(|&(name, n, step)| (name, found(n, step, true)))
-            .collect(),
-    );
+/// The relations of the light graph that a door writes into a file.
+fn light_by(door: &Door, bytes: &[u8]) -> Relations {
+    let mut file = vec![0; GRAPH_ROOM];
+    let length = (door.mine)(bytes, door::LIGHT, &mut file) / 256;
+    let graph = graph_file::read(&file[..length as usize]).expect("a file that was written");
+    graph.relations
 }
 
-/// Why the comparison mines without step 6 too: with it, none of these ever shows.
+/// Each is told apart from every implementation, by the light graph that it gives: judge,
+/// yardstick, and the proved code where it is linked.
+#[test]
+fn found_in_the_light_graph() {
+    let mut doors = vec![judge::door::DOOR, yardstick::door::DOOR];
+    doors.extend(port::door());
+    for door in doors {
+        let told = |&(name, n, step): &(&'static str, usize, Step)| {
+            let wrong = with(n, step, true);
+            let differs = |bytes: &[u8], facts: &Facts| {
+                light_by(&door, bytes) != relations_by(facts, &wrong)
+            };
+            (name, each_log(differs))
+        };
+        all_found(LIGHT.iter().map(told).collect());
+    }
+}
+
+/// Why the comparison mines lightly too: with step 6, none of these ever shows.
 #[test]
 fn hidden_in_the_full_graph() {
-    let shown = each_log(|facts| {
+    let shown = each_log(|_, facts| {
         let right = relations_by(facts, &ALL);
         let same = |&(_, n, step): &(&str, usize, Step)| {
             relations_by(facts, &with(n, step, false)) == right

@@ -6,6 +6,7 @@ use engine::Graph;
 use engine::Head;
 use engine::Relations;
 use engine::graph::KINDS;
+use rules::Profile;
 use sets::Activity;
 use sets::Set;
 use sets::activity::WIDTH;
@@ -63,7 +64,7 @@ pub fn rewrite(file: &[u8]) {
 
 // The graph of a log, and whether its file is the one expected.
 pub fn mine<'a>(log: &'a [u8], file: &'a [u8]) {
-    let m = miner::mine(log);
+    let m = miner::mine(log, Profile::Full);
     let answer = m.answer;
     let g = m.graph;
     text::answer(b": ", answer);

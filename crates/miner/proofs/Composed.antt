@@ -1,5 +1,5 @@
 -- What the calls of a stage of mining ensure, put together. Assumes nothing.
-use mathlib.Core.Path.{_≡_, ap, ap₂, _∙_}
+use mathlib.Core.Path.{_≡_, sym, ap, ap₂, _∙_}
 use mathlib.Core.List.{List, []}
 use Prim.Native.Nat.{ℕ}
 use Rattle.sets.specs.Members.{those}
@@ -10,14 +10,16 @@ use Rattle.engine.specs.Markings.{openingOf}
 use Rattle.engine.specs.Relations.{relationCount, headOf, graphOf}
 use Rattle.engine.specs.declared.marking.Marking.{Marking}
 use Rattle.engine.specs.declared.graph.Graph.{Graph}
+use Rattle.rules.specs.declared.Profile.{Profile}
+use Rattle.rules.specs.declared.Profile.the-variants.{Full, Light}
 use Rattle.rules.specs.Traces.{Traces, _has_, someTrace}
 use Rattle.rules.specs.Mining.{event}
-use Rattle.steps.specs.Rowwise.{reducedOf, waited}
+use Rattle.steps.specs.Rowwise.{inEither, reducedOf, waited}
 use Rattle.tally.specs.Passes.{gains, forward, through}
 use Rattle.tally.specs.Tallies.{tableCount, noted}
 use Rattle.miner.specs.Facts.{letIn, beforeFirst, missed}
-use Rattle.miner.specs.Stages.{conditionsOf, chainsOf, responsesOf, neverOf, fiveFrom, sevenFrom, sevenOf, includesFrom, includesOf}
-use Rattle.miner.specs.Stages.{waitedOf, fourTables, graphRead, graphFound}
+use Rattle.miner.specs.Stages.{conditionsOf, chainsOf, responsesOf, neverOf, fiveFrom, sevenFrom, includesFrom}
+use Rattle.miner.specs.Stages.{waitedOf, fourTables, tablesAfterSix, tablesRead, graphFound}
 
 -- steps 3 and 6, of the includes
 pub includes-by : (L : Traces) (chains never three r : List ℕ) → three ≡ rowsOf (turned chains)
@@ -46,34 +48,44 @@ tables-by c r i x o₁ o₂ o₃ o₄ h₁ h₂ h₃ h₄ =
     h₄
     ∙ ap (λ (o : List ℕ). withTable o 3 x) (h₃ ∙ ap (λ (o : List ℕ). withTable o 2 i) (h₂ ∙ ap (λ (o : List ℕ). withTable o 1 r) h₁))
 
--- the graph, from the tally, stage by stage
-module _ (A : ℕ) (L : Traces) (events : Set) (tally : List ℕ) (opening : Marking)
-    (chains never five excludes includes two eight conditions answering responses found : List ℕ)
-    (hc : chains ≡ chainsOf events tally) (hn : never ≡ neverOf events tally) (hf : five ≡ fiveFrom events tally chains)
-    (hx : excludes ≡ sevenFrom events tally five never) (hi : includes ≡ includesFrom chains never L)
-    (hw : two ≡ conditionsOf events tally) (he : eight ≡ rowsFor events (reducedOf two)) (hd : conditions
-    ≡ waitedOf events eight includes excludes L)
-    (ha : answering ≡ responsesOf events tally) (hr : responses ≡ rowsFor events (reducedOf answering))
-    (hq : found ≡ fourTables conditions responses includes excludes) (ho : opening ≡ openingOf events) where
-  the-excludes : excludes ≡ sevenOf events tally
-  the-excludes = hx ∙ (λ i. sevenFrom events tally ((hf ∙ ap (fiveFrom events tally) hc) i) (hn i))
+-- steps 7 to 10
+pub after-by : (L : Traces) (events : Set) (tally includes six excludes two eight conditions answering responses r : List ℕ)
+    → excludes ≡ sevenFrom events tally six → two ≡ conditionsOf events tally → eight ≡ rowsFor events (reducedOf two)
+    → conditions ≡ waitedOf events eight includes excludes L
+    → answering ≡ responsesOf events tally → responses ≡ rowsFor events (reducedOf answering)
+    → r ≡ fourTables conditions responses includes excludes → r ≡ tablesAfterSix L events tally includes six
+after-by L events tally includes six excludes two eight conditions answering responses r hx hw he hd ha hr h =
+    h
+    ∙ (λ i.
+    fourTables ((hd ∙ (λ j. waitedOf events ((he ∙ ap (λ (x : List ℕ). rowsFor events (reducedOf x)) hw) j) includes (hx j) L)) i)
+    ((hr ∙ ap (λ (x : List ℕ). rowsFor events (reducedOf x)) ha) i) includes (hx i))
 
-  the-includes : includes ≡ includesOf events tally L
-  the-includes = hi ∙ (λ i. includesFrom (hc i) (hn i) L)
+-- with step 6, and without it
+module _ (L : Traces) (events : Set) (tally chains five includes r : List ℕ) (hc : chains ≡ chainsOf events tally) (hf : five
+    ≡ fiveFrom events tally chains) where
+  the-five : five ≡ fiveFrom events tally (chainsOf events tally)
+  the-five = hf ∙ ap (fiveFrom events tally) hc
 
-  the-eight : eight ≡ rowsFor events (reducedOf (conditionsOf events tally))
-  the-eight = he ∙ ap (λ (r : List ℕ). rowsFor events (reducedOf r)) hw
+  pub full-by : (p : Profile) (never six : List ℕ) → p ≡ Full → never ≡ neverOf events tally → six ≡ rowsFor events (inEither five never)
+      → includes ≡ includesFrom chains never L → r ≡ tablesAfterSix L events tally includes six → r ≡ tablesRead L events tally p
+  full-by p never six e hn hs hi h =
+      h
+      ∙ (λ i. tablesAfterSix L events tally ((hi ∙ (λ j. includesFrom (hc j) (hn j) L)) i)
+      ((hs ∙ (λ j. rowsFor events (inEither (the-five j) (hn j)))) i))
+      ∙ ap (tablesRead L events tally) (sym e)
 
-  pub read-by : graphOf (headOf A events opening) found ≡ graphRead A L events tally
-  read-by =
-      (λ i. graphOf (headOf A events (ho i)) (hq i))
-      ∙ (λ i.
-      graphOf (headOf A events (openingOf events))
-      (fourTables ((hd ∙ (λ j. waitedOf events (the-eight j) (the-includes j) (the-excludes j) L)) i)
-      ((hr ∙ ap (λ (r : List ℕ). rowsFor events (reducedOf r)) ha) i) (the-includes i) (the-excludes i)))
+  pub light-by : (p : Profile) → p ≡ Light → includes ≡ rowsOf (turned chains) → r ≡ tablesAfterSix L events tally includes five
+      → r ≡ tablesRead L events tally p
+  light-by p e hi h =
+      h
+      ∙ (λ i. tablesAfterSix L events tally ((hi ∙ ap (λ (x : List ℕ). rowsOf (turned x)) hc) i) (the-five i))
+      ∙ ap (tablesRead L events tally) (sym e)
 
 -- from the tally of the traces
-pub found-by : (A : ℕ) (L : Traces) (none tally : List ℕ) (events : Set) (r : Graph) → none ≡ noTables tableCount
-    → events ≡ those (λ x. someTrace L (λ σ. σ has x)) → tally ≡ through noted none L → r ≡ graphRead A L events tally → r ≡ graphFound A L
+pub found-by : (A : ℕ) (L : Traces) (p : Profile) (none tally r : List ℕ) (events : Set) (opening : Marking) → none ≡ noTables tableCount
+    → events ≡ those (λ x. someTrace L (λ σ. σ has x)) → tally ≡ through noted none L → r ≡ tablesRead L events tally p
+    → opening ≡ openingOf events → graphOf (headOf A events opening) r ≡ graphFound A L p
 unfolding graphFound event
-found-by A L none tally events r h₀ hv ht h = h ∙ (λ i. graphRead A L (hv i) ((ht ∙ ap (λ (x : List ℕ). through noted x L) h₀) i))
+found-by A L p none tally r events opening h₀ hv ht h ho =
+    λ i. graphOf (headOf A (hv i) ((ho ∙ ap openingOf hv) i))
+    ((h ∙ (λ j. tablesRead L (hv j) ((ht ∙ ap (λ (x : List ℕ). through noted x L) h₀) j) p)) i)

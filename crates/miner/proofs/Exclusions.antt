@@ -1,4 +1,5 @@
--- The excludes that are read from the tally of a log are the rules', after five steps, after six and after seven. Assumes nothing.
+-- The excludes that are read from the tally of a log are the rules', after five steps, after six or without the sixth, and after seven.
+-- Assumes nothing.
 use mathlib.Core.Path.{_≡_, refl, sym, ap, ap₂, _∙_}
 use mathlib.Core.Bool.{Bool, true, false}
 use mathlib.Core.List.{List}
@@ -14,15 +15,17 @@ use Rattle.sets.proofs.Below.{some-ext}
 use Rattle.sets.proofs.Members.{mem-those}
 use Rattle.sets.proofs.RowLaws.{in-rowsOf, rowsOf-ext}
 use Rattle.engine.specs.Relations.{Relations}
+use Rattle.rules.specs.declared.Profile.{Profile}
+use Rattle.rules.specs.declared.Profile.the-variants.{Full, Light}
 use Rattle.rules.specs.Traces.{Traces}
 use Rattle.rules.specs.Mining.{noPair, noRelations, smallestSource, event, someEvent, _with_, _without_, before, followed, alternates}
 use Rattle.rules.specs.Mining.{atMostOnce, together, directlyBefore, neverTogether, closes, step1, step2, step3, step4, step5, step6, step7}
-use Rattle.rules.specs.Mining.{afterFive, afterSeven}
+use Rattle.rules.specs.Mining.{afterFive, afterSix, afterSeven}
 use Rattle.steps.specs.Rowwise.{excludesItself, smallest, apart, closing, excluders, absent, inEither, notRedundant}
 use Rattle.tally.specs.Tallies.{tallied}
 use Rattle.tally.proofs.Tallying.{before-table, later-table, unalternated-table, followed-table}
 use Rattle.tally.proofs.LogLaws.{once, together-before}
-use Rattle.miner.specs.Stages.{chainsOf, neverOf, fiveFrom, sevenOf}
+use Rattle.miner.specs.Stages.{chainsOf, neverOf, fiveOf, excludesSix, sevenFrom}
 use Rattle.miner.proofs.RowReadings.{absent-rows, united-rows, smallest-read}
 use Rattle.miner.proofs.EarlySteps.{events, chains-read}
 
@@ -199,7 +202,7 @@ module _ (L : Traces) where
       by true e = five-read t lt e s ls ∙ sym (excludes-after-five s t)
       by false e = no-event s t e
 
-  pub excludes-five : fiveFrom (events L) (tallied L) (chainsOf (events L) (tallied L)) ≡ rowsOf (afterFive L .excludes)
+  pub excludes-five : fiveOf (events L) (tallied L) ≡ rowsOf (afterFive L .excludes)
   unfolding turned rowsFor
   excludes-five =
       (λ i. rowsOf (turned (rowsFor (events L) (excluders (events L) (before-table L i) (later-table L i) (chains-read L i)))))
@@ -210,27 +213,31 @@ module _ (L : Traces) where
   pub never-read : neverOf (events L) (tallied L) ≡ rowsOf (λ s t. event L s and (event L t and non (followed L s t)))
   never-read = ap (λ (rows : List ℕ). rowsFor (events L) (absent (events L) rows)) (followed-table L) ∙ absent-rows (event L) (followed L)
 
-  excludes-six : rowsFor (events L) (inEither (fiveFrom (events L) (tallied L) (chainsOf (events L) (tallied L)))
-      (neverOf (events L) (tallied L)))
-      ≡ rowsOf (step6 L (afterFive L) .excludes)
-  unfolding afterFive step6 step5 _with_
-  excludes-six =
+  pub excludes-six : (p : Profile) → excludesSix p (events L) (tallied L) ≡ rowsOf (afterSix L p .excludes)
+  unfolding afterSix afterFive step6 step5 _with_
+  excludes-six Full =
       ap₂ (λ (x y : List ℕ). rowsFor (events L) (inEither x y)) excludes-five never-read
       ∙ united-rows (event L) (afterFive L .excludes) (λ s t. event L s and (event L t and non (followed L s t)))
       ∙ rowsOf-ext _ _ (λ s t ls lt. one-more (event L s) (event L t) (afterFive L .excludes s t) (non (followed L s t))
       (with-events (afterFour L .excludes) (smallestSource (closes L (afterFour L))) s t))
+  excludes-six Light = excludes-five
 
-  pub excludes-seven : sevenOf (events L) (tallied L) ≡ rowsOf (afterSeven L .excludes)
-  unfolding afterSeven step7 _without_ notRedundant rowsFor someEvent step6
-  excludes-seven =
-      (λ i. rowsFor (events L) (notRedundant (events L) (excludes-six i) (unalternated-table L i)))
+  six-events : (p : Profile) (s t : ℕ) → afterSix L p .excludes s t ≡ (event L s and event L t and afterSix L p .excludes s t)
+  unfolding afterSix afterFive step6 step5
+  six-events Full s t = with-events (afterFive L .excludes) (λ x y. non (followed L x y)) s t
+  six-events Light s t = with-events (afterFour L .excludes) (smallestSource (closes L (afterFour L))) s t
+
+  pub excludes-seven : (p : Profile) → sevenFrom (events L) (tallied L) (excludesSix p (events L) (tallied L)) ≡ rowsOf (afterSeven L p .excludes)
+  unfolding afterSeven step7 _without_ notRedundant rowsFor someEvent
+  excludes-seven p =
+      (λ i. rowsFor (events L) (notRedundant (events L) (excludes-six p i) (unalternated-table L i)))
       ∙ rowsOf-ext _ _
       (λ s t ls lt.
       ap₂ _and_ (mem-those (event L) s ls)
       (ap₂ (λ (x y : Bool). x and non y) (in-rowsOf (six .excludes) s t ls lt)
       (some-ext width _ (λ u. event L u and (six .excludes u t and alternates L u s))
       (λ u lu. simp (mem-those, in-rowsOf, non-non) (and-assoc (event L u) (six .excludes u t) (alternates L u s)))))
-      ∙ first-too (event L s) (event L t) (six .excludes s t) _ (with-events (afterFive L .excludes) (λ x y. non (followed L x y)) s t))
+      ∙ first-too (event L s) (event L t) (six .excludes s t) _ (six-events p s t))
     where
       six : Relations
-      six = step6 L (afterFive L)
+      six = afterSix L p

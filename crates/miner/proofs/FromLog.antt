@@ -15,10 +15,11 @@ use Rattle.engine.specs.declared.graph.Graph.{Graph}
 use Rattle.calllog.specs.declared.judge.Judged.{Judged}
 use Rattle.calllog.specs.Logs.{logOf, judgedOf}
 use Rattle.calllog.proofs.Traces.{part-trace}
+use Rattle.rules.specs.declared.Profile.{Profile}
 use Rattle.rules.specs.Traces.{Traces}
 use Rattle.rules.specs.Mined.{minedGraph}
+use Rattle.rules.proofs.Acceptable.{small}
 use Rattle.rules.proofs.FromFile.{file-accepted}
-use Rattle.rules.proofs.InTurn.{Small}
 use Rattle.tally.specs.Passes.{walked}
 use Rattle.miner.specs.Stages.{graphFound}
 use Rattle.miner.specs.Mine.{minedOf}
@@ -28,10 +29,6 @@ use Rattle.miner.proofs.PairForPair.{pair-for-pair}
 module _ (bytes : List ℕ) where
   abbrev L : Traces
   L = logOf bytes .traces
-
-  -- the activities of a log are below the width
-  pub small : Small L
-  small σ m a h = let w = file-accepted bytes in omega (arith, w .members σ m a h, w .activities)
 
   -- a walk passes the traces
   walk-from : (n k : ℕ) → k + n ≡ length L → walked bytes n k ≡ drop k L
@@ -45,33 +42,33 @@ module _ (bytes : List ℕ) where
   walk-all = walk-from (length L) 0 (omega arith)
 
 -- the two ways of the code
-module _ (bytes : List ℕ) (j : Judged) (r : Bool) (hj : j ≡ judgedOf bytes) (hr : r ≡ isDone (j .answer)) where
+module _ (bytes : List ℕ) (p : Profile) (j : Judged) (r : Bool) (hj : j ≡ judgedOf bytes) (hr : r ≡ isDone (j .answer)) where
   the-answer : j .answer ≡ logOf bytes .answer
   the-answer = ap (λ (x : Judged). x .answer) hj
 
   pub mine-refused : (g : Graph) → not r ≡ true → g ≡ emptyGraph
-      → _≡_ {A = Mined} (record { answer = j .answer; graph = g }) (minedOf bytes)
+      → _≡_ {A = Mined} (record { answer = j .answer; graph = g }) (minedOf bytes p)
   unfolding minedOf
   mine-refused g n hg =
       let no-graph : isDone (logOf bytes .answer) ≡ false = ap isDone (sym the-answer) ∙ sym hr ∙ not-true r n in
       λ i. record {
         answer = the-answer i;
-        graph = (hg ∙ sym (ap (λ (t : Bool). when t then minedGraph (logOf bytes .activities) (logOf bytes .traces) else emptyGraph)
+        graph = (hg ∙ sym (ap (λ (t : Bool). when t then minedGraph (logOf bytes .activities) (logOf bytes .traces) p else emptyGraph)
             no-graph)) i;
       }
 
-  pub mine-done : (g : Graph) → not r ≡ false → g ≡ graphFound (j .activities) (walked bytes (j .traces) 0)
-      → _≡_ {A = Mined} (record { answer = j .answer; graph = g }) (minedOf bytes)
+  pub mine-done : (g : Graph) → not r ≡ false → g ≡ graphFound (j .activities) (walked bytes (j .traces) 0) p
+      → _≡_ {A = Mined} (record { answer = j .answer; graph = g }) (minedOf bytes p)
   unfolding minedOf
   mine-done g n hg =
       let some-graph : isDone (logOf bytes .answer) ≡ true = ap isDone (sym the-answer) ∙ sym hr ∙ not-false r n in
       let read =
       hg
-      ∙ ap (λ (x : Judged). graphFound (x .activities) (walked bytes (x .traces) 0)) hj
-      ∙ ap (graphFound (logOf bytes .activities)) (walk-all bytes)
-      ∙ pair-for-pair (logOf bytes .traces) (small bytes) (logOf bytes .activities) in
+      ∙ ap (λ (x : Judged). graphFound (x .activities) (walked bytes (x .traces) 0) p) hj
+      ∙ ap (λ (L : Traces). graphFound (logOf bytes .activities) L p) (walk-all bytes)
+      ∙ pair-for-pair (logOf bytes .traces) (small _ _ (file-accepted bytes)) p (logOf bytes .activities) in
       λ i. record {
         answer = the-answer i;
-        graph = (read ∙ sym (ap (λ (t : Bool). when t then minedGraph (logOf bytes .activities) (logOf bytes .traces) else emptyGraph)
+        graph = (read ∙ sym (ap (λ (t : Bool). when t then minedGraph (logOf bytes .activities) (logOf bytes .traces) p else emptyGraph)
             some-graph)) i;
       }

@@ -1,6 +1,6 @@
 -- Steps 8 to 10 on rows, and the mined relations as they are put together from a tally and from what the later passes find. Assumes
 -- nothing.
-use mathlib.Core.Path.{_≡_, sym, ap, ap₂, _∙_}
+use mathlib.Core.Path.{_≡_, refl, sym, ap, ap₂, _∙_}
 use mathlib.Core.Bool.{Bool}
 use mathlib.Core.List.{List}
 use Prim.Native.Nat.{ℕ}
@@ -14,14 +14,16 @@ use Rattle.sets.proofs.Below.{some-e, some-ext}
 use Rattle.sets.proofs.Members.{mem-those}
 use Rattle.sets.proofs.RowLaws.{in-rowsOf, rowsOf-ext}
 use Rattle.engine.specs.Relations.{Relations}
+use Rattle.rules.specs.declared.Profile.{Profile}
+use Rattle.rules.specs.declared.Profile.the-variants.{Full, Light}
 use Rattle.rules.specs.Traces.{Traces}
 use Rattle.rules.specs.Mining.{event, someEvent, _with_, _without_, followed, between, beforeFirst, neverMissed, directlyBefore}
 use Rattle.rules.specs.Mining.{noRelations, reduced, step1, step2, step3, step4, step5, step6, step7, step8, step9, step10, afterFive}
-use Rattle.rules.specs.Mining.{afterSeven, afterEight, mined}
+use Rattle.rules.specs.Mining.{afterSix, afterSeven, afterEight, mined}
 use Rattle.steps.specs.Rowwise.{reducedOf, waited}
 use Rattle.tally.specs.Tallies.{tallied}
 use Rattle.tally.proofs.LogLaws.{middle-event, later-event}
-use Rattle.miner.specs.Stages.{conditionsOf, responsesOf, sevenOf}
+use Rattle.miner.specs.Stages.{conditionsOf, responsesOf, excludesSix, sevenFrom}
 use Rattle.miner.proofs.RowReadings.{reduced-rows}
 use Rattle.miner.proofs.EarlySteps.{events, conditions-read, responses-read}
 use Rattle.miner.proofs.Exclusions.{among, first-too, with-events, excludes-seven}
@@ -91,29 +93,49 @@ module _ (L : Traces) where
 
   -- ---- the mined relations
 
-  pub responses-mined : rowsFor (events L) (reducedOf (responsesOf (events L) (tallied L))) ≡ rowsOf (mined L .responses)
-  unfolding mined step10 step9 afterEight step8 afterSeven step7 step6 afterFive step5 step4 step3 step2
-  responses-mined =
+  -- step 6, made or skipped, leaves the conditions and responses of step 2
+  responses-six : (p : Profile) → afterSix L p .responses ≡ afterFive L .responses
+  unfolding afterSix step6
+  responses-six Full = refl
+  responses-six Light = refl
+
+  conditions-six : (p : Profile) → afterSix L p .conditions ≡ afterFive L .conditions
+  unfolding afterSix step6
+  conditions-six Full = refl
+  conditions-six Light = refl
+
+  responses-five : rowsFor (events L) (reducedOf (responsesOf (events L) (tallied L))) ≡ rowsOf (reduced L (afterFive L .responses))
+  unfolding afterFive step5 step4 step3 step2
+  responses-five =
       ap (λ (rows : List ℕ). rowsFor (events L) (reducedOf rows)) (responses-read L)
       ∙ reduced-by-source (afterFive L .responses) (with-events L _ _)
 
-  pub conditions-eight : rowsFor (events L) (reducedOf (conditionsOf (events L) (tallied L))) ≡ rowsOf (λ t s. afterEight L .conditions s t)
-  unfolding afterEight step8 afterSeven step7 step6 afterFive step5 step4 step3 step2
-  conditions-eight =
+  pub responses-mined : (p : Profile) → rowsFor (events L) (reducedOf (responsesOf (events L) (tallied L))) ≡ rowsOf (mined L p .responses)
+  unfolding mined step10 step9 afterEight step8 afterSeven step7
+  responses-mined p = responses-five ∙ sym (ap (λ (r : Relation). rowsOf (reduced L r)) (responses-six p))
+
+  conditions-five : rowsFor (events L) (reducedOf (conditionsOf (events L) (tallied L))) ≡ rowsOf (λ t s. reduced L (afterFive L .conditions) s t)
+  unfolding afterFive step5 step4 step3 step2
+  conditions-five =
       ap (λ (rows : List ℕ). rowsFor (events L) (reducedOf rows)) (conditions-read L)
       ∙ reduced-by-target (afterFive L .conditions) (with-events L _ _)
 
+  pub conditions-eight : (p : Profile)
+      → rowsFor (events L) (reducedOf (conditionsOf (events L) (tallied L))) ≡ rowsOf (λ t s. afterEight L p .conditions s t)
+  unfolding afterEight step8 afterSeven step7
+  conditions-eight p = conditions-five ∙ sym (ap (λ (r : Relation). rowsOf (λ t s. reduced L r s t)) (conditions-six p))
+
   -- from what the pass of step 9 finds
-  pub conditions-mined : (first unmet : List ℕ) → first ≡ rowsOf (λ t s. beforeFirst L s t) → unmet
-      ≡ rowsOf (λ t s. non (neverMissed L (afterEight L) s t))
+  pub conditions-mined : (p : Profile) (first unmet : List ℕ) → first ≡ rowsOf (λ t s. beforeFirst L s t)
+      → unmet ≡ rowsOf (λ t s. non (neverMissed L (afterEight L p) s t))
       → rowsFor (events L) (reducedOf (rowsFor (events L)
       (waited (events L) (rowsFor (events L) (reducedOf (conditionsOf (events L) (tallied L)))) first unmet)))
-      ≡ rowsOf (λ t s. mined L .conditions s t)
+      ≡ rowsOf (λ t s. mined L p .conditions s t)
   unfolding mined step10 step9
-  conditions-mined first unmet hf hu =
+  conditions-mined p first unmet hf hu =
       ap (λ (rows : List ℕ). rowsFor (events L) (reducedOf rows))
-      ((λ i. rowsFor (events L) (waited (events L) (conditions-eight i) (hf i) (hu i))) ∙ waited-read (afterEight L))
-      ∙ reduced-by-target (step9 L (afterEight L) .conditions) (with-events L _ _)
+      ((λ i. rowsFor (events L) (waited (events L) (conditions-eight p i) (hf i) (hu i))) ∙ waited-read (afterEight L p))
+      ∙ reduced-by-target (step9 L (afterEight L p) .conditions) (with-events L _ _)
 
   -- what step 6 adds: each u that stands between an s and a later t, where no s is directly followed by t
   abbrev pub betweens : Relation
@@ -127,12 +149,12 @@ module _ (L : Traces) where
           → T (between L (some-e width (λ s. event L s and (non (followed L s t) and between L s u t)) h .0) u t)
       at h = and-r _ _ (and-r _ _ (some-e width (λ s. event L s and (non (followed L s t) and between L s u t)) h .2))
 
-  pub includes-mined : rowsOf (λ u t. afterFive L .includes u t or betweens u t) ≡ rowsOf (mined L .includes)
-  unfolding mined step10 step9 afterEight step8 afterSeven step7 step6 afterFive step5 step4 step3 _with_
-  includes-mined =
+  pub includes-full : rowsOf (λ u t. afterFive L .includes u t or betweens u t) ≡ rowsOf (afterSix L Full .includes)
+  unfolding afterSix step6 afterFive step5 step4 step3 _with_
+  includes-full =
       rowsOf-ext _ _ (λ u t lu lt. joined (event L u) (event L t) (afterFive L .includes u t) (betweens u t)
       (with-events L (step2 L (step1 L noRelations) .includes) (directlyBefore L) u t) (betweens-events u t))
 
-  pub excludes-mined : sevenOf (events L) (tallied L) ≡ rowsOf (mined L .excludes)
+  pub excludes-mined : (p : Profile) → sevenFrom (events L) (tallied L) (excludesSix p (events L) (tallied L)) ≡ rowsOf (mined L p .excludes)
   unfolding mined step10 step9 afterEight step8
-  excludes-mined = excludes-seven L
+  excludes-mined p = excludes-seven L p

@@ -15,7 +15,8 @@ use Rattle.engine.specs.Relations.{Relations}
 use Rattle.rules.specs.Traces.{Traces, _has_, atSomeFrom, atSome, someTrace}
 use Rattle.rules.specs.Mining.{event, someEvent, followed, between, includedAfter, neverMissed, beforeFirst as rule-beforeFirst}
 use Rattle.rules.proofs.Places.{some-at, has-past, some-of, some-trace}
-use Rattle.rules.proofs.InTurn.{Small}
+use Rattle.rules.proofs.Why.{Small}
+use Rattle.rules.proofs.InTurn.{is-event}
 use Rattle.miner.specs.Facts.{letIn, beforeFirst, stillIncluded, missed}
 use Rattle.tally.proofs.Folds.{heard}
 use Rattle.tally.proofs.Heard.{non-every}
@@ -120,6 +121,6 @@ module _ (L : Traces) where
         (λ past rest. non (past has s or non (includedAfter L g past s)))
         (λ past rest m.
         ap (λ (b : Bool). non (past has s) and b)
-        (still-is past (λ a h. small (reverseAux past (t ∷ rest)) m a (has-past a past (t ∷ rest) h)))
+        (still-is past (λ a h. small a (is-event L a m (has-past a past (t ∷ rest) h))))
         ∙ waits (past has s) (includedAfter L g past s))
         ∙ sym (non-every t (λ past rest. past has s or non (includedAfter L g past s)) L)

@@ -1,5 +1,5 @@
--- DEMAND 2, of the miner: the graph that is read from the tally and the traces of a log is, pair for pair, the one that the rules give.
--- Assumes nothing of the log but that its activities are below the width, which acceptance gives.
+-- DEMAND 2, of the miner: the graph that is read from the tally and the traces of a log is, pair for pair, the one that the rules give in
+-- either profile. Assumes nothing of the log but that its activities are below the width, which acceptance gives.
 use mathlib.Core.Path.{_≡_, refl, ap, ap₂, _∙_}
 use mathlib.Core.Bool.{Bool, false}
 use mathlib.Core.List.{List, []}
@@ -14,19 +14,21 @@ use Rattle.sets.proofs.RowLaws.{rowsOf-ext}
 use Rattle.sets.proofs.TableLaws.{tablesOf-ext, empty-tablesOf, fill-tablesOf}
 use Rattle.engine.specs.Relations.{Relations, relationCount, headOf, graphOf, kept, tablesFrom}
 use Rattle.engine.specs.Markings.{openingOf}
+use Rattle.rules.specs.declared.Profile.{Profile}
+use Rattle.rules.specs.declared.Profile.the-variants.{Full, Light}
 use Rattle.rules.specs.Traces.{Traces}
-use Rattle.rules.specs.Mining.{beforeFirst as ruleBeforeFirst, neverMissed, step9, step10, afterFive, afterEight, mined}
+use Rattle.rules.specs.Mining.{beforeFirst as ruleBeforeFirst, neverMissed, step7, step8, step9, step10, afterFive, afterSix, afterSeven, afterEight, mined}
 use Rattle.rules.specs.Mined.{graphFrom, minedGraph}
-use Rattle.rules.proofs.InTurn.{Small}
+use Rattle.rules.proofs.Why.{Small}
 use Rattle.tally.specs.Passes.{Fact, gains, forward, through}
 use Rattle.tally.specs.Tallies.{tallied}
 use Rattle.tally.proofs.Folds.{heard, forward-rowsOf, through-rowsOf, through-all}
 use Rattle.miner.specs.Facts.{letIn, beforeFirst, missed}
-use Rattle.miner.specs.Stages.{includesOf, sevenOf, fourTables, graphFound}
+use Rattle.miner.specs.Stages.{includesSix, excludesSix, sevenFrom, fourTables, graphFound}
 use Rattle.miner.proofs.RowReadings.{turned-rows}
 use Rattle.miner.proofs.EarlySteps.{events, chains-read}
 use Rattle.miner.proofs.Exclusions.{never-read}
-use Rattle.miner.proofs.LaterSteps.{betweens, responses-mined, conditions-mined, includes-mined, excludes-mined}
+use Rattle.miner.proofs.LaterSteps.{betweens, responses-mined, conditions-mined, includes-full, excludes-mined}
 use Rattle.miner.proofs.OverLog.{neverFollowing, let-in-is, before-first-is, missed-is}
 
 -- the tables of four relations, put in one after the other
@@ -62,34 +64,40 @@ module _ (L : Traces) where
   walk-is p R e = through-all p (λ r σ. forward (gains p) r [] σ) (λ r σ. forward-rowsOf p r [] σ) L ∙ rowsOf-ext (heard p L) R e
 
   -- the walk of step 6 starts from the includes of step 3
-  includes-are : includesOf (events L) (tallied L) L ≡ rowsOf (mined L .includes)
-  includes-are =
+  includes-six : (p : Profile) → includesSix p (events L) (tallied L) L ≡ rowsOf (afterSix L p .includes)
+  unfolding afterSix
+  includes-six Full =
       (λ i. through (λ r σ. forward (gains (letIn (never-read L i))) r [] σ) (rowsOf (turned (chains-read L i))) L)
       ∙ ap (λ (rows : List ℕ). through (λ r σ. forward (gains (letIn (neverFollowing L))) r [] σ) rows L)
       (turned-rows (λ t s. afterFive L .includes s t))
       ∙ through-rowsOf (letIn (neverFollowing L)) _ (λ r σ. forward-rowsOf (letIn (neverFollowing L)) r [] σ) (afterFive L .includes) L
       ∙ rowsOf-ext _ _ (λ u t lu lt. ap (λ (b : Bool). afterFive L .includes u t or b) (let-in-is L u t lt))
-      ∙ includes-mined L
+      ∙ includes-full L
+  includes-six Light = ap (λ (rows : List ℕ). rowsOf (turned rows)) (chains-read L) ∙ turned-rows (λ t s. afterFive L .includes s t)
 
-  module _ (small : Small L) where
+  includes-are : (p : Profile) → includesSix p (events L) (tallied L) L ≡ rowsOf (mined L p .includes)
+  unfolding mined step10 step9 afterEight step8 afterSeven step7
+  includes-are p = includes-six p
+
+  module _ (small : Small L) (p : Profile) where
     -- the replay of step 9 goes by the includes and excludes after step 7, which no later step changes
-    missed-are : through (λ r σ. forward
-        (gains (missed (events L) (rowsOf (mined L .includes)) (rowsOf (mined L .excludes)))) r [] σ) noRows L
-        ≡ rowsOf (λ t s. non (neverMissed L (afterEight L) s t))
+    missed-are : through (λ r σ. forward (gains (missed (events L) (rowsOf (mined L p .includes)) (rowsOf (mined L p .excludes)))) r [] σ)
+        noRows L
+        ≡ rowsOf (λ t s. non (neverMissed L (afterEight L p) s t))
     unfolding mined step10 step9
     missed-are =
-        walk-is (missed (events L) (rowsOf (afterEight L .includes)) (rowsOf (afterEight L .excludes)))
-        (λ t s. non (neverMissed L (afterEight L) s t))
-        (λ t s lt ls. missed-is L (afterEight L) s ls small t)
+        walk-is (missed (events L) (rowsOf (afterEight L p .includes)) (rowsOf (afterEight L p .excludes)))
+        (λ t s. non (neverMissed L (afterEight L p) s t))
+        (λ t s lt ls. missed-is L (afterEight L p) s ls small t)
 
-    pub pair-for-pair : (A : ℕ) → graphFound A L ≡ minedGraph A L
+    pub pair-for-pair : (A : ℕ) → graphFound A L p ≡ minedGraph A L p
     unfolding graphFound minedGraph graphFrom
     pair-for-pair A =
         let conditions-are =
-        conditions-mined L _ _ (walk-is beforeFirst (λ t s. ruleBeforeFirst L s t) (λ t s lt ls. before-first-is L s t))
-        (ap₂ (λ (x y : List ℕ). through (λ r σ. forward (gains (missed (events L) x y)) r [] σ) noRows L) includes-are
-        (excludes-mined L) ∙ missed-are) in
+        conditions-mined L p _ _ (walk-is beforeFirst (λ t s. ruleBeforeFirst L s t) (λ t s lt ls. before-first-is L s t))
+        (ap₂ (λ (x y : List ℕ). through (λ r σ. forward (gains (missed (events L) x y)) r [] σ) noRows L) (includes-are p)
+        (excludes-mined L p) ∙ missed-are) in
         (λ i.
         graphOf (headOf A (events L) (openingOf (events L)))
-        (fourTables (conditions-are i) (responses-mined L i) (includes-are i) (excludes-mined L i)))
-        ∙ ap (graphOf (headOf A (events L) (openingOf (events L)))) (four-tables (mined L))
+        (fourTables (conditions-are i) (responses-mined L p i) (includes-are p i) (excludes-mined L p i)))
+        ∙ ap (graphOf (headOf A (events L) (openingOf (events L)))) (four-tables (mined L p))

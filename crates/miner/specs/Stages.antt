@@ -9,6 +9,8 @@ use Rattle.sets.specs.declared.set.Set.{Set}
 use Rattle.engine.specs.Markings.{openingOf}
 use Rattle.engine.specs.Relations.{relationCount, headOf, graphOf}
 use Rattle.engine.specs.declared.graph.Graph.{Graph}
+use Rattle.rules.specs.declared.Profile.{Profile}
+use Rattle.rules.specs.declared.Profile.the-variants.{Full, Light}
 use Rattle.rules.specs.Traces.{Traces}
 use Rattle.rules.specs.Mining.{event}
 use Rattle.steps.specs.Rowwise.{unbroken, absent, excluders, inEither, notRedundant, reducedOf, waited}
@@ -36,20 +38,25 @@ abbrev pub fiveFrom : Set → List ℕ → List ℕ → List ℕ
 fiveFrom events tally chains = rowsOf (turned
     (rowsFor events (excluders events (tableAt tally beforeTable) (tableAt tally laterTable) chains)))
 
--- the excludes after steps 6 and 7, from those after step 5 and what never directly follows
-abbrev pub sevenFrom : Set → List ℕ → List ℕ → List ℕ → List ℕ
-sevenFrom events tally five never = rowsFor events
-    (notRedundant events (rowsFor events (inEither five never)) (tableAt tally unalternatedTable))
-
-abbrev pub sevenOf : Set → List ℕ → List ℕ
-sevenOf events tally = sevenFrom events tally (fiveFrom events tally (chainsOf events tally)) (neverOf events tally)
+abbrev pub fiveOf : Set → List ℕ → List ℕ
+fiveOf events tally = fiveFrom events tally (chainsOf events tally)
 
 -- the includes of steps 3 and 6, from the chains by target and what never directly follows
 abbrev pub includesFrom : List ℕ → List ℕ → Traces → List ℕ
 includesFrom chains never L = through (λ r σ. forward (gains (letIn never)) r [] σ) (rowsOf (turned chains)) L
 
-abbrev pub includesOf : Set → List ℕ → Traces → List ℕ
-includesOf events tally L = includesFrom (chainsOf events tally) (neverOf events tally) L
+-- includes and excludes after step 6, which the light profile skips
+abbrev pub includesSix : Profile → Set → List ℕ → Traces → List ℕ
+includesSix Full events tally L = includesFrom (chainsOf events tally) (neverOf events tally) L
+includesSix Light events tally L = rowsOf (turned (chainsOf events tally))
+
+abbrev pub excludesSix : Profile → Set → List ℕ → List ℕ
+excludesSix Full events tally = rowsFor events (inEither (fiveOf events tally) (neverOf events tally))
+excludesSix Light events tally = fiveOf events tally
+
+-- the excludes after step 7
+abbrev pub sevenFrom : Set → List ℕ → List ℕ → List ℕ
+sevenFrom events tally six = rowsFor events (notRedundant events six (tableAt tally unalternatedTable))
 
 -- the conditions of steps 9 and 10, from those after step 8
 abbrev pub waitedOf : Set → List ℕ → List ℕ → List ℕ → Traces → List ℕ
@@ -64,15 +71,18 @@ waitedOf events eight includes excludes L =
 abbrev pub fourTables : List ℕ → List ℕ → List ℕ → List ℕ → List ℕ
 fourTables c r i x = withTable (withTable (withTable (withTable (noTables relationCount) 0 c) 1 r) 2 i) 3 x
 
--- the graph, from the events, the tally and the traces
-abbrev pub graphRead : ℕ → Traces → Set → List ℕ → Graph
-graphRead A L events tally =
-    graphOf (headOf A events (openingOf events))
-    (fourTables
-    (waitedOf events (rowsFor events (reducedOf (conditionsOf events tally))) (includesOf events tally L) (sevenOf events tally) L)
+-- the tables after step 10, from the events, the tally, the traces, and the includes and excludes after step 6
+abbrev pub tablesAfterSix : Traces → Set → List ℕ → List ℕ → List ℕ → List ℕ
+tablesAfterSix L events tally includes six =
+    fourTables
+    (waitedOf events (rowsFor events (reducedOf (conditionsOf events tally))) includes (sevenFrom events tally six) L)
     (rowsFor events (reducedOf (responsesOf events tally)))
-    (includesOf events tally L)
-    (sevenOf events tally))
+    includes
+    (sevenFrom events tally six)
 
-unfoldable pub graphFound : ℕ → Traces → Graph
-graphFound A L = graphRead A L (those (event L)) (tallied L)
+abbrev pub tablesRead : Traces → Set → List ℕ → Profile → List ℕ
+tablesRead L events tally p = tablesAfterSix L events tally (includesSix p events tally L) (excludesSix p events tally)
+
+-- the graph, from the traces
+unfoldable pub graphFound : ℕ → Traces → Profile → Graph
+graphFound A L p = graphOf (headOf A (those (event L)) (openingOf (those (event L)))) (tablesRead L (those (event L)) (tallied L) p)

@@ -1,7 +1,7 @@
 // The miner: from the bytes of a log to its graph.
 ghost use mathlib.Core.Path.{_≡_};
 ghost use Rattle.tally.specs.Passes.{walked};
-ghost use Rattle.miner.specs.Stages.{fiveFrom, sevenFrom, fourTables, graphRead, graphFound};
+ghost use Rattle.miner.specs.Stages.{fiveFrom, fourTables, tablesAfterSix, tablesRead, graphFound};
 ghost use Rattle.miner.specs.Mine.{minedOf};
 use crate::conditions;
 use crate::includes;
@@ -14,6 +14,7 @@ use engine::graph::EXCLUDES;
 use engine::graph::INCLUDES;
 use engine::graph::KINDS;
 use engine::graph::RESPONSES;
+use rules::Profile;
 use sets::Answer;
 use sets::Rows;
 use sets::Set;
@@ -39,14 +40,6 @@ fn excludes_five<'a>(events: Set, tally: &'a Tally, chains: &'a Rows) -> Rows
     rows::turned(&excluded)
 }
 
-// The excludes after steps 6 and 7, from those after step 5 and what never directly follows.
-fn excludes_seven<'a>(events: Set, tally: &'a Tally, five: &'a Rows, never: &'a Rows) -> Rows
-    ensures { λ r. ⌜ r ≡ sevenFrom events (now (tally .entry)) (now (five .entry)) (now (never .entry)) ⌝ }
-{
-    let six = relations::united(events, five, never);
-    relations::not_redundant(events, &six, tally, log::UNALTERNATED)
-}
-
 // The tables of a graph, from the rows of its relations.
 fn relations_of<'a>(
     conditions: &'a Rows,
@@ -64,34 +57,61 @@ fn relations_of<'a>(
     out
 }
 
-// The graph that a tally gives, with the traces that it is of: steps 6 and 9 ask them once more.
-fn graph_read<'a>(
+// Steps 7 to 10, from the includes and excludes after step 6. Step 9 asks the traces once more.
+fn tables_after_six<'a>(
     bytes: &'a [u8],
-    activities: u8,
     traces: usize,
     events: Set,
     tally: &'a Tally,
-) -> Graph
-    ensures { λ r. ⌜ r ≡ graphRead activities (walked (now (bytes .entry)) traces 0) events (now (tally .entry)) ⌝ }
+    includes: &'a Rows,
+    six: &'a Rows,
+) -> Relations
+    ensures { λ r. ⌜ r ≡ tablesAfterSix (walked (now (bytes .entry)) traces 0) events (now (tally .entry)) (now (includes .entry))
+        (now (six .entry)) ⌝ }
 {
-    let chains = relations::unbroken(events, tally, log::UNCHAINED);
-    let never = relations::absent(events, tally, log::FOLLOWED);
-    let five = excludes_five(events, tally, &chains);
-    let excludes = excludes_seven(events, tally, &five, &never);
-    let includes = includes::includes_six(bytes, traces, &chains, &never);
+    let excludes = relations::not_redundant(events, six, tally, log::UNALTERNATED);
     let two = relations::unbroken(events, tally, log::UNPRECEDED);
     let eight = reduce::reduced(events, &two);
-    let conditions = conditions::conditions_ten(
-        bytes,
-        traces,
-        events,
-        &eight,
-        &includes,
-        &excludes,
-    );
+    let conditions = conditions::conditions_ten(bytes, traces, events, &eight, includes, &excludes);
     let answering = relations::unbroken(events, tally, log::UNANSWERED);
     let responses = reduce::reduced(events, &answering);
-    let found = relations_of(&conditions, &responses, &includes, &excludes);
+    relations_of(&conditions, &responses, includes, &excludes)
+}
+
+// The tables that a tally gives, with the traces that it is of. Step 6 asks the traces once more; the light profile leaves it out (02,
+// 3/12).
+fn tables_read<'a>(
+    bytes: &'a [u8],
+    traces: usize,
+    events: Set,
+    tally: &'a Tally,
+    profile: Profile,
+) -> Relations
+    ensures { λ r. ⌜ r ≡ tablesRead (walked (now (bytes .entry)) traces 0) events (now (tally .entry)) profile ⌝ }
+{
+    let chains = relations::unbroken(events, tally, log::UNCHAINED);
+    let five = excludes_five(events, tally, &chains);
+    match profile {
+        Profile::Full => {
+            let never = relations::absent(events, tally, log::FOLLOWED);
+            let six = relations::united(events, &five, &never);
+            let includes = includes::includes_six(bytes, traces, &chains, &never);
+            tables_after_six(bytes, traces, events, tally, &includes, &six)
+        }
+        Profile::Light => {
+            let includes = rows::turned(&chains);
+            tables_after_six(bytes, traces, events, tally, &includes, &five)
+        }
+    }
+}
+
+// The graph of a log's first traces.
+fn graph_found(bytes: &[u8], activities: u8, traces: usize, profile: Profile) -> Graph
+    ensures { λ r. ⌜ r ≡ graphFound activities (walked (now (bytes .entry)) traces 0) profile ⌝ }
+{
+    let mut tally = log::empty();
+    let events = log::note_traces(bytes, traces, &mut tally);
+    let found = tables_read(bytes, traces, events, &tally, profile);
     Graph {
         head: Head {
             activities,
@@ -102,18 +122,9 @@ fn graph_read<'a>(
     }
 }
 
-// The graph of a log's first traces.
-fn graph_found(bytes: &[u8], activities: u8, traces: usize) -> Graph
-    ensures { λ r. ⌜ r ≡ graphFound activities (walked (now (bytes .entry)) traces 0) ⌝ }
-{
-    let mut tally = log::empty();
-    let events = log::note_traces(bytes, traces, &mut tally);
-    graph_read(bytes, activities, traces, events, &tally)
-}
-
-// The graph of a log.
-pub fn mine(log: &[u8]) -> Mined
-    ensures { λ r. ⌜ r ≡ minedOf (now (log .entry)) ⌝ }
+// The graph of a log, with all ten steps or without the sixth.
+pub fn mine(log: &[u8], profile: Profile) -> Mined
+    ensures { λ r. ⌜ r ≡ minedOf (now (log .entry)) profile ⌝ }
 {
     let judged = calllog::judge::judge_log(log);
     let answer = judged.answer;
@@ -123,6 +134,6 @@ pub fn mine(log: &[u8]) -> Mined
             graph: Graph::empty(),
         };
     }
-    let graph = graph_found(log, judged.activities, judged.traces);
+    let graph = graph_found(log, judged.activities, judged.traces, profile);
     Mined { answer, graph }
 }

@@ -4,13 +4,13 @@ use mathlib.Core.Bool.{Bool, true, false, not}
 use mathlib.Core.List.{List}
 use Prim.Native.Nat.{ℕ, _+_, _*_, _%_, _^_, _≤_, _<_}
 use native.Mathlib.Omega.{arith}
-use borrow.Author.Tests.{not-true, not-false, lt-ltb, le-ltb}
-use lib.Dec.{ltb}
+use borrow.Author.Tests.{not-true, not-false, eq-eqb, ne-eqb, lt-ltb, le-ltb}
+use lib.Dec.{eqb, ltb}
 use lib.ListN.{length}
 use Rattle.sets.specs.Tests.{non, when_then_else_}
 use Rattle.sets.specs.Answers.{numberOf, blockerOf, isDone}
 use Rattle.sets.specs.declared.answer.Answer.{Answer}
-use Rattle.sets.specs.declared.answer.Answer.the-variants.{Done, AboveLimit, BufferTooSmall}
+use Rattle.sets.specs.declared.answer.Answer.the-variants.{Done, AboveLimit, BufferTooSmall, WrongArgument}
 use Rattle.sets.specs.Sizes.{longestTrace}
 use Rattle.sets.proofs.Asking.{gone-on}
 use Rattle.engine.specs.Relations.{relationsOf, emptyGraph}
@@ -29,9 +29,12 @@ use Rattle.graphfile.specs.Writing.{writtenOf, fileAfter}
 use Rattle.graphfile.specs.declared.reader.Reading.{Reading}
 use Rattle.graphfile.specs.declared.writer.Written.{Written}
 use Rattle.graphfile.specs.Markings.{markingFrom, markingInto}
+use Rattle.rules.specs.declared.Profile.{Profile}
+use Rattle.rules.specs.declared.Profile.the-variants.{Full, Light}
 use Rattle.miner.specs.declared.mining.Mined.{Mined}
 use Rattle.report.specs.declared.writer.Listed.{Listed}
-use Rattle.port.specs.Port.{packedOf, verdictOf, blockedOf, stepNumber, storedOf, putNumber, putBuffer, replayNumber, refusedStep, stepOf, stepBytes}
+use Rattle.port.specs.Port.{packedOf, verdictOf, blockedOf, stepNumber, storedOf, putNumber, putBuffer, profileOf, inProfile, inProfileBuffer}
+use Rattle.port.specs.Port.{replayNumber, refusedStep, stepOf, stepBytes}
 
 pub packed-is : (a : Answer) (n low : ℕ) → low ≡ numberOf a → low + 256 * (n % 16777216) ≡ packedOf a n
 unfolding packedOf
@@ -100,6 +103,37 @@ pub ruleset carrying = (mined-number, mined-buffer, read-number, read-buffer)
 
 pub listing-number : (m m′ : Listed) (n : ℕ) → m ≡ m′ → n ≡ packedOf (m .answer) (m .length) → n ≡ packedOf (m′ .answer) (m′ .length)
 listing-number m m′ n e h = h ∙ ap (λ (x : Listed). packedOf (x .answer) (x .length)) e
+
+-- ---- a profile by its number
+
+pub the-full : (n : ℕ) → n ≡ 0 → Full ≡ profileOf n
+the-full n e = sym (ap (λ (b : Bool). when b then Full else Light) (eq-eqb n 0 e))
+
+pub the-light : (n : ℕ) → (n ≡ 0 → ⊥) → Light ≡ profileOf n
+the-light n e = sym (ap (λ (b : Bool). when b then Full else Light) (ne-eqb n 0 e))
+
+pub no-profile : (n r : ℕ) (f : Profile → ℕ) → 1 < n → r ≡ packedOf WrongArgument 0 → r ≡ inProfile n f
+unfolding inProfile
+no-profile n r f l h = h ∙ sym (ap (λ (b : Bool). when b then packedOf WrongArgument 0 else f (profileOf n)) (lt-ltb 1 n l))
+
+pub no-change : (n : ℕ) (f : Profile → List ℕ → List ℕ) (out : List ℕ) → 1 < n → out ≡ inProfileBuffer n f out
+unfolding inProfileBuffer
+no-change n f out l = sym (ap (λ (b : Bool). when b then out else f (profileOf n) out) (lt-ltb 1 n l))
+
+module _ (n : ℕ) (p : Profile) (low : n ≤ 1) (e : p ≡ profileOf n) where
+  pub in-profile : (r : ℕ) (f : Profile → ℕ) → r ≡ f p → r ≡ inProfile n f
+  unfolding inProfile
+  in-profile r f h = h ∙ ap f e ∙ sym (ap (λ (b : Bool). when b then packedOf WrongArgument 0 else f (profileOf n)) (le-ltb 1 n low))
+
+  pub in-buffer : (f : Profile → List ℕ → List ℕ) (out out′ : List ℕ) → out′ ≡ f p out → out′ ≡ inProfileBuffer n f out
+  unfolding inProfileBuffer
+  in-buffer f out out′ h =
+      h ∙ ap (λ (q : Profile). f q out) e ∙ sym (ap (λ (b : Bool). when b then out else f (profileOf n) out) (le-ltb 1 n low))
+
+pub number-as : (a a′ : Answer) (r : ℕ) → a ≡ a′ → r ≡ numberOf a → r ≡ numberOf a′
+number-as a a′ r e h = h ∙ ap numberOf e
+
+pub ruleset profiles = (no-profile, no-change, in-profile, in-buffer, number-as)
 
 -- ---- a replay
 

@@ -2,12 +2,12 @@
 use mathlib.Core.Bool.{Bool, false}
 use mathlib.Core.List.{List}
 use Prim.Native.Nat.{ℕ, _+_, _*_, _%_, _^_}
-use lib.Dec.{ltb}
+use lib.Dec.{eqb, ltb}
 use lib.ListN.{length}
 use Rattle.sets.specs.Tests.{non, when_then_else_}
 use Rattle.sets.specs.Answers.{numberOf, blockerOf, isDone}
 use Rattle.sets.specs.declared.answer.Answer.{Answer}
-use Rattle.sets.specs.declared.answer.Answer.the-variants.{BufferTooSmall}
+use Rattle.sets.specs.declared.answer.Answer.the-variants.{BufferTooSmall, WrongArgument}
 use Rattle.engine.specs.Markings.{emptyMarking}
 use Rattle.engine.specs.Replay.{replayOf, steppedOf}
 use Rattle.engine.specs.declared.step.Stepped.{Stepped}
@@ -15,8 +15,11 @@ use Rattle.engine.specs.declared.graph.Graph.{Graph}
 use Rattle.graphfile.specs.Held.{readOf}
 use Rattle.graphfile.specs.Writing.{writtenOf, fileAfter}
 use Rattle.graphfile.specs.Markings.{markingFrom, markingInto}
+use Rattle.rules.specs.declared.Profile.{Profile}
+use Rattle.rules.specs.declared.Profile.the-variants.{Full, Light}
 use Rattle.miner.specs.Mine.{minedOf}
-use Rattle.report.specs.Listing.{listedOf}
+use Rattle.report.specs.Listing.{listedOf, listingAfter}
+use Rattle.report.specs.Summary.{summaryAnswer, summaryAfter}
 
 -- a number of 01, and 256 times what goes with it; that has 24 bits
 unfoldable pub packedOf : Answer → ℕ → ℕ
@@ -37,16 +40,30 @@ putNumber a g space = when isDone a then packedOf (writtenOf g space .answer) (w
 unfoldable pub putBuffer : Answer → Graph → List ℕ → List ℕ
 putBuffer a g buffer = when isDone a then fileAfter g buffer else buffer
 
--- skelfora_mine
-abbrev pub mineNumber : List ℕ → ℕ → ℕ
-mineNumber log space = putNumber (minedOf log .answer) (minedOf log .graph) space
+-- the profile as a number: 0 full, 1 light; any other is refused with 12, before the log is read (02, 3/12)
+abbrev pub profileOf : ℕ → Profile
+profileOf n = when eqb n 0 then Full else Light
 
-abbrev pub mineBuffer : List ℕ → List ℕ → List ℕ
-mineBuffer log buffer = putBuffer (minedOf log .answer) (minedOf log .graph) buffer
+unfoldable pub inProfile : ℕ → (Profile → ℕ) → ℕ
+inProfile n f = when ltb 1 n then packedOf WrongArgument 0 else f (profileOf n)
+
+unfoldable pub inProfileBuffer : ℕ → (Profile → List ℕ → List ℕ) → List ℕ → List ℕ
+inProfileBuffer n f buffer = when ltb 1 n then buffer else f (profileOf n) buffer
+
+-- skelfora_mine
+abbrev pub mineNumber : List ℕ → ℕ → Profile → ℕ
+mineNumber log space p = putNumber (minedOf log p .answer) (minedOf log p .graph) space
+
+abbrev pub mineBuffer : List ℕ → Profile → List ℕ → List ℕ
+mineBuffer log p buffer = putBuffer (minedOf log p .answer) (minedOf log p .graph) buffer
 
 -- skelfora_listing: the log's own number, or 7; its buffer is report's `listingAfter`
-abbrev pub listingNumber : List ℕ → ℕ → ℕ
-listingNumber log space = packedOf (listedOf log space .answer) (listedOf log space .length)
+abbrev pub listingNumber : List ℕ → ℕ → Profile → ℕ
+listingNumber log space p = packedOf (listedOf log p space .answer) (listedOf log p space .length)
+
+-- skelfora_summary: the log's own number, or 7; its buffer is report's `summaryAfter`
+abbrev pub summaryNumber : List ℕ → ℕ → ℕ
+summaryNumber log space = numberOf (summaryAnswer log space)
 
 -- skelfora_rewrite
 abbrev pub rewriteNumber : List ℕ → ℕ → ℕ

@@ -3,14 +3,18 @@
 ghost use mathlib.Core.Path.{_≡_};
 ghost use Prim.Native.Nat.{_^_, _<_};
 ghost use lib.ListN.{length};
-ghost use Rattle.port.specs.Port.{packedOf, verdictOf, blockedOf, stepNumber, storedOf, putNumber, putBuffer, mineNumber, mineBuffer, rewriteNumber, rewriteBuffer, replayNumber, listingNumber, stepOf, stepBytes};
+ghost use Rattle.port.specs.Port.{packedOf, verdictOf, blockedOf, stepNumber, storedOf, putNumber, putBuffer, profileOf, inProfile};
+ghost use Rattle.port.specs.Port.{inProfileBuffer, mineNumber, mineBuffer, rewriteNumber, rewriteBuffer, replayNumber, listingNumber};
+ghost use Rattle.port.specs.Port.{summaryNumber, stepOf, stepBytes};
 ghost use Rattle.report.specs.Listing.{listingAfter};
+ghost use Rattle.report.specs.Summary.{summaryAfter};
 
 pub mod classroom;
 
 use engine::Graph;
 use engine::Marking;
 use engine::Stepped;
+use rules::Profile;
 use sets::Activity;
 use sets::Answer;
 use sets::Place;
@@ -72,27 +76,75 @@ fn put(answer: Answer, g: Graph, out: &mut [u8]) -> u64
     packed(a, w.length)
 }
 
-// Mines a log and writes its graph file.
-#[no_mangle]
-pub extern "C" fn skelfora_mine(log: &[u8], file: &mut [u8]) -> u64
-    ensures { λ r. ⌜ r ≡ mineNumber (now (log .entry)) (length (now (file .entry))) ⌝ }
-    ensures { λ _. ⌜ now (file .exit) ≡ mineBuffer (now (log .entry)) (now (file .entry)) ⌝ }
+// The profile that a number below 2 asks for.
+fn profile_of(n: u8) -> Profile
+    ensures { λ r. ⌜ r ≡ profileOf n ⌝ }
 {
-    let m = miner::mine(log);
+    if n == 0 {
+        return Profile::Full;
+    }
+    Profile::Light
+}
+
+// Mines a log and writes its graph file.
+fn mine(log: &[u8], profile: Profile, file: &mut [u8]) -> u64
+    ensures { λ r. ⌜ r ≡ mineNumber (now (log .entry)) (length (now (file .entry))) profile ⌝ }
+    ensures { λ _. ⌜ now (file .exit) ≡ mineBuffer (now (log .entry)) profile (now (file .entry)) ⌝ }
+{
+    let m = miner::mine(log, profile);
     let answer = m.answer;
     let g = m.graph;
     put(answer, g, file)
 }
 
-// The listing of a log; the number is the log's own, or 7.
+// The same for a profile by its number: 0 full, 1 light, 12 for any other.
 #[no_mangle]
-pub extern "C" fn skelfora_listing(log: &[u8], out: &mut [u8]) -> u64
-    ensures { λ r. ⌜ r ≡ listingNumber (now (log .entry)) (length (now (out .entry))) ⌝ }
-    ensures { λ _. ⌜ now (out .exit) ≡ listingAfter (now (log .entry)) (now (out .entry)) ⌝ }
+pub extern "C" fn skelfora_mine(log: &[u8], profile: u8, file: &mut [u8]) -> u64
+    ensures { λ r. ⌜ r ≡ inProfile profile (mineNumber (now (log .entry)) (length (now (file .entry)))) ⌝ }
+    ensures { λ _. ⌜ now (file .exit) ≡ inProfileBuffer profile (mineBuffer (now (log .entry))) (now (file .entry)) ⌝ }
 {
-    let listed = report::write_listing(log, out);
+    if 1 < profile {
+        return packed(Answer::WrongArgument, 0);
+    }
+    let p = profile_of(profile);
+    mine(log, p, file)
+}
+
+// The listing of a log; the number is the log's own, or 7.
+fn list(log: &[u8], profile: Profile, out: &mut [u8]) -> u64
+    ensures { λ r. ⌜ r ≡ listingNumber (now (log .entry)) (length (now (out .entry))) profile ⌝ }
+    ensures { λ _. ⌜ now (out .exit) ≡ listingAfter (now (log .entry)) profile (now (out .entry)) ⌝ }
+{
+    let listed = report::write_listing(log, profile, out);
     let answer = listed.answer;
     packed(answer, listed.length)
+}
+
+// The same for a profile by its number.
+#[no_mangle]
+pub extern "C" fn skelfora_listing(log: &[u8], profile: u8, out: &mut [u8]) -> u64
+    ensures { λ r. ⌜ r ≡ inProfile profile (listingNumber (now (log .entry)) (length (now (out .entry)))) ⌝ }
+    ensures { λ _. ⌜ now (out .exit) ≡ inProfileBuffer profile (listingAfter (now (log .entry))) (now (out .entry)) ⌝ }
+{
+    if 1 < profile {
+        return packed(Answer::WrongArgument, 0);
+    }
+    let p = profile_of(profile);
+    list(log, p, out)
+}
+
+// The summary of a log, for a profile by its number; the number given is 12, the log's own, or 7.
+#[no_mangle]
+pub extern "C" fn skelfora_summary(log: &[u8], profile: u8, out: &mut [u8]) -> u64
+    ensures { λ r. ⌜ r ≡ inProfile profile (λ p. summaryNumber (now (log .entry)) (length (now (out .entry)))) ⌝ }
+    ensures { λ _. ⌜ now (out .exit) ≡ inProfileBuffer profile (summaryAfter (now (log .entry))) (now (out .entry)) ⌝ }
+{
+    if 1 < profile {
+        return packed(Answer::WrongArgument, 0);
+    }
+    let p = profile_of(profile);
+    let answer = report::write_summary(log, p, out);
+    answer.number() as u64
 }
 
 // Reads a graph file and writes it again.

@@ -25,10 +25,15 @@ use Rattle.graphfile.specs.Held.{readOf}
 use Rattle.graphfile.specs.Writing.{writtenOf, fileAfter}
 use Rattle.graphfile.specs.declared.reader.Reading.{Reading}
 use Rattle.graphfile.specs.declared.writer.Written.{Written}
+use Rattle.rules.specs.declared.Profile.{Profile}
 use Rattle.miner.specs.Mine.{minedOf}
 use Rattle.miner.specs.declared.mining.Mined.{Mined}
 use Rattle.report.specs.Listing.{listedOf, listingAfter}
+use Rattle.report.specs.Summary.{summaryAnswer, summaryAfter}
+use Rattle.report.specs.Choice.{choiceOf}
+use Rattle.report.specs.declared.choice.Choice.{Choice}
 use Rattle.report.specs.declared.writer.Listed.{Listed}
+use Rattle.port.specs.Port.{inProfile, inProfileBuffer, mineNumber, mineBuffer, listingNumber, summaryNumber}
 use Rattle.sets.proofs.answer.Answer.number.Reads as number
 use Rattle.sets.proofs.answer.Answer.blocker.Reads as blocker
 use Rattle.engine.proofs.step.enabled.Reads as enabled
@@ -41,7 +46,12 @@ use Rattle.calllog.proofs.trace.ask.Reads as ask
 use Rattle.graphfile.proofs.reader.read.Reads as read
 use Rattle.graphfile.proofs.writer.write.Reads as write
 use Rattle.miner.proofs.mining.mine.Reads as mine
+use Rattle.report.proofs.choice.choose.Reads as choose
+use Rattle.report.proofs.summary.write_summary.Reads as write-summary
 use Rattle.report.proofs.writer.write_listing.Reads as write-listing
+use Rattle.port.proofs.skelfora_mine.Reads as skelfora-mine
+use Rattle.port.proofs.skelfora_listing.Reads as skelfora-listing
+use Rattle.port.proofs.skelfora_summary.Reads as skelfora-summary
 use Rattle.promises.specs.Promised.{OwnReplayed, graphBack, fileBack, fileCopied}
 use Rattle.promises.proofs.replayed.replay_own.Reads as replay-own
 use Rattle.promises.proofs.replayed.replay_none.Reads as replay-none
@@ -85,11 +95,11 @@ module _ (bytes : List ℕ) where
   pub judge-log-said : (r : Judged) → judge-log-gives r → r ≡ judgedOf bytes
   judge-log-said r c = c .2 .2 ∙ ap judgedOf (c .1)
 
-  abbrev pub mine-gives : Mined → Type 0
-  mine-gives r = Holding bytes (λ log. Gives mine.Post (λ κ. (log, tt)) (λ κ. r))
+  abbrev pub mine-gives : Profile → Mined → Type 0
+  mine-gives p r = Holding bytes (λ log. Gives mine.Post (λ κ. (log, (p, tt))) (λ κ. r))
 
-  pub mine-said : (r : Mined) → mine-gives r → r ≡ minedOf bytes
-  mine-said r c = c .2 .2 ∙ ap minedOf (c .1)
+  pub mine-said : (p : Profile) (r : Mined) → mine-gives p r → r ≡ minedOf bytes p
+  mine-said p r c = c .2 .2 ∙ ap (λ (b : List ℕ). minedOf b p) (c .1)
 
   module _ (k : ℕ) where
     abbrev pub find-trace-gives : Found → Type 0
@@ -106,30 +116,89 @@ module _ (bytes : List ℕ) where
     ask-said next r c = c .2 .2 ∙ ap (λ (b : List ℕ). askedOf b next k) (c .1)
 
   -- trace k, and the empty trace, replayed on the graph that is mined of these bytes
-  abbrev pub replay-own-gives : ℕ → Replayed → Type 0
-  replay-own-gives k r = Holding bytes (λ log. Gives replay-own.Post (λ κ. (log, (k, tt))) (λ κ. r))
+  abbrev pub replay-own-gives : Profile → ℕ → Replayed → Type 0
+  replay-own-gives p k r = Holding bytes (λ log. Gives replay-own.Post (λ κ. (log, (p, (k, tt)))) (λ κ. r))
 
-  pub replay-own-said : (k : ℕ) (r : Replayed) → replay-own-gives k r → OwnReplayed bytes k r
-  replay-own-said k r c = subst (λ (b : List ℕ). OwnReplayed b k r) (c .1) (c .2 .2)
+  pub replay-own-said : (p : Profile) (k : ℕ) (r : Replayed) → replay-own-gives p k r → OwnReplayed bytes p k r
+  replay-own-said p k r c = subst (λ (b : List ℕ). OwnReplayed b p k r) (c .1) (c .2 .2)
 
-  abbrev pub replay-none-gives : Replayed → Type 0
-  replay-none-gives r = Holding bytes (λ log. Gives replay-none.Post (λ κ. (log, tt)) (λ κ. r))
+  abbrev pub replay-none-gives : Profile → Replayed → Type 0
+  replay-none-gives p r = Holding bytes (λ log. Gives replay-none.Post (λ κ. (log, (p, tt))) (λ κ. r))
 
-  pub replay-none-said : (r : Replayed) → replay-none-gives r → r ≡ ending Done 0 (openingOf (minedOf bytes .graph .head .events)) true
-  replay-none-said r c = c .2 .2 ∙ ap (λ (b : List ℕ). ending Done 0 (openingOf (minedOf b .graph .head .events)) true) (c .1)
+  pub replay-none-said : (p : Profile) (r : Replayed) → replay-none-gives p r
+      → r ≡ ending Done 0 (openingOf (minedOf bytes p .graph .head .events)) true
+  replay-none-said p r c = c .2 .2 ∙ ap (λ (b : List ℕ). ending Done 0 (openingOf (minedOf b p .graph .head .events)) true) (c .1)
 
   -- the listing, into a buffer
-  abbrev pub write-listing-gives : List ℕ → Listed → List ℕ → Type 0
-  write-listing-gives before r after =
-      Holding bytes (λ log. Holding before (λ out. Leaves write-listing.Post (λ κ s. now (s .1 .0)) (λ κ. (log, (out, tt))) (λ κ. r) after))
+  abbrev pub write-listing-gives : Profile → List ℕ → Listed → List ℕ → Type 0
+  write-listing-gives p before r after =
+      Holding bytes (λ log. Holding before (λ out. Leaves write-listing.Post (λ κ s. now (s .1 .1 .0)) (λ κ. (log, (p, (out, tt)))) (λ κ. r) after))
 
-  pub write-listing-said : (before : List ℕ) (r : Listed) (after : List ℕ) → write-listing-gives before r after
-      → (r ≡ listedOf bytes (length before)) × (after ≡ listingAfter bytes before)
-  write-listing-said before r after c =
+  pub write-listing-said : (p : Profile) (before : List ℕ) (r : Listed) (after : List ℕ) → write-listing-gives p before r after
+      → (r ≡ listedOf bytes p (length before)) × (after ≡ listingAfter bytes p before)
+  write-listing-said p before r after c =
       let d = c .2 .2 in (
-        d .3 .0 ∙ (λ i. listedOf (c .1 i) (length (c .2 .1 i))),
-        sym (d .2) ∙ d .3 .1 ∙ (λ i. listingAfter (c .1 i) (c .2 .1 i)),
+        d .3 .0 ∙ (λ i. listedOf (c .1 i) p (length (c .2 .1 i))),
+        sym (d .2) ∙ d .3 .1 ∙ (λ i. listingAfter (c .1 i) p (c .2 .1 i)),
       )
+
+  -- the summary, into a buffer
+  abbrev pub write-summary-gives : Profile → List ℕ → Answer → List ℕ → Type 0
+  write-summary-gives p before r after =
+      Holding bytes (λ log. Holding before (λ out. Leaves write-summary.Post (λ κ s. now (s .1 .1 .0)) (λ κ. (log, (p, (out, tt)))) (λ κ. r) after))
+
+  pub write-summary-said : (p : Profile) (before : List ℕ) (r : Answer) (after : List ℕ) → write-summary-gives p before r after
+      → (r ≡ summaryAnswer bytes (length before)) × (after ≡ summaryAfter bytes p before)
+  write-summary-said p before r after c =
+      let d = c .2 .2 in (
+        d .3 .0 ∙ (λ i. summaryAnswer (c .1 i) (length (c .2 .1 i))),
+        sym (d .2) ∙ d .3 .1 ∙ (λ i. summaryAfter (c .1 i) p (c .2 .1 i)),
+      )
+
+  -- the same through the port, with the profile by its number
+  module _ (n : ℕ) (before : List ℕ) (r : ℕ) (after : List ℕ) where
+    abbrev pub skelfora-mine-gives : Type 0
+    skelfora-mine-gives =
+        Holding bytes (λ log. Holding before (λ out. Leaves skelfora-mine.Post (λ κ s. now (s .1 .1 .0)) (λ κ. (log, (n, (out, tt)))) (λ κ. r) after))
+
+    pub skelfora-mine-said : skelfora-mine-gives
+        → (r ≡ inProfile n (mineNumber bytes (length before))) × (after ≡ inProfileBuffer n (mineBuffer bytes) before)
+    skelfora-mine-said c =
+        let d = c .2 .2 in (
+          d .3 .0 ∙ (λ i. inProfile n (mineNumber (c .1 i) (length (c .2 .1 i)))),
+          sym (d .2) ∙ d .3 .1 ∙ (λ i. inProfileBuffer n (mineBuffer (c .1 i)) (c .2 .1 i)),
+        )
+
+    abbrev pub skelfora-listing-gives : Type 0
+    skelfora-listing-gives =
+        Holding bytes (λ log. Holding before (λ out. Leaves skelfora-listing.Post (λ κ s. now (s .1 .1 .0)) (λ κ. (log, (n, (out, tt)))) (λ κ. r) after))
+
+    pub skelfora-listing-said : skelfora-listing-gives
+        → (r ≡ inProfile n (listingNumber bytes (length before))) × (after ≡ inProfileBuffer n (listingAfter bytes) before)
+    skelfora-listing-said c =
+        let d = c .2 .2 in (
+          d .3 .0 ∙ (λ i. inProfile n (listingNumber (c .1 i) (length (c .2 .1 i)))),
+          sym (d .2) ∙ d .3 .1 ∙ (λ i. inProfileBuffer n (listingAfter (c .1 i)) (c .2 .1 i)),
+        )
+
+    abbrev pub skelfora-summary-gives : Type 0
+    skelfora-summary-gives =
+        Holding bytes (λ log. Holding before (λ out. Leaves skelfora-summary.Post (λ κ s. now (s .1 .1 .0)) (λ κ. (log, (n, (out, tt)))) (λ κ. r) after))
+
+    pub skelfora-summary-said : skelfora-summary-gives
+        → (r ≡ inProfile n (λ p. summaryNumber bytes (length before))) × (after ≡ inProfileBuffer n (summaryAfter bytes) before)
+    skelfora-summary-said c =
+        let d = c .2 .2 in (
+          d .3 .0 ∙ (λ i. inProfile n (λ p. summaryNumber (c .1 i) (length (c .2 .1 i)))),
+          sym (d .2) ∙ d .3 .1 ∙ (λ i. inProfileBuffer n (summaryAfter (c .1 i)) (c .2 .1 i)),
+        )
+
+  -- what so many arguments ask for, of which the first has these bytes
+  abbrev pub choose-gives : ℕ → Choice → Type 0
+  choose-gives count r = Holding bytes (λ argument. Gives choose.Post (λ κ. (count, (argument, tt))) (λ κ. r))
+
+  pub choose-said : (count : ℕ) (r : Choice) → choose-gives count r → r ≡ choiceOf count bytes
+  choose-said count r c = c .2 .2 ∙ ap (choiceOf count) (c .1)
 
 -- ---- graphs and markings
 

@@ -22,6 +22,7 @@ use Rattle.engine.specs.Relations.{Relations, relationsOf}
 use Rattle.engine.specs.Replay.{replayOf}
 use Rattle.engine.specs.declared.graph.Graph.{Graph}
 use Rattle.calllog.specs.Logs.{logOf}
+use Rattle.rules.specs.declared.Profile.{Profile}
 use Rattle.rules.specs.Mined.{minedGraph}
 use Rattle.report.specs.Lines.{figure, figures, decimal, line, eventsWord, tracesWord, C, R, I, E}
 use Rattle.report.specs.Pairs.{pairCount}
@@ -105,12 +106,12 @@ regroup a b c d = simp append-assoc
 reads : (r : Relation) (w : List ℕ) → w ≡ decimal (pairCount r) → value w ≡ pairCount r
 reads r w h = ap value h ∙ decimal-reads (pairCount r) (omega (arith, pairs-most r width 0))
 
-module _ (bytes before : List ℕ) (r : Listed) (after : List ℕ) (c : write-listing-gives bytes before r after) (d : numberOf (r .answer) ≡ 0) where
+module _ (bytes : List ℕ) (p : Profile) (before : List ℕ) (r : Listed) (after : List ℕ) (c : write-listing-gives bytes p before r after) (d : numberOf (r .answer) ≡ 0) where
   abbrev graph : Graph
-  graph = minedGraph (logOf bytes .activities) (logOf bytes .traces)
+  graph = minedGraph (logOf bytes .activities) (logOf bytes .traces) p
 
   abbrev given : Bool → Listed
-  given t = when t then record { answer = BufferTooSmall; length = 0 } else record { answer = logOf bytes .answer; length = length (listingOf bytes) }
+  given t = when t then record { answer = BufferTooSmall; length = 0 } else record { answer = logOf bytes .answer; length = length (listingOf bytes p) }
 
   -- there was room, and the log is accepted
   chosen : (t : Bool) → isDone (given t .answer) ≡ true → (t ≡ false) × (isDone (logOf bytes .answer) ≡ true)
@@ -121,22 +122,22 @@ module _ (bytes before : List ℕ) (r : Listed) (after : List ℕ) (c : write-li
   unfolding listedOf
   taken =
       chosen (ltb (length before) longestListing)
-      (ap (λ (x : Listed). isDone (x .answer)) (sym (write-listing-said bytes before r after c .0)) ∙ ap (λ (n : ℕ). eqb n 0) d)
+      (ap (λ (x : Listed). isDone (x .answer)) (sym (write-listing-said bytes p before r after c .0)) ∙ ap (λ (n : ℕ). eqb n 0) d)
 
   abbrev rest : List ℕ
-  rest = (relationLines graph ++ traceLines (replayOf graph) 0 (logOf bytes .traces)) ++ drop (length (listingOf bytes)) before
+  rest = (relationLines graph ++ traceLines (replayOf graph) 0 (logOf bytes .traces)) ++ drop (length (listingOf bytes p)) before
 
-  listed : listingOf bytes ≡ firstLine graph (length (logOf bytes .traces)) ++ relationLines graph ++ traceLines (replayOf graph) 0 (logOf bytes .traces)
+  listed : listingOf bytes p ≡ firstLine graph (length (logOf bytes .traces)) ++ relationLines graph ++ traceLines (replayOf graph) 0 (logOf bytes .traces)
   unfolding listingOf linesOf
   listed = ap (λ (t : Bool). when t then linesOf graph (logOf bytes .traces) else refusedLine (logOf bytes .answer)) (taken .1)
 
   text : after ≡ firstLine graph (length (logOf bytes .traces)) ++ rest
   unfolding listingAfter
   text =
-      write-listing-said bytes before r after c .1
-      ∙ ap (λ (t : Bool). when t then before else listingOf bytes ++ drop (length (listingOf bytes)) before) (taken .0)
-      ∙ ap (λ (l : List ℕ). l ++ drop (length (listingOf bytes)) before) listed
-      ∙ regroup (firstLine graph (length (logOf bytes .traces))) (relationLines graph) (traceLines (replayOf graph) 0 (logOf bytes .traces)) (drop (length (listingOf bytes)) before)
+      write-listing-said bytes p before r after c .1
+      ∙ ap (λ (t : Bool). when t then before else listingOf bytes p ++ drop (length (listingOf bytes p)) before) (taken .0)
+      ∙ ap (λ (l : List ℕ). l ++ drop (length (listingOf bytes p)) before) listed
+      ∙ regroup (firstLine graph (length (logOf bytes .traces))) (relationLines graph) (traceLines (replayOf graph) 0 (logOf bytes .traces)) (drop (length (listingOf bytes p)) before)
 
   -- whatever words stand for the counts, they are the numbers of pairs
   module _ (ea ec er ei ee et rest′ : List ℕ) (ok : T (words (firstWords ea ec er ei ee et))) (h : after ≡ line (firstWords ea ec er ei ee et) ++ rest′) where

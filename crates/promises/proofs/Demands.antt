@@ -1,13 +1,14 @@
 -- THE THREE DEMANDS, as theorems about the public functions. Begin here. Assumes nothing.
 --
--- How to read it. `mine-gives bytes r` says that the function `mine` may give r for these bytes, by its own contract (Contracts); so a theorem
--- that starts from it fails where the contract says less. `numberOf` gives 01's number of an answer, and `numbers` below is the whole table.
--- The definitions are in the words of 01, in specs/ of their crates.
+-- How to read it. `mine-gives bytes p r` says that the function `mine` may give r for these bytes and the profile p, by its own contract
+-- (Contracts); so a theorem that starts from it fails where the contract says less. `numberOf` gives 01's number of an answer, and
+-- `numbers` below is the whole table. The definitions are in the words of 01, in specs/ of their crates.
 --
 -- Beside this file: Outcomes, that each public function has one outcome; StandIns and Counts, in which functions that 01 does not want are shut
 -- out; and rules/proofs/Cases, the (P) cases of 01 in one table under one theorem. The requests of 02 have a file each:
 -- PlainEngine, 1/12: the engine on lists of pairs gives what the engine on sets gives.
 -- Blocker, 2/12: 10 carries the smallest activity that blocks, every other number 255.
+-- Light, 3/12: what the profiles are, what the listing program's arguments mean, what 12 leaves, what the summary counts.
 use mathlib.Core.Path.{_≡_, refl, sym, ap, subst, _∙_}
 use mathlib.Core.Bool.{Bool, true, false}
 use mathlib.Core.Logic.{_⊎_}
@@ -19,7 +20,7 @@ use Rattle.sets.specs.Tests.{_and_, when_then_else_}
 use Rattle.sets.specs.Answers.{numberOf, blockerOf, isDone, thenAsk}
 use Rattle.sets.specs.declared.activity.Activity.{Activity}
 use Rattle.sets.specs.declared.answer.Answer.{Answer}
-use Rattle.sets.specs.declared.answer.Answer.the-variants.{Done, TooShort, WrongLetters, AboveLimit, WrongOffset, Outside, BadRow, BufferTooSmall, NoEvent, NotIncluded, Waiting, NoTrace}
+use Rattle.sets.specs.declared.answer.Answer.the-variants.{Done, TooShort, WrongLetters, AboveLimit, WrongOffset, Outside, BadRow, BufferTooSmall, NoEvent, NotIncluded, Waiting, NoTrace, WrongArgument}
 use Rattle.sets.proofs.Members.{mem-those}
 use Rattle.sets.proofs.Asking.{done-is}
 use Rattle.sets.specs.Members.{noSet}
@@ -51,6 +52,7 @@ use Rattle.graphfile.specs.declared.writer.Written.{Written}
 use Rattle.graphfile.proofs.Codec.{Bytes}
 use Rattle.graphfile.proofs.GraphFile.{Machine}
 use Rattle.graphfile.proofs.RoundTrips.{written-then-read, read-then-written}
+use Rattle.rules.specs.declared.Profile.{Profile}
 use Rattle.rules.proofs.FromFile.{file-accepted}
 use Rattle.miner.specs.declared.mining.Mined.{Mined}
 use Rattle.promises.specs.Promised.{traceOf, judgedCopy, graphBack, fileBack, fileCopied}
@@ -66,15 +68,16 @@ use Rattle.promises.proofs.Early.{replay-runs, early-nothing}
 -- the cases of an answer; one of them carries an activity
 abbrev cases : Activity → List Answer
 cases b =
-    Done ∷ TooShort ∷ WrongLetters ∷ AboveLimit ∷ WrongOffset ∷ Outside ∷ BadRow ∷ BufferTooSmall ∷ NoEvent ∷ NotIncluded ∷ Waiting b ∷ NoTrace ∷ []
+    Done ∷ TooShort ∷ WrongLetters ∷ AboveLimit ∷ WrongOffset ∷ Outside ∷ BadRow ∷ BufferTooSmall ∷ NoEvent ∷ NotIncluded ∷ Waiting b ∷ NoTrace
+    ∷ WrongArgument ∷ []
 
--- 01's table, "Numbers given back": the number of each
-pub numbers : (b : Activity) → map numberOf (cases b) ≡ 0 ∷ 1 ∷ 2 ∷ 3 ∷ 4 ∷ 5 ∷ 6 ∷ 7 ∷ 8 ∷ 9 ∷ 10 ∷ 11 ∷ []
+-- 01's table, "Numbers given back", and 12 of 02: the number of each
+pub numbers : (b : Activity) → map numberOf (cases b) ≡ 0 ∷ 1 ∷ 2 ∷ 3 ∷ 4 ∷ 5 ∷ 6 ∷ 7 ∷ 8 ∷ 9 ∷ 10 ∷ 11 ∷ 12 ∷ []
 numbers b = refl
 
 -- 02, 2/12: the blocker beside each
 pub blockers : (b : Activity)
-    → map blockerOf (cases b) ≡ 255 ∷ 255 ∷ 255 ∷ 255 ∷ 255 ∷ 255 ∷ 255 ∷ 255 ∷ 255 ∷ 255 ∷ b .0 ∷ 255 ∷ []
+    → map blockerOf (cases b) ≡ 255 ∷ 255 ∷ 255 ∷ 255 ∷ 255 ∷ 255 ∷ 255 ∷ 255 ∷ 255 ∷ 255 ∷ b .0 ∷ 255 ∷ 255 ∷ []
 blockers b = refl
 
 -- that is the number which the function `number` gives
@@ -103,11 +106,11 @@ module _ (bytes : List ℕ) where
   pub log-number : (r : Judged) → judge-log-gives bytes r → numberOf (r .answer) ≡ numberOf (judgedLog bytes)
   log-number r c = ap numberOf (the-log r c)
 
-  the-mined : (r : Mined) → mine-gives bytes r → r .answer ≡ judgedLog bytes
-  the-mined r c = ap (λ (x : Mined). x .answer) (mine-said bytes r c) ∙ mined-answer bytes
+  the-mined : (p : Profile) (r : Mined) → mine-gives bytes p r → r .answer ≡ judgedLog bytes
+  the-mined p r c = ap (λ (x : Mined). x .answer) (mine-said bytes p r c) ∙ mined-answer bytes p
 
-  pub mine-number : (r : Mined) → mine-gives bytes r → numberOf (r .answer) ≡ numberOf (judgedLog bytes)
-  mine-number r c = ap numberOf (the-mined r c)
+  pub mine-number : (p : Profile) (r : Mined) → mine-gives bytes p r → numberOf (r .answer) ≡ numberOf (judgedLog bytes)
+  mine-number p r c = ap numberOf (the-mined p r c)
 
   pub trace-number : (k : ℕ) (r : Found) → find-trace-gives bytes k r
       → numberOf (r .answer) ≡ numberOf (thenAsk (judgedLog bytes) (when ltb k (tracesIn bytes) then Done else NoTrace))
@@ -173,8 +176,9 @@ module _ (bytes : List ℕ) where
       let e = judge-log-said bytes r c ∙ judged-refused bytes (ap isDone (sym (the-log bytes r c)) ∙ n) in
       (ap (λ (x : Judged). x .activities) e, ap (λ (x : Judged). x .traces) e)
 
-  pub mine-nothing : (r : Mined) → mine-gives bytes r → Refused (r .answer) → r .graph ≡ emptyGraph
-  mine-nothing r c n = ap (λ (x : Mined). x .graph) (mine-said bytes r c) ∙ mined-nothing bytes (ap isDone (sym (the-mined bytes r c)) ∙ n)
+  pub mine-nothing : (p : Profile) (r : Mined) → mine-gives bytes p r → Refused (r .answer) → r .graph ≡ emptyGraph
+  mine-nothing p r c n =
+      ap (λ (x : Mined). x .graph) (mine-said bytes p r c) ∙ mined-nothing bytes p (ap isDone (sym (the-mined bytes p r c)) ∙ n)
 
   pub read-nothing : (r : Reading) → read-gives bytes r → Refused (r .answer) → r .graph ≡ emptyGraph
   unfolding readOf
@@ -240,14 +244,14 @@ module _ (g : Graph) where
 
 -- ================ DEMAND 2
 
--- ---- the mined graph is, pair for pair, the one that the rules give
+-- ---- the mined graph is, pair for pair, the one that the rules give, in either profile
 
-pub mine-pairs : (bytes : List ℕ) (r : Mined) → mine-gives bytes r → numberOf (r .answer) ≡ 0
-    → PairForPair (logOf bytes .activities) (logOf bytes .traces) (r .graph)
-mine-pairs bytes r c d =
-    subst (PairForPair (logOf bytes .activities) (logOf bytes .traces))
-    (sym (ap (λ (x : Mined). x .graph) (mine-said bytes r c) ∙ mined-graph bytes (sym (the-mined bytes r c) ∙ done-by _ d)))
-    (pairs (logOf bytes .activities) (logOf bytes .traces) (file-accepted bytes))
+pub mine-pairs : (bytes : List ℕ) (p : Profile) (r : Mined) → mine-gives bytes p r → numberOf (r .answer) ≡ 0
+    → PairForPair (logOf bytes .activities) (logOf bytes .traces) p (r .graph)
+mine-pairs bytes p r c d =
+    subst (PairForPair (logOf bytes .activities) (logOf bytes .traces) p)
+    (sym (ap (λ (x : Mined). x .graph) (mine-said bytes p r c) ∙ mined-graph bytes p (sym (the-mined bytes p r c) ∙ done-by _ d)))
+    (pairs (logOf bytes .activities) (logOf bytes .traces) (file-accepted bytes) p)
 
 -- ---- the bit-set engine answers as the set rules do, for a graph and a marking that are not refused
 
@@ -326,33 +330,33 @@ file-round bytes before after r w fits cr d room cw =
 
 -- ================ DEMAND 3
 
--- Every trace of an accepted log, and the empty one, replays on its mined graph: done, at its length, with no step pending at all, and
--- accepting. (A refused log has no trace.)
+-- Every trace of an accepted log, and the empty one, replays on its mined graph, in either profile: done, at its length, with no step
+-- pending at all, and accepting. (A refused log has no trace.)
 
-module _ (bytes : List ℕ) (k : ℕ) (l : k < length (logOf bytes .traces)) where
+module _ (bytes : List ℕ) (p : Profile) (k : ℕ) (l : k < length (logOf bytes .traces)) where
   -- `mine`, then `replay`
-  module _ (m : Mined) (r : Replayed) (cm : mine-gives bytes m) (cr : replay-gives (m .graph) (traceOf bytes k) r) where
+  module _ (m : Mined) (r : Replayed) (cm : mine-gives bytes p m) (cr : replay-gives (m .graph) (traceOf bytes k) r) where
     pub own-traces : Settles (length (traceOf bytes k)) r
     own-traces =
-        let t = own-through bytes k m r (mine-said bytes m cm) l (replay-said _ _ r cr) in
+        let t = own-through bytes p k m r (mine-said bytes p m cm) l (replay-said _ _ r cr) in
         record { done = ap numberOf (t .done); whole = t .whole; settled = t .settled; accepted = t .accepted }
 
     -- with every event enabled in its turn
     pub own-turns : InTurn (m .graph .head .events) (relationsOf (m .graph)) (m .graph .head .opening) (traceOf bytes k)
     own-turns =
-        let ok : judged (m .graph) ≡ Done = ap (λ (x : Mined). judged (x .graph)) (mine-said bytes m cm) ∙ mined-judged bytes in
+        let ok : judged (m .graph) ≡ Done = ap (λ (x : Mined). judged (x .graph)) (mine-said bytes p m cm) ∙ mined-judged bytes p in
         let long = judged-for (m .graph) ok (length (traceOf bytes k)) (read-within bytes .lengths k l) in
         replay-through (m .graph) (traceOf bytes k) (ap numberOf long) r cr (own-traces .done) .in-turn
 
   -- `replay_own`, which does all of it
-  pub own-replay : (r : Replayed) → replay-own-gives bytes k r → Settles (length (traceOf bytes k)) r
+  pub own-replay : (r : Replayed) → replay-own-gives bytes p k r → Settles (length (traceOf bytes k)) r
   own-replay r c =
-      let h = replay-own-said bytes k r c in
+      let h = replay-own-said bytes p k r c in
       let found = finds bytes k l in
       record { done = ap numberOf (h .1 .0 ∙ found); whole = h .1 .1 .0; settled = h .1 .1 .1 .0; accepted = h .1 .1 .1 .1 ∙ ap isDone found }
 
 -- the empty trace, on the graph of any bytes: the opening marking is accepting
-module _ (bytes : List ℕ) where
+module _ (bytes : List ℕ) (p : Profile) where
   none-settles : (r : Replayed) (events : _) → r ≡ ending Done 0 (openingOf events) true → Settles 0 r
   none-settles r events h =
       record {
@@ -362,8 +366,8 @@ module _ (bytes : List ℕ) where
         accepted = ap (λ (x : Replayed). x .accepting) h;
       }
 
-  pub own-empty : (m : Mined) (r : Replayed) → mine-gives bytes m → replay-gives (m .graph) [] r → Settles 0 r
-  own-empty m r cm cr = none-settles r _ (none-through bytes m r (mine-said bytes m cm) (replay-said _ _ r cr))
+  pub own-empty : (m : Mined) (r : Replayed) → mine-gives bytes p m → replay-gives (m .graph) [] r → Settles 0 r
+  own-empty m r cm cr = none-settles r _ (none-through bytes p m r (mine-said bytes p m cm) (replay-said _ _ r cr))
 
-  pub own-none : (r : Replayed) → replay-none-gives bytes r → Settles 0 r
-  own-none r c = none-settles r _ (replay-none-said bytes r c)
+  pub own-none : (r : Replayed) → replay-none-gives bytes p r → Settles 0 r
+  own-none r c = none-settles r _ (replay-none-said bytes p r c)

@@ -74,9 +74,13 @@ use Rattle.steps.proofs.reduce.reduced.Reads as reduced
 use Rattle.tally.proofs.log.empty.Reads as log-empty
 use Rattle.tally.proofs.log.note_traces.Reads as log-note-traces
 use Rattle.miner.proofs.mining.mine.Reads as mine
+use Rattle.report.proofs.choice.choose.Reads as choose
+use Rattle.report.proofs.choice.write_refused.Reads as write-refused
+use Rattle.report.proofs.summary.write_summary.Reads as write-summary
 use Rattle.report.proofs.writer.write_listing.Reads as write-listing
 use Rattle.port.proofs.skelfora_mine.Reads as skelfora-mine
 use Rattle.port.proofs.skelfora_listing.Reads as skelfora-listing
+use Rattle.port.proofs.skelfora_summary.Reads as skelfora-summary
 use Rattle.port.proofs.skelfora_rewrite.Reads as skelfora-rewrite
 use Rattle.port.proofs.skelfora_replay.Reads as skelfora-replay
 use Rattle.port.proofs.skelfora_step.Reads as skelfora-step
@@ -359,16 +363,28 @@ mine-once κ a r r′ s s′ h h′ = h ∙ sym h′
 
 -- ---- report
 
-pub write-listing-once : OnceLent write-listing.Post (λ κ s. now (s .1 .0))
+pub choose-once : Once choose.Post
+choose-once κ a r r′ s s′ h h′ = h ∙ sym h′
+
+pub write-refused-once : OnceLent write-refused.Post (λ κ s. now (s .1 .0))
+write-refused-once κ a r r′ s s′ h h′ = (h .0 ∙ sym (h′ .0), h .1 ∙ sym (h′ .1))
+
+pub write-summary-once : OnceLent write-summary.Post (λ κ s. now (s .1 .1 .0))
+write-summary-once κ a r r′ s s′ h h′ = (h .0 ∙ sym (h′ .0), h .1 ∙ sym (h′ .1))
+
+pub write-listing-once : OnceLent write-listing.Post (λ κ s. now (s .1 .1 .0))
 write-listing-once κ a r r′ s s′ h h′ = (h .0 ∙ sym (h′ .0), h .1 ∙ sym (h′ .1))
 
 -- ---- port
 
-pub skelfora-mine-once : OnceLent skelfora-mine.Post (λ κ s. now (s .1 .0))
+pub skelfora-mine-once : OnceLent skelfora-mine.Post (λ κ s. now (s .1 .1 .0))
 skelfora-mine-once κ a r r′ s s′ h h′ = (h .0 ∙ sym (h′ .0), h .1 ∙ sym (h′ .1))
 
-pub skelfora-listing-once : OnceLent skelfora-listing.Post (λ κ s. now (s .1 .0))
+pub skelfora-listing-once : OnceLent skelfora-listing.Post (λ κ s. now (s .1 .1 .0))
 skelfora-listing-once κ a r r′ s s′ h h′ = (h .0 ∙ sym (h′ .0), h .1 ∙ sym (h′ .1))
+
+pub skelfora-summary-once : OnceLent skelfora-summary.Post (λ κ s. now (s .1 .1 .0))
+skelfora-summary-once κ a r r′ s s′ h h′ = (h .0 ∙ sym (h′ .0), h .1 ∙ sym (h′ .1))
 
 pub skelfora-rewrite-once : OnceLent skelfora-rewrite.Post (λ κ s. now (s .1 .0))
 skelfora-rewrite-once κ a r r′ s s′ h h′ = (h .0 ∙ sym (h′ .0), h .1 ∙ sym (h′ .1))

@@ -1,4 +1,4 @@
--- Demand 3 carried to the code: what `mine` gives, and the replay of the log's own traces on it. Assumes nothing.
+-- Demand 3 carried to the code, in either profile: what `mine` gives, and the replay of the log's own traces on it. Assumes nothing.
 use mathlib.Core.Path.{_≡_, refl, sym, ap, subst, _∙_}
 use mathlib.Core.Bool.{Bool, true, false, not}
 use mathlib.Core.List.{List, []}
@@ -34,6 +34,7 @@ use Rattle.calllog.proofs.Finding.{found-answer, found-below}
 use Rattle.calllog.proofs.Traces.{traces-number, trace-accepted, found-trace}
 use Rattle.rules.specs.Mined.{graphFrom, minedGraph}
 use Rattle.rules.proofs.Acceptable.{acceptable}
+use Rattle.rules.specs.declared.Profile.{Profile}
 use Rattle.rules.proofs.Demand3.{Through}
 use Rattle.rules.proofs.FromFile.{file-accepted, demand3-file}
 use Rattle.miner.specs.Mine.{minedOf}
@@ -42,19 +43,19 @@ use Rattle.promises.specs.Promised.{traceOf, ownReplay, OwnReplayed}
 
 -- ---- what the miner gives
 
-module _ (bytes : List ℕ) where
-  pub mined-answer : minedOf bytes .answer ≡ judgedLog bytes
+module _ (bytes : List ℕ) (p : Profile) where
+  pub mined-answer : minedOf bytes p .answer ≡ judgedLog bytes
   unfolding minedOf
   mined-answer = log-answer bytes
 
-  pub mined-graph : judgedLog bytes ≡ Done → minedOf bytes .graph ≡ minedGraph (logOf bytes .activities) (logOf bytes .traces)
+  pub mined-graph : judgedLog bytes ≡ Done → minedOf bytes p .graph ≡ minedGraph (logOf bytes .activities) (logOf bytes .traces) p
   unfolding minedOf
-  mined-graph d = ap (λ (a : Answer). when isDone a then minedGraph (logOf bytes .activities) (logOf bytes .traces) else emptyGraph) (log-answer bytes ∙ d)
+  mined-graph d = ap (λ (a : Answer). when isDone a then minedGraph (logOf bytes .activities) (logOf bytes .traces) p else emptyGraph) (log-answer bytes ∙ d)
 
-  pub mined-nothing : isDone (judgedLog bytes) ≡ false → minedOf bytes .graph ≡ emptyGraph
+  pub mined-nothing : isDone (judgedLog bytes) ≡ false → minedOf bytes p .graph ≡ emptyGraph
   unfolding minedOf
   mined-nothing n =
-      ap (λ (t : Bool). when t then minedGraph (logOf bytes .activities) (logOf bytes .traces) else emptyGraph) (ap isDone (log-answer bytes) ∙ n)
+      ap (λ (t : Bool). when t then minedGraph (logOf bytes .activities) (logOf bytes .traces) p else emptyGraph) (ap isDone (log-answer bytes) ∙ n)
 
 -- the empty graph is no reason to refuse
 pub empty-judged : judged emptyGraph ≡ Done
@@ -62,11 +63,11 @@ unfolding judgedFor graphWithin relationsWithin rowsWithin rowWithin markingWith
 empty-judged = refl
 
 -- nor is any graph that the miner gives
-pub mined-judged : (bytes : List ℕ) → judged (minedOf bytes .graph) ≡ Done
-mined-judged bytes =
+pub mined-judged : (bytes : List ℕ) (p : Profile) → judged (minedOf bytes p .graph) ≡ Done
+mined-judged bytes p =
     either (split (isDone (judgedLog bytes)))
-    (λ y. ap judged (mined-graph bytes (done-is _ (T→true _ y))) ∙ acceptable _ _ (file-accepted bytes))
-    (λ n. ap judged (mined-nothing bytes (F→false _ n)) ∙ empty-judged)
+    (λ y. ap judged (mined-graph bytes p (done-is _ (T→true _ y))) ∙ acceptable _ _ (file-accepted bytes) p)
+    (λ n. ap judged (mined-nothing bytes p (F→false _ n)) ∙ empty-judged)
 
 -- ---- the traces of a log
 
@@ -91,17 +92,17 @@ module _ (bytes : List ℕ) (k : ℕ) where
       (λ g. List·getD-eq-default (logOf bytes .traces) [] (ltb-false _ _ (F→false _ g)))
 
 -- DEMAND 3, of every result that the statements of `mine` and `replay` allow
-pub own-through : (bytes : List ℕ) (k : ℕ) (m : Mined) (r : Replayed) → m ≡ minedOf bytes → k < length (logOf bytes .traces)
+pub own-through : (bytes : List ℕ) (p : Profile) (k : ℕ) (m : Mined) (r : Replayed) → m ≡ minedOf bytes p → k < length (logOf bytes .traces)
     → r ≡ replayOf (m .graph) (traceOf bytes k) → Through (length (traceOf bytes k)) r
-own-through bytes k m r hm l hr =
-    let same : r ≡ replayOf (minedGraph (logOf bytes .activities) (logOf bytes .traces)) (traceOf bytes k) =
-    hr ∙ ap (λ (x : Mined). replayOf (x .graph) (traceOf bytes k)) hm ∙ ap (λ (g : Graph). replayOf g (traceOf bytes k)) (mined-graph bytes (trace-accepted bytes k l)) in
-    let p = demand3-file bytes .each k l in
+own-through bytes p k m r hm l hr =
+    let same : r ≡ replayOf (minedGraph (logOf bytes .activities) (logOf bytes .traces) p) (traceOf bytes k) =
+    hr ∙ ap (λ (x : Mined). replayOf (x .graph) (traceOf bytes k)) hm ∙ ap (λ (g : Graph). replayOf g (traceOf bytes k)) (mined-graph bytes p (trace-accepted bytes k l)) in
+    let d = demand3-file bytes p .each k l in
     record {
-      done = ap (λ (x : Replayed). x .answer) same ∙ p .done;
-      whole = ap (λ (x : Replayed). x .place .0) same ∙ p .whole;
-      settled = ap (λ (x : Replayed). x .marking .pending) same ∙ p .settled;
-      accepted = ap (λ (x : Replayed). x .accepting) same ∙ p .accepted;
+      done = ap (λ (x : Replayed). x .answer) same ∙ d .done;
+      whole = ap (λ (x : Replayed). x .place .0) same ∙ d .whole;
+      settled = ap (λ (x : Replayed). x .marking .pending) same ∙ d .settled;
+      accepted = ap (λ (x : Replayed). x .accepting) same ∙ d .accepted;
     }
 
 -- ---- `replay_own`: its statement
@@ -110,12 +111,12 @@ module _ (log : List ℕ) (k : ℕ) (f : Found) (t : Bool) (hf : f ≡ foundOf l
   the-answer : f .answer ≡ findingOf log k
   the-answer = ap (λ (x : Found). x .answer) hf ∙ found-answer log k
 
-  pub own-refused : not t ≡ true → OwnReplayed log k (ending (f .answer) 0 emptyMarking false)
+  pub own-refused : (p : Profile) → not t ≡ true → OwnReplayed log p k (ending (f .answer) 0 emptyMarking false)
   unfolding ownReplay
-  own-refused n =
+  own-refused p n =
       let refused : isDone (findingOf log k) ≡ false = ap isDone (sym the-answer) ∙ sym ht ∙ not-true t n in (
         ap (λ (a : Answer). ending a 0 emptyMarking false) the-answer
-            ∙ sym (ap (λ (b : Bool). when b then replayOf (minedOf log .graph) (traceOf log k) else ending (findingOf log k) 0 emptyMarking false) refused),
+            ∙ sym (ap (λ (b : Bool). when b then replayOf (minedOf log p .graph) (traceOf log k) else ending (findingOf log k) 0 emptyMarking false) refused),
         (the-answer, (ap length (sym (finds-nothing log k refused)), (refl, sym refused))),
       )
 
@@ -126,19 +127,19 @@ module _ (log : List ℕ) (k : ℕ) (f : Found) (t : Bool) (hf : f ≡ foundOf l
     pub own-within : f .start + f .length ≤ length log
     own-within = found-trace log k f hf found .0
 
-    pub own-done : (m : Mined) (r : Replayed) → m ≡ minedOf log → r ≡ replayOf (m .graph) (take (f .start + f .length - f .start) (drop (f .start) log)) → OwnReplayed log k r
+    pub own-done : (p : Profile) (m : Mined) (r : Replayed) → m ≡ minedOf log p → r ≡ replayOf (m .graph) (take (f .start + f .length - f .start) (drop (f .start) log)) → OwnReplayed log p k r
     unfolding ownReplay
-    own-done m r hm hr =
+    own-done p m r hm hr =
         let n : f .start + f .length - f .start ≡ f .length = omega arith in
         let finding : findingOf log k ≡ Done = sym the-answer ∙ found in
         let trace : take (f .start + f .length - f .start) (drop (f .start) log) ≡ traceOf log k =
         ap (λ (i : ℕ). take i (drop (f .start) log)) n ∙ found-trace log k f hf found .1 in
         let same : r ≡ replayOf (m .graph) (traceOf log k) = hr ∙ ap (replayOf (m .graph)) trace in
-        let p = own-through log k m r hm (finds-below log k finding) same in (
+        let d = own-through log p k m r hm (finds-below log k finding) same in (
           same
               ∙ ap (λ (x : Mined). replayOf (x .graph) (traceOf log k)) hm
-              ∙ sym (ap (λ (a : Answer). when isDone a then replayOf (minedOf log .graph) (traceOf log k) else ending a 0 emptyMarking false) finding),
-          (p .done ∙ sym finding, (p .whole, (p .settled, p .accepted ∙ ap isDone (sym finding)))),
+              ∙ sym (ap (λ (a : Answer). when isDone a then replayOf (minedOf log p .graph) (traceOf log k) else ending a 0 emptyMarking false) finding),
+          (d .done ∙ sym finding, (d .whole, (d .settled, d .accepted ∙ ap isDone (sym finding)))),
         )
 
 -- ---- `replay_none`: the empty trace
@@ -151,22 +152,22 @@ opens : (g : Graph) → judged g ≡ Done → g .head .opening ≡ openingOf (g 
 unfolding replayFrom
 opens g ok o a = replay-judged g ok [] (omega arith) ∙ (λ i. ending Done 0 (o i) (a i))
 
-mined-opens : (bytes : List ℕ) → Opens (minedGraph (logOf bytes .activities) (logOf bytes .traces))
+mined-opens : (bytes : List ℕ) (p : Profile) → Opens (minedGraph (logOf bytes .activities) (logOf bytes .traces) p)
 unfolding minedGraph graphFrom replayFrom
-mined-opens bytes =
-    let g : Graph = minedGraph (logOf bytes .activities) (logOf bytes .traces) in
-    let ok : judged g ≡ Done = acceptable _ _ (file-accepted bytes) in
-    opens g ok refl (ap (λ (r : Replayed). r .accepting) (sym (replay-judged g ok [] (omega arith))) ∙ demand3-file bytes .empty .accepted)
+mined-opens bytes p =
+    let g : Graph = minedGraph (logOf bytes .activities) (logOf bytes .traces) p in
+    let ok : judged g ≡ Done = acceptable _ _ (file-accepted bytes) p in
+    opens g ok refl (ap (λ (r : Replayed). r .accepting) (sym (replay-judged g ok [] (omega arith))) ∙ demand3-file bytes p .empty .accepted)
 
 empty-opens : Opens emptyGraph
 unfolding accepting someBelow bit mem those _and_ _or_ non
 empty-opens = opens emptyGraph empty-judged refl refl
 
-pub none-through : (log : List ℕ) (m : Mined) (r : Replayed) → m ≡ minedOf log → r ≡ replayOf (m .graph) []
-    → r ≡ ending Done 0 (openingOf (minedOf log .graph .head .events)) true
-none-through log m r hm hr =
+pub none-through : (log : List ℕ) (p : Profile) (m : Mined) (r : Replayed) → m ≡ minedOf log p → r ≡ replayOf (m .graph) []
+    → r ≡ ending Done 0 (openingOf (minedOf log p .graph .head .events)) true
+none-through log p m r hm hr =
     hr
     ∙ ap (λ (x : Mined). replayOf (x .graph) []) hm
     ∙ either (split (isDone (judgedLog log)))
-    (λ y. subst Opens (sym (mined-graph log (done-is _ (T→true _ y)))) (mined-opens log))
-    (λ n. subst Opens (sym (mined-nothing log (F→false _ n))) empty-opens)
+    (λ y. subst Opens (sym (mined-graph log p (done-is _ (T→true _ y)))) (mined-opens log p))
+    (λ n. subst Opens (sym (mined-nothing log p (F→false _ n))) empty-opens)

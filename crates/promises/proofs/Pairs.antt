@@ -1,8 +1,7 @@
--- Demand 2, the mined graph: pair for pair what the rules give, for all numbers. Assumes nothing.
+-- Demand 2, the mined graph: pair for pair what the rules give in its profile, for all numbers. Assumes nothing.
 use mathlib.Core.Path.{_≡_, refl, sym, ap, _∙_}
 use mathlib.Core.List.{List}
 use Prim.Native.Nat.{ℕ, zero, suc, _<_}
-use native.Mathlib.Nat.{lt-of-lt-of-le}
 use borrow.Author.Tests.{ltb-true, ltb-false}
 use lib.Dec.{T, ltb, lit≤}
 use Rattle.sets.specs.Members.{width, mem, those}
@@ -15,12 +14,12 @@ use Rattle.sets.proofs.Members.{those-e, those-i}
 use Rattle.sets.proofs.RowLaws.{row-rowsOf, row-out, in-rowsOf}
 use Rattle.sets.proofs.TableLaws.{table-tablesOf}
 use Rattle.engine.specs.Relations.{relationCount, kept, tablesFrom}
+use Rattle.rules.specs.declared.Profile.{Profile}
 use Rattle.rules.specs.Traces.{Traces}
 use Rattle.rules.specs.Mining.{event, mined}
 use Rattle.rules.specs.Mined.{graphFrom, minedGraph}
 use Rattle.rules.specs.Replays.{Accepted}
-use Rattle.rules.proofs.Places.{some-trace}
-use Rattle.rules.proofs.Why.{of-conditions, of-responses, of-includes, of-excludes}
+use Rattle.rules.proofs.Acceptable.{small, mined-reasons}
 use Rattle.promises.specs.Demanded.{PairForPair}
 
 -- what stands in the rows of a relation is below the width
@@ -41,31 +40,27 @@ whole r low a b =
     (λ t. let l = in-below r a b t in T-eq (in-rowsOf r a b (l .0) (l .1)) t)
     (λ t. let l = low a b t in T-eq (sym (in-rowsOf r a b (l .0) (l .1))) t)
 
-module _ (A : ℕ) (L : Traces) (ok : Accepted A L) where
-  event-low : (a : ℕ) → T (event L a) → a < width
-  unfolding event
-  event-low a h = let r = some-trace L _ h in lt-of-lt-of-le (ok .members (r .0) (r .1) a (r .2)) (ok .activities)
-
+module _ (A : ℕ) (L : Traces) (ok : Accepted A L) (p : Profile) where
   both-low : {s t : ℕ} → T (event L s) × T (event L t) → (s < width) × (t < width)
-  both-low {s} {t} e = (event-low s (e .0), event-low t (e .1))
+  both-low {s} {t} e = (small A L ok s (e .0), small A L ok t (e .1))
 
   -- each table holds activities below the width alone
-  low : (k a b : ℕ) → T (kept (mined L) k a b) → (a < width) × (b < width)
-  low zero a b h = let l = both-low (of-conditions L b a h) in (l .1, l .0)
-  low (suc zero) a b h = both-low (of-responses L a b h)
-  low (suc (suc zero)) a b h = both-low (of-includes L a b h)
-  low (suc (suc (suc k))) a b h = both-low (of-excludes L a b h)
+  low : (k a b : ℕ) → T (kept (mined L p) k a b) → (a < width) × (b < width)
+  low zero a b h = let l = both-low (mined-reasons A L ok p .condition b a h .0) in (l .1, l .0)
+  low (suc zero) a b h = both-low (mined-reasons A L ok p .response a b h .0)
+  low (suc (suc zero)) a b h = both-low (mined-reasons A L ok p .include a b h)
+  low (suc (suc (suc k))) a b h = both-low (mined-reasons A L ok p .exclude a b h .0)
 
-  table : (k : ℕ) → k < relationCount → (a b : ℕ) → inRow (tableAt (tablesFrom (mined L)) k) a b ≡ kept (mined L) k a b
+  table : (k : ℕ) → k < relationCount → (a b : ℕ) → inRow (tableAt (tablesFrom (mined L p)) k) a b ≡ kept (mined L p) k a b
   table k l a b =
-      ap (λ (rows : List ℕ). inRow rows a b) (table-tablesOf relationCount (kept (mined L)) k l) ∙ whole (kept (mined L) k) (low k) a b
+      ap (λ (rows : List ℕ). inRow rows a b) (table-tablesOf relationCount (kept (mined L p)) k l) ∙ whole (kept (mined L p) k) (low k) a b
 
-  pub pairs : PairForPair A L (minedGraph A L)
+  pub pairs : PairForPair A L p (minedGraph A L p)
   unfolding minedGraph graphFrom
   pairs =
       record {
         activities = refl;
-        events = λ a. T-ext _ _ (λ h. those-e (event L) a h .1) (λ h. those-i (event L) a (event-low a h) h);
+        events = λ a. T-ext _ _ (λ h. those-e (event L) a h .1) (λ h. those-i (event L) a (small A L ok a h) h);
         opening = refl;
         conditions = λ s t. table 0 (lit≤ tt) t s;
         responses = table 1 (lit≤ tt);

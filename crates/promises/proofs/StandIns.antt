@@ -28,7 +28,8 @@ use Rattle.engine.proofs.Examples.{table3, table3-before, examples}
 use Rattle.calllog.specs.Logs.{Log}
 use Rattle.calllog.proofs.Examples.{logL, tracesL, reads-L}
 use Rattle.rules.specs.Traces.{_has_, _beginsWith_, atEachFrom, atSomeFrom, everyTrace, someTrace}
-use Rattle.rules.specs.Mining.{noPair, noRelations, smallestSource, _without_, event, someEvent, _with_, atMostOnce, precedes, answers, chained, together, before, followed, between, alternates, beforeFirst, step1, step2, directlyBefore, step3, neverTogether, step4, closes, step5, step6, step7, reduced, step8, includedAfter, neverMissed, step9, step10, afterFive, afterSeven, afterEight, mined}
+use Rattle.rules.specs.Mining.{noPair, noRelations, smallestSource, _without_, event, someEvent, _with_, atMostOnce, precedes, answers, chained, together, before, followed, between, alternates, beforeFirst, step1, step2, directlyBefore, step3, neverTogether, step4, closes, step5, step6, step7, reduced, step8, includedAfter, neverMissed, step9, step10, afterFive, afterSix, afterSeven, afterEight, mined}
+use Rattle.rules.specs.declared.Profile.the-variants.{Full}
 use Rattle.rules.specs.Mined.{graphFrom, minedGraph}
 use Rattle.rules.proofs.Cases.{G}
 use Rattle.miner.specs.Mine.{minedOf}
@@ -38,25 +39,25 @@ use Rattle.promises.proofs.Contracts.{mine-gives, mine-said, execute-gi
 
 -- ---- what the statement of `mine` says of log L
 
-graph-L : minedGraph 3 tracesL ≡ G
+graph-L : minedGraph 3 tracesL Full ≡ G
 unfolding tracesL G
     _and_ _or_ non bit mem those bitsOf someBelow listFrom rowsOf tablesOf
     _has_ _beginsWith_ atEachFrom atSomeFrom everyTrace someTrace
     noPair noRelations smallestSource _without_ event someEvent _with_ atMostOnce precedes answers chained together before followed between alternates beforeFirst
     step1 step2 directlyBefore step3 neverTogether step4 closes step5 step6 step7 reduced step8 includedAfter neverMissed step9 step10
-    afterFive afterSeven afterEight mined graphFrom minedGraph
+    afterFive afterSix afterSeven afterEight mined graphFrom minedGraph
 graph-L = refl
 
-pub mine-L : (r : Mined) → mine-gives logL r → r ≡ record { answer = Done; graph = G }
+pub mine-L : (r : Mined) → mine-gives logL Full r → r ≡ record { answer = Done; graph = G }
 unfolding minedOf
 mine-L r c =
-    mine-said logL r c
-    ∙ ap {B = Mined} (λ (l : Log). record { answer = l .answer; graph = when isDone (l .answer) then minedGraph (l .activities) (l .traces) else emptyGraph }) reads-L
+    mine-said logL Full r c
+    ∙ ap {B = Mined} (λ (l : Log). record { answer = l .answer; graph = when isDone (l .answer) then minedGraph (l .activities) (l .traces) Full else emptyGraph }) reads-L
     ∙ ap {B = Mined} (λ (g : Graph). record { answer = Done; graph = g }) graph-L
 
 -- ---- 1. a miner that refuses all
 
-pub refuses-all : (f : List ℕ → Mined) → ((bytes : List ℕ) → Refused (f bytes .answer)) → ((bytes : List ℕ) → mine-gives bytes (f bytes)) → ⊥
+pub refuses-all : (f : List ℕ → Mined) → ((bytes : List ℕ) → Refused (f bytes .answer)) → ((bytes : List ℕ) → mine-gives bytes Full (f bytes)) → ⊥
 refuses-all f refuses meets =
     false→F (refuses logL) (true→T (ap (λ (r : Mined). isDone (r .answer)) (mine-L (f logL) (meets logL))))
 
@@ -67,7 +68,7 @@ unfolding G listFrom inRow rowAt tableAt mem bit
 waits-in-G = refl
 
 pub no-relations : (f : List ℕ → Mined) → ((bytes : List ℕ) (s t : ℕ) → relationsOf (f bytes .graph) .conditions s t ≡ false)
-    → ((bytes : List ℕ) → mine-gives bytes (f bytes)) → ⊥
+    → ((bytes : List ℕ) → mine-gives bytes Full (f bytes)) → ⊥
 no-relations f none meets =
     false→F (none logL 0 1) (true→T (ap (λ (r : Mined). relationsOf (r .graph) .conditions 0 1) (mine-L (f logL) (meets logL)) ∙ waits-in-G))
 

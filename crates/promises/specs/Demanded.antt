@@ -19,6 +19,7 @@ use Rattle.engine.specs.Replay.{replayFrom}
 use Rattle.engine.specs.declared.marking.Marking.{Marking}
 use Rattle.engine.specs.declared.graph.Graph.{Graph}
 use Rattle.engine.specs.declared.replay.Replayed.{Replayed}
+use Rattle.rules.specs.declared.Profile.{Profile}
 use Rattle.rules.specs.Traces.{Traces}
 use Rattle.rules.specs.Mining.{event, mined}
 
@@ -27,15 +28,16 @@ abbrev pub Refused : Answer → Type 0
 Refused a = isDone a ≡ false
 
 -- DEMAND 2, the mined graph: A is the log's; an activity is an event where the rules say so; nothing is executed or pending and all events
--- are included; and a pair, source first, is in a relation of the graph exactly where the ten steps leave it, whatever the two numbers
-pub record PairForPair (A : ℕ) (L : Traces) (g : Graph) : Type 0 where
+-- are included; and a pair, source first, is in a relation of the graph exactly where the steps of the profile leave it, whatever the two
+-- numbers
+pub record PairForPair (A : ℕ) (L : Traces) (p : Profile) (g : Graph) : Type 0 where
   pub activities : g .head .activities ≡ A
   pub events : (a : ℕ) → mem (g .head .events) a ≡ event L a
   pub opening : g .head .opening ≡ openingOf (g .head .events)
-  pub conditions : (s t : ℕ) → relationsOf g .conditions s t ≡ mined L .conditions s t
-  pub responses : (s t : ℕ) → relationsOf g .responses s t ≡ mined L .responses s t
-  pub includes : (s t : ℕ) → relationsOf g .includes s t ≡ mined L .includes s t
-  pub excludes : (s t : ℕ) → relationsOf g .excludes s t ≡ mined L .excludes s t
+  pub conditions : (s t : ℕ) → relationsOf g .conditions s t ≡ mined L p .conditions s t
+  pub responses : (s t : ℕ) → relationsOf g .responses s t ≡ mined L p .responses s t
+  pub includes : (s t : ℕ) → relationsOf g .includes s t ≡ mined L p .includes s t
+  pub excludes : (s t : ℕ) → relationsOf g .excludes s t ≡ mined L p .excludes s t
 
 -- DEMAND 2, a step that is done: the marking after it, member by member (01, "A step")
 pub record Stepping (r : Relations) (m : Marking) (e : ℕ) (n : Marking) : Type 0 where

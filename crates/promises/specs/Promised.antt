@@ -20,23 +20,24 @@ use Rattle.graphfile.specs.Refusals.{judgedFile}
 use Rattle.graphfile.specs.Writing.{judgedWrite}
 use Rattle.graphfile.specs.declared.reader.Reading.{Reading}
 use Rattle.graphfile.specs.declared.writer.Written.{Written}
+use Rattle.rules.specs.declared.Profile.{Profile}
 use Rattle.miner.specs.Mine.{minedOf}
 
 -- trace k of a log; empty where there is none
 abbrev pub traceOf : List ℕ → ℕ → List ℕ
 traceOf log k = getD (logOf log .traces) k []
 
--- the replay of trace k on the graph mined of its own log; the refusals of the log, then 11, with nothing beside the number
-unfoldable pub ownReplay : List ℕ → ℕ → Replayed
-ownReplay log k =
-    when isDone (findingOf log k) then replayOf (minedOf log .graph) (traceOf log k)
+-- the replay of trace k on the graph mined of its own log in a profile; the refusals of the log, then 11, with nothing beside the number
+unfoldable pub ownReplay : List ℕ → Profile → ℕ → Replayed
+ownReplay log p k =
+    when isDone (findingOf log k) then replayOf (minedOf log p .graph) (traceOf log k)
     else ending (findingOf log k) 0 emptyMarking false
 
 -- what `replay_own` says of its result: the whole of it, and in plain words what follows. It is refused only where the log is, or where it has
 -- no trace k; it gets to the trace's length; nothing is left pending; and it is accepting unless refused
-abbrev pub OwnReplayed : List ℕ → ℕ → Replayed → Type 0
-OwnReplayed log k r =
-    (r ≡ ownReplay log k)
+abbrev pub OwnReplayed : List ℕ → Profile → ℕ → Replayed → Type 0
+OwnReplayed log p k r =
+    (r ≡ ownReplay log p k)
     × ((r .answer ≡ findingOf log k)
     × ((r .place .0 ≡ length (traceOf log k))
     × ((r .marking .pending ≡ noSet)

@@ -1,4 +1,4 @@
-// Demand 3 on the code: a log is mined, and its own traces are replayed on the graph.
+// Demand 3 on the code: a log is mined in either profile, and its own traces are replayed on the graph.
 ghost use mathlib.Core.Path.{_≡_};
 ghost use mathlib.Core.Bool.{true};
 ghost use Rattle.sets.specs.declared.answer.Answer.the-variants.{Done};
@@ -11,14 +11,15 @@ use engine::Marking;
 use engine::Replayed;
 use engine::replay::replay;
 use miner::mine;
+use rules::Profile;
 use sets::Place;
 
 // Trace k of a log, replayed on the graph that is mined of that log. It is refused only where the log is, or where it has no trace k: no
 // event of its own is ever refused, the replay gets to the trace's length, no step is left pending, and the marking is accepting.
-pub fn replay_own(log: &[u8], k: usize) -> Replayed
-    ensures { λ r. ⌜ OwnReplayed (now (log .entry)) k r ⌝ }
+pub fn replay_own(log: &[u8], profile: Profile, k: usize) -> Replayed
+    ensures { λ r. ⌜ OwnReplayed (now (log .entry)) profile k r ⌝ }
 {
-    let mined = mine(log);
+    let mined = mine(log, profile);
     let graph = mined.graph;
     let found = find_trace(log, k);
     let answer = found.answer;
@@ -36,10 +37,10 @@ pub fn replay_own(log: &[u8], k: usize) -> Replayed
 }
 
 // The empty trace, replayed on the graph that is mined of any bytes.
-pub fn replay_none(log: &[u8]) -> Replayed
-    ensures { λ r. ⌜ r ≡ ending Done 0 (openingOf (minedOf (now (log .entry)) .graph .head .events)) true ⌝ }
+pub fn replay_none(log: &[u8], profile: Profile) -> Replayed
+    ensures { λ r. ⌜ r ≡ ending Done 0 (openingOf (minedOf (now (log .entry)) profile .graph .head .events)) true ⌝ }
 {
-    let mined = mine(log);
+    let mined = mine(log, profile);
     let graph = mined.graph;
     replay(graph, &log[0..0])
 }

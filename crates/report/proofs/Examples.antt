@@ -1,4 +1,5 @@
--- 01's listing of the log L, computed from the definition, and the line of a log that is refused. Assumes nothing.
+-- The listings of the log L, full (01) and light (02, 3/12), computed from the definition, and the line of a log that is refused. Assumes
+-- nothing.
 use mathlib.Core.Path.{_≡_, refl, ap, _∙_}
 use mathlib.Core.List.{List, [], _∷_, _++_}
 use Prim.Native.Nat.{ℕ, _+_}
@@ -20,9 +21,11 @@ use Rattle.rules.specs.Traces.{_has_, _beginsWith_, atEachFrom, atSomeFrom, eve
 use Rattle.rules.specs.Mining.{noPair, noRelations, smallestSource, _without_, event, someEvent, _with_, atMostOnce, precedes, answers}
 use Rattle.rules.specs.Mining.{chained, together, before, followed, between, alternates, beforeFirst, step1, step2, directlyBefore, step3}
 use Rattle.rules.specs.Mining.{neverTogether, step4, closes, step5, step6, step7, reduced, step8, includedAfter, neverMissed, step9}
-use Rattle.rules.specs.Mining.{step10, afterFive, afterSeven, afterEight, mined}
+use Rattle.rules.specs.Mining.{step10, afterFive, afterSix, afterSeven, afterEight, mined}
+use Rattle.rules.specs.declared.Profile.{Profile}
+use Rattle.rules.specs.declared.Profile.the-variants.{Full, Light}
 use Rattle.rules.specs.Mined.{graphFrom, minedGraph}
-use Rattle.rules.proofs.Cases.{L, G}
+use Rattle.rules.proofs.Cases.{L, G, lightG}
 use Rattle.report.specs.Lines.{figures, decimal, line}
 use Rattle.report.specs.Pairs.{passing, pairsFrom}
 use Rattle.report.specs.Listing.{firstLine, pairLine, pairLines, traceLine, traceLines, relationLines, linesOf, refusedLine}
@@ -42,17 +45,17 @@ three x a b = x ∷ 32 ∷ (48 + a) ∷ 32 ∷ (48 + b) ∷ 10 ∷ []
 abbrev five : ℕ → ℕ → ℕ → ℕ → ℕ → List ℕ
 five x a b n w = x ∷ 32 ∷ (48 + a) ∷ 32 ∷ (48 + b) ∷ 32 ∷ (48 + n) ∷ 32 ∷ (48 + w) ∷ 10 ∷ []
 
--- events 3 C 2 R 2 I 1 E 4 traces 2
-first : List ℕ
-first =
+-- events 3 C 2 R 2 I 1 E n traces 2
+first : ℕ → List ℕ
+first n =
     101 ∷ 118 ∷ 101 ∷ 110 ∷ 116 ∷ 115 ∷ 32 ∷ 51 ∷ 32
-    ∷ 67 ∷ 32 ∷ 50 ∷ 32 ∷ 82 ∷ 32 ∷ 50 ∷ 32 ∷ 73 ∷ 32 ∷ 49 ∷ 32 ∷ 69 ∷ 32 ∷ 52 ∷ 32
+    ∷ 67 ∷ 32 ∷ 50 ∷ 32 ∷ 82 ∷ 32 ∷ 50 ∷ 32 ∷ 73 ∷ 32 ∷ 49 ∷ 32 ∷ 69 ∷ 32 ∷ (48 + n) ∷ 32
     ∷ 116 ∷ 114 ∷ 97 ∷ 99 ∷ 101 ∷ 115 ∷ 32 ∷ 50 ∷ 10 ∷ []
 
--- the listing, whole
-pub printed : List ℕ
-printed =
-    first
+-- a listing, whole, by the number of exclusions and their lines
+listing : ℕ → List ℕ → List ℕ
+listing n exclusions =
+    first n
     -- C
     ++ three 67 0 1
     ++ three 67 0 2
@@ -62,47 +65,54 @@ printed =
     -- I
     ++ three 73 0 1
     -- E
-    ++ three 69 0 0
-    ++ three 69 1 1
-    ++ three 69 2 1
-    ++ three 69 2 2
+    ++ exclusions
     -- T
     ++ five 84 0 3 0 1
     ++ five 84 1 2 0 1
 
+pub printed : List ℕ
+printed = listing 4 (three 69 0 0 ++ three 69 1 1 ++ three 69 2 1 ++ three 69 2 2)
+
+pub printedLight : List ℕ
+printedLight = listing 3 (three 69 0 0 ++ three 69 1 1 ++ three 69 2 2)
+
 -- ---- the same from the definition
 
--- the graph of L, by its rows
-graph : minedGraph 3 L ≡ G
-unfolding L G
+-- the graphs of L, by their rows
+graphs : (minedGraph 3 L Full ≡ G) × (minedGraph 3 L Light ≡ lightG)
+unfolding L G lightG
     _and_ _or_ non bit mem those bitsOf someBelow everyBelow listFrom rowsOf tablesOf
     _has_ _beginsWith_ atEachFrom atSomeFrom everyTrace someTrace
     noPair noRelations smallestSource _without_ event someEvent _with_ atMostOnce precedes answers chained together before followed between alternates beforeFirst
     step1 step2 directlyBefore step3 neverTogether step4 closes step5 step6 step7 reduced step8 includedAfter neverMissed step9 step10
-    afterFive afterSeven afterEight mined graphFrom minedGraph
-graph = refl
+    afterFive afterSix afterSeven afterEight mined graphFrom minedGraph
+graphs = (refl, refl)
 
-lines : linesOf G L ≡ printed
-unfolding L G printed first
+lines : (linesOf G L ≡ printed) × (linesOf lightG L ≡ printedLight)
+unfolding L G lightG printed printedLight listing first
     _and_ _or_ non bit mem those bitsOf someBelow everyBelow countBelow isEmpty within rowAt tableAt inRow listFrom
     waits enabled after accepting markingWithin rowWithin rowsWithin relationsWithin graphWithin judgedFor replayFrom replayOf
     figures line passing pairsFrom firstLine pairLine pairLines traceLine traceLines relationLines linesOf
-lines = refl
+lines = (refl, refl)
 
-read : listingOf file ≡ linesOf (minedGraph 3 L) L
+read : (p : Profile) → listingOf file p ≡ linesOf (minedGraph 3 L p) L
 unfolding file L
     _and_ _or_ non opensWith valueOf numberAt activitiesIn tracesIn offsetAt lengthAt bodiesStart eventsBefore
     firstRefusal allBelow judgedHead judgedEntry judgedBodies judgedContents judgedLog tracesFrom logOf listingOf
-read = refl
+read p = refl
 
 -- THE THEOREM
-pub listing-of-L : listingOf file ≡ printed
-listing-of-L = read ∙ ap (λ (g : Graph). linesOf g L) graph ∙ lines
+pub listing-of-L : (listingOf file Full ≡ printed) × (listingOf file Light ≡ printedLight)
+listing-of-L = (
+  read Full ∙ ap (λ (g : Graph). linesOf g L) (graphs .0) ∙ lines .0,
+  read Light ∙ ap (λ (g : Graph). linesOf g L) (graphs .1) ∙ lines .1,
+)
 
 -- refused 1: no bytes at all
-pub listing-of-nothing : listingOf [] ≡ 114 ∷ 101 ∷ 102 ∷ 117 ∷ 115 ∷ 101 ∷ 100 ∷ 32 ∷ 49 ∷ 10 ∷ []
+pub listing-of-nothing : (p : Profile) → listingOf [] p
+    ≡ 114 ∷ 101 ∷ 102 ∷ 117 ∷ 115 ∷ 101 ∷ 100 ∷ 32 ∷ 49 ∷ 10 ∷ []
 unfolding judgedHead judgedLog logOf figures line refusedLine listingOf
-listing-of-nothing = refl
+listing-of-nothing p = refl
 
 -- numbers of one to five figures
 pub numbers : decimal 0 ++ decimal 9 ++ decimal 10 ++ decimal 4096 ++ decimal 32768
@@ -111,6 +121,6 @@ unfolding figures
 numbers = refl
 
 -- where L's first line gives the number of conditions, it says 2
-pub conditions-counted : getD (listingOf file) 11 0 ≡ 50
-unfolding printed first
-conditions-counted = ap (λ (text : List ℕ). getD text 11 0) listing-of-L
+pub conditions-counted : getD (listingOf file Full) 11 0 ≡ 50
+unfolding printed listing first
+conditions-counted = ap (λ (text : List ℕ). getD text 11 0) (listing-of-L .0)

@@ -7,5 +7,7 @@ pub mod TraceLaws
 pub mod Longest
 pub mod WholeLaws
 pub mod Ways
+pub mod SummaryLaws
+pub mod Choosing
 pub mod Examples
 pub mod Decimal

@@ -13,7 +13,7 @@ use Rattle.sets.specs.Sizes.{mostTraces}
 use Rattle.sets.specs.Answers.{numberOf, isDone}
 use Rattle.sets.specs.declared.answer.Answer.{Answer}
 use Rattle.sets.specs.declared.answer.Answer.the-variants.{Done, TooShort, WrongLetters, AboveLimit, WrongOffset, Outside, BadRow}
-use Rattle.sets.specs.declared.answer.Answer.the-variants.{BufferTooSmall, NoEvent, NotIncluded, Waiting, NoTrace}
+use Rattle.sets.specs.declared.answer.Answer.the-variants.{BufferTooSmall, NoEvent, NotIncluded, Waiting, NoTrace, WrongArgument}
 use Rattle.sets.proofs.Below.{count-le}
 use Rattle.engine.specs.Relations.{relationsOf}
 use Rattle.engine.specs.Replay.{replayOf}
@@ -22,12 +22,13 @@ use Rattle.engine.specs.declared.replay.Replayed.{Replayed}
 use Rattle.calllog.specs.Logs.{logOf}
 use Rattle.calllog.proofs.Traces.{read-within}
 use Rattle.rules.specs.Traces.{Traces}
+use Rattle.rules.specs.declared.Profile.{Profile}
 use Rattle.rules.specs.Mined.{minedGraph}
 use Rattle.rules.proofs.FromFile.{file-accepted}
 use Rattle.report.specs.Lines.{line, C, R, I, E}
 use Rattle.report.specs.Pairs.{passing, withEach, pairsFrom, pairCount}
 use Rattle.report.specs.Listing.{firstLine, pairLine, pairLines, traceLine, traceLines, relationLines, linesOf, refusedLine}
-use Rattle.report.specs.Listing.{listingOf, longestListing}
+use Rattle.report.specs.Listing.{listingOf, longestListing, longestRefused}
 use Rattle.report.proofs.Figures.{one-figure, two-figures, three-figures, four-figures}
 use Rattle.report.proofs.PairLaws.{pairs-most}
 use Rattle.report.proofs.LineLaws.{lines-append}
@@ -94,6 +95,7 @@ number-small NoEvent = omega arith
 number-small NotIncluded = omega arith
 number-small (Waiting b) = omega arith
 number-small NoTrace = omega arith
+number-small WrongArgument = omega arith
 
 digit-small : (b : Bool) → digit b < 10
 digit-small true = omega arith
@@ -142,6 +144,11 @@ first-most g n l =
 
 -- ---- the whole
 
+-- the line of a refusal: refused 12
+pub refused-most : (a : Answer) → length (refusedLine a) ≤ longestRefused
+unfolding refusedLine line
+refused-most a = simp length-append (omega (arith, two-figures (numberOf a) (number-small a)))
+
 module _ (bytes : List ℕ) where
   abbrev L : Traces
   L = logOf bytes .traces
@@ -158,16 +165,12 @@ module _ (bytes : List ℕ) where
         traces-most (replayOf g) 0 L (omega arith) (λ σ m. omega (arith, file-accepted bytes .lengths σ m)),
       ))
 
-  refused-most : (a : Answer) → length (refusedLine a) ≤ longestListing
-  unfolding refusedLine line
-  refused-most a = simp length-append (omega (arith, two-figures (numberOf a) (number-small a)))
-
   -- THE THEOREM
-  pub longest : length (listingOf bytes) ≤ longestListing
+  pub longest : (p : Profile) → length (listingOf bytes p) ≤ longestListing
   unfolding listingOf
-  longest = by (isDone (logOf bytes .answer))
+  longest p = by (isDone (logOf bytes .answer))
     where
       by : (b : Bool)
-          → length (when b then linesOf (minedGraph (logOf bytes .activities) L) L else refusedLine (logOf bytes .answer)) ≤ longestListing
-      by true = lines-most (minedGraph (logOf bytes .activities) L)
-      by false = refused-most (logOf bytes .answer)
+          → length (when b then linesOf (minedGraph (logOf bytes .activities) L p) L else refusedLine (logOf bytes .answer)) ≤ longestListing
+      by true = lines-most (minedGraph (logOf bytes .activities) L p)
+      by false = omega (arith, refused-most (logOf bytes .answer))

@@ -15,6 +15,7 @@ use Rattle.sets.specs.declared.answer.Answer.{Answer}
 use Rattle.sets.specs.declared.answer.Answer.the-variants.{BufferTooSmall}
 use Rattle.engine.specs.Relations.{emptyGraph}
 use Rattle.calllog.specs.Logs.{logOf}
+use Rattle.rules.specs.declared.Profile.{Profile}
 use Rattle.rules.specs.Mined.{minedGraph}
 use Rattle.miner.specs.Mine.{minedOf}
 use Rattle.miner.specs.declared.mining.Mined.{Mined}
@@ -25,47 +26,47 @@ use Rattle.report.proofs.Longest.{longest}
 use Rattle.report.proofs.WholeLaws.{listing-done, listing-refused}
 
 -- by whether the buffer is smaller than the longest listing
-module _ (log out : List ℕ) (b : Bool) (h : ltb (length out) longestListing ≡ b) where
-  listed-is : listedOf log (length out)
+module _ (log : List ℕ) (p : Profile) (out : List ℕ) (b : Bool) (h : ltb (length out) longestListing ≡ b) where
+  listed-is : listedOf log p (length out)
       ≡ when b then record { answer = BufferTooSmall; length = 0 } else record {
         answer = logOf log .answer;
         length = length
-            (listingOf log);
+            (listingOf log p);
       }
   unfolding listedOf
-  listed-is = ap (λ (t : Bool). when t then record { answer = BufferTooSmall; length = 0 } else record { answer = logOf log .answer; length = length (listingOf log) }) h
+  listed-is = ap (λ (t : Bool). when t then record { answer = BufferTooSmall; length = 0 } else record { answer = logOf log .answer; length = length (listingOf log p) }) h
 
-  buffer-is : listingAfter log out ≡ when b then out else listingOf log ++ drop (length (listingOf log)) out
+  buffer-is : listingAfter log p out ≡ when b then out else listingOf log p ++ drop (length (listingOf log p)) out
   unfolding listingAfter
-  buffer-is = ap (λ (t : Bool). when t then out else listingOf log ++ drop (length (listingOf log)) out) h
+  buffer-is = ap (λ (t : Bool). when t then out else listingOf log p ++ drop (length (listingOf log p)) out) h
 
-module _ (log out : List ℕ) (small : length out < longestListing) where
-  pub small-listed : _≡_ {A = Listed} (record { answer = BufferTooSmall; length = 0 }) (listedOf log (length out))
-  small-listed = sym (listed-is log out true (lt-ltb (length out) longestListing small))
+module _ (log : List ℕ) (p : Profile) (out : List ℕ) (small : length out < longestListing) where
+  pub small-listed : _≡_ {A = Listed} (record { answer = BufferTooSmall; length = 0 }) (listedOf log p (length out))
+  small-listed = sym (listed-is log p out true (lt-ltb (length out) longestListing small))
 
-  pub small-kept : out ≡ listingAfter log out
-  small-kept = sym (buffer-is log out true (lt-ltb (length out) longestListing small))
+  pub small-kept : out ≡ listingAfter log p out
+  small-kept = sym (buffer-is log p out true (lt-ltb (length out) longestListing small))
 
-module _ (log out : List ℕ) (big : longestListing ≤ length out) where
+module _ (log : List ℕ) (p : Profile) (out : List ℕ) (big : longestListing ≤ length out) where
   -- the listing fits
-  fits : (text : List ℕ) → text ≡ listingOf log → 0 + length text ≤ length out
-  fits text e = omega (arith, ap length e, longest log)
+  fits : (text : List ℕ) → text ≡ listingOf log p → 0 + length text ≤ length out
+  fits text e = omega (arith, ap length e, longest log p)
 
-  module _ (text out′ : List ℕ) (n : ℕ) (e : text ≡ listingOf log) (p : Put out 0 text out′ n) where
-    put-listed : (x : Answer) → x ≡ logOf log .answer → _≡_ {A = Listed} (record { answer = x; length = n }) (listedOf log (length out))
+  module _ (text out′ : List ℕ) (n : ℕ) (e : text ≡ listingOf log p) (put : Put out 0 text out′ n) where
+    put-listed : (x : Answer) → x ≡ logOf log .answer → _≡_ {A = Listed} (record { answer = x; length = n }) (listedOf log p (length out))
     put-listed x ha =
-        let size : n ≡ length (listingOf log) = p .place ∙ zero-add (length text) ∙ ap length e in
-        (λ i. record { answer = ha i; length = size i }) ∙ sym (listed-is log out false (le-ltb (length out) longestListing big))
+        let size : n ≡ length (listingOf log p) = put .place ∙ zero-add (length text) ∙ ap length e in
+        (λ i. record { answer = ha i; length = size i }) ∙ sym (listed-is log p out false (le-ltb (length out) longestListing big))
 
-    put-held : out′ ≡ listingAfter log out
+    put-held : out′ ≡ listingAfter log p out
     put-held =
-        p .bytes
+        put .bytes
         ∙ sets-eq text out 0 (fits text e)
         ∙ ap (λ (k : ℕ). text ++ drop k out) (zero-add (length text))
         ∙ ap (λ (x : List ℕ). x ++ drop (length x) out) e
-        ∙ sym (buffer-is log out false (le-ltb (length out) longestListing big))
+        ∙ sym (buffer-is log p out false (le-ltb (length out) longestListing big))
 
-  module _ (mined : Mined) (r : Bool) (hm : mined ≡ minedOf log) (hr : r ≡ isDone (mined .answer)) where
+  module _ (mined : Mined) (r : Bool) (hm : mined ≡ minedOf log p) (hr : r ≡ isDone (mined .answer)) where
     answer-is : mined .answer ≡ logOf log .answer
     unfolding minedOf
     answer-is = ap (λ (x : Mined). x .answer) hm
@@ -74,34 +75,34 @@ module _ (log out : List ℕ) (big : longestListing ≤ length out) where
     done-is b e = ap isDone (sym answer-is) ∙ sym hr ∙ e
 
     module _ (t : not r ≡ true) where
-      refused-is : refusedLine (mined .answer) ≡ listingOf log
-      refused-is = listing-refused log (mined .answer) (done-is false (not-true r t)) answer-is
+      refused-is : refusedLine (mined .answer) ≡ listingOf log p
+      refused-is = listing-refused log p (mined .answer) (done-is false (not-true r t)) answer-is
 
       pub refused-fits : 0 + length (refusedLine (mined .answer)) ≤ length out
       refused-fits = fits _ refused-is
 
-      module _ (out′ : List ℕ) (n : ℕ) (p : Put out 0 (refusedLine (mined .answer)) out′ n) where
-        pub refused-listed : _≡_ {A = Listed} (record { answer = mined .answer; length = n }) (listedOf log (length out))
-        refused-listed = put-listed _ out′ n refused-is p (mined .answer) answer-is
+      module _ (out′ : List ℕ) (n : ℕ) (put : Put out 0 (refusedLine (mined .answer)) out′ n) where
+        pub refused-listed : _≡_ {A = Listed} (record { answer = mined .answer; length = n }) (listedOf log p (length out))
+        refused-listed = put-listed _ out′ n refused-is put (mined .answer) answer-is
 
-        pub refused-held : out′ ≡ listingAfter log out
-        refused-held = put-held _ out′ n refused-is p
+        pub refused-held : out′ ≡ listingAfter log p out
+        refused-held = put-held _ out′ n refused-is put
 
     module _ (t : not r ≡ false) where
-      graph-is : graphText (mined .graph) log ≡ listingOf log
+      graph-is : graphText (mined .graph) log ≡ listingOf log p
       unfolding minedOf
       graph-is =
           let done = done-is true (not-false r t) in
-          listing-done log (mined .graph) done
+          listing-done log p (mined .graph) done
           (ap (λ (x : Mined). x .graph) hm
-          ∙ ap (λ (b : Bool). when b then minedGraph (logOf log .activities) (logOf log .traces) else emptyGraph) done)
+          ∙ ap (λ (b : Bool). when b then minedGraph (logOf log .activities) (logOf log .traces) p else emptyGraph) done)
 
       pub graph-fits : 0 + length (graphText (mined .graph) log) ≤ length out
       graph-fits = fits _ graph-is
 
-      module _ (out′ : List ℕ) (n : ℕ) (p : Put out 0 (graphText (mined .graph) log) out′ n) where
-        pub graph-listed : _≡_ {A = Listed} (record { answer = mined .answer; length = n }) (listedOf log (length out))
-        graph-listed = put-listed _ out′ n graph-is p (mined .answer) answer-is
+      module _ (out′ : List ℕ) (n : ℕ) (put : Put out 0 (graphText (mined .graph) log) out′ n) where
+        pub graph-listed : _≡_ {A = Listed} (record { answer = mined .answer; length = n }) (listedOf log p (length out))
+        graph-listed = put-listed _ out′ n graph-is put (mined .answer) answer-is
 
-        pub graph-held : out′ ≡ listingAfter log out
-        graph-held = put-held _ out′ n graph-is p
+        pub graph-held : out′ ≡ listingAfter log p out
+        graph-held = put-held _ out′ n graph-is put

@@ -25,6 +25,7 @@ use Rattle.engine.proofs.Acceptable.{replay-judged}
 use Rattle.calllog.specs.declared.judge.Judged.{Judged}
 use Rattle.calllog.specs.Logs.{logOf, judgedOf}
 use Rattle.rules.specs.Traces.{Traces}
+use Rattle.rules.specs.declared.Profile.{Profile}
 use Rattle.rules.specs.Mined.{minedGraph}
 use Rattle.rules.proofs.Acceptable.{acceptable}
 use Rattle.rules.proofs.FromFile.{file-accepted}
@@ -140,31 +141,31 @@ module _ (g : Graph) where
       ap₂ _++_ (ap (traceLine k (length σ)) (sym (replay-judged g d σ (h σ (List·Memᴰ·head refl)))))
       (replays-are d (suc k) L (λ τ m. h τ (List·Memᴰ·tail m)))
 
-module _ (log : List ℕ) where
+module _ (log : List ℕ) (p : Profile) where
   abbrev A : ℕ
   A = logOf log .activities
 
   abbrev L : Traces
   L = logOf log .traces
 
-  graph-lines : graphText (minedGraph A L) log ≡ linesOf (minedGraph A L) L
+  graph-lines : graphText (minedGraph A L p) log ≡ linesOf (minedGraph A L p) L
   unfolding linesOf three
   graph-lines =
-      let g = minedGraph A L in
+      let g = minedGraph A L p in
       let ok = file-accepted log in
       ap₂ _++_ (ap₂ _++_ (heading-is g (length L)) (relations-are g))
       (ap (traceLines (replayFrom (g .head .events) (relationsOf g) (g .head .opening) 0) 0) (walk-all log)
-      ∙ replays-are g (acceptable A L ok) 0 L (ok .lengths))
+      ∙ replays-are g (acceptable A L ok p) 0 L (ok .lengths))
 
   -- the two ways of the definition
-  pub listing-done : (g : Graph) → isDone (logOf log .answer) ≡ true → g ≡ minedGraph A L → graphText g log ≡ listingOf log
+  pub listing-done : (g : Graph) → isDone (logOf log .answer) ≡ true → g ≡ minedGraph A L p → graphText g log ≡ listingOf log p
   unfolding listingOf
   listing-done g d e =
       ap (λ (x : Graph). graphText x log) e
       ∙ graph-lines
-      ∙ sym (ap (λ (b : Bool). when b then linesOf (minedGraph A L) L else refusedLine (logOf log .answer)) d)
+      ∙ sym (ap (λ (b : Bool). when b then linesOf (minedGraph A L p) L else refusedLine (logOf log .answer)) d)
 
-  pub listing-refused : (x : Answer) → isDone (logOf log .answer) ≡ false → x ≡ logOf log .answer → refusedLine x ≡ listingOf log
+  pub listing-refused : (x : Answer) → isDone (logOf log .answer) ≡ false → x ≡ logOf log .answer → refusedLine x ≡ listingOf log p
   unfolding listingOf
   listing-refused x d e =
-      ap refusedLine e ∙ sym (ap (λ (b : Bool). when b then linesOf (minedGraph A L) L else refusedLine (logOf log .answer)) d)
+      ap refusedLine e ∙ sym (ap (λ (b : Bool). when b then linesOf (minedGraph A L p) L else refusedLine (logOf log .answer)) d)

@@ -1,4 +1,6 @@
 pub mod Lines
 pub mod Pairs
 pub mod Listing
+pub mod Choice
+pub mod Summary
 pub mod Puts

@@ -13,6 +13,7 @@ use Rattle.engine.specs.Replay.{replayOf}
 use Rattle.engine.specs.declared.graph.Graph.{Graph}
 use Rattle.engine.specs.declared.replay.Replayed.{Replayed}
 use Rattle.calllog.specs.Logs.{logOf}
+use Rattle.rules.specs.declared.Profile.{Profile}
 use Rattle.rules.specs.Traces.{Traces}
 use Rattle.rules.specs.Mined.{minedGraph}
 use Rattle.report.specs.declared.writer.Listed.{Listed}
@@ -59,14 +60,14 @@ relationLines g =
 unfoldable pub linesOf : Graph → Traces → List ℕ
 linesOf g L = firstLine g (length L) ++ relationLines g ++ traceLines (replayOf g) 0 L
 
--- a refused log: the one line with its number
+-- a refusal, of the log or of the arguments: the one line with its number
 unfoldable pub refusedLine : Answer → List ℕ
 refusedLine a = line (refusedWord ∷ decimal (numberOf a) ∷ [])
 
--- the whole listing
-unfoldable pub listingOf : List ℕ → List ℕ
-listingOf bytes =
-    when isDone (logOf bytes .answer) then linesOf (minedGraph (logOf bytes .activities) (logOf bytes .traces)) (logOf bytes .traces)
+-- the whole listing, of the graph in the profile (02, 3/12)
+unfoldable pub listingOf : List ℕ → Profile → List ℕ
+listingOf bytes p =
+    when isDone (logOf bytes .answer) then linesOf (minedGraph (logOf bytes .activities) (logOf bytes .traces) p) (logOf bytes .traces)
     else refusedLine (logOf bytes .answer)
 
 -- no listing is longer: 50 bytes for the first line (events 64 C 4096 R 4096 I 4096 E 4096 traces 1024), 8 for each of 4 × 4,096 pairs
@@ -74,14 +75,18 @@ listingOf bytes =
 abbrev pub longestListing : ℕ
 longestListing = 147506
 
+-- the line of a refusal has a number of at most two figures: refused 12
+abbrev pub longestRefused : ℕ
+longestRefused = 11
+
 -- ---- what `write_listing` gives and leaves in a buffer of so many bytes: 7 and no byte changed where a listing might not fit
 
-unfoldable pub listedOf : List ℕ → ℕ → Listed
-listedOf bytes room =
+unfoldable pub listedOf : List ℕ → Profile → ℕ → Listed
+listedOf bytes p room =
     when ltb room longestListing then record { answer = BufferTooSmall; length = 0 }
-    else record { answer = logOf bytes .answer; length = length (listingOf bytes) }
+    else record { answer = logOf bytes .answer; length = length (listingOf bytes p) }
 
 -- the listing, then what was there
-unfoldable pub listingAfter : List ℕ → List ℕ → List ℕ
-listingAfter bytes buffer =
-    when ltb (length buffer) longestListing then buffer else listingOf bytes ++ drop (length (listingOf bytes)) buffer
+unfoldable pub listingAfter : List ℕ → Profile → List ℕ → List ℕ
+listingAfter bytes p buffer =
+    when ltb (length buffer) longestListing then buffer else listingOf bytes p ++ drop (length (listingOf bytes p)) buffer

@@ -17,6 +17,7 @@ use Rattle.tally.specs.Passes.{walked}
 use Rattle.sets.specs.Rows.{turned}
 use Rattle.report.specs.Lines.{space, lineEnd, decimal, eventsWord, tracesWord, C, R, I, E, T}
 use Rattle.report.specs.Pairs.{pairsOf, pairCount}
+use Rattle.report.specs.Summary.{countsOf}
 use Rattle.report.specs.Listing.{pairLines, traceLines}
 
 -- the text stands from `at` on, all else is as it was, and the next place is the one after it
@@ -75,3 +76,10 @@ linesText head tables log n =
 -- the same, of all traces of a log
 abbrev pub graphText : Graph → List ℕ → List ℕ
 graphText g log = linesText (g .head) (g .relations) log (length (logOf log .traces))
+
+-- the counts of a table's rows, and of a graph's conditions and excludes
+abbrev pub rowCounts : List ℕ → ℕ → List ℕ
+rowCounts tables table = countsOf (inRow (tableAt tables table))
+
+abbrev pub summaryText : List ℕ → List ℕ
+summaryText tables = rowCounts (bySource tables) 0 ++ rowCounts tables 3

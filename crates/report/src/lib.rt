@@ -1,9 +1,15 @@
-// The listing of a log, as bytes in a lent buffer.
+// The listing of a log and its summary, as bytes in a lent buffer, and which listing the program's arguments ask for.
+pub mod choice;
 mod heading;
 mod relations;
 mod replays;
+pub mod summary;
 mod text;
 pub mod writer;
 
+pub use choice::Choice;
+pub use choice::choose;
+pub use choice::write_refused;
+pub use summary::write_summary;
 pub use writer::Listed;
 pub use writer::write_listing;

@@ -12,6 +12,7 @@ use engine::Graph;
 use engine::Head;
 use engine::Relations;
 use engine::graph::CONDITIONS;
+use rules::Profile;
 use sets::Answer;
 use sets::rows;
 use sets::tables;
@@ -27,8 +28,8 @@ pub struct Listed {
     pub length: usize,
 }
 
-// The one line of a refused log.
-fn put_refused(out: &mut [u8], answer: Answer) -> usize
+// The one line of a refusal.
+pub(crate) fn put_refused(out: &mut [u8], answer: Answer) -> usize
     requires { ⌜ 0 + length (refusedLine answer) ≤ length (now out) ⌝ }
     ensures { λ r. ⌜ Put (now (out .entry)) 0 (refusedLine answer) (now (out .exit)) r ⌝ }
 {
@@ -65,10 +66,10 @@ fn put_graph(out: &mut [u8], log: &[u8], g: Graph) -> usize
     put_lines(out, log, judged.traces, head, &g.relations)
 }
 
-// Lists a log: reads it, mines it, replays it on its graph.
-pub fn write_listing(log: &[u8], out: &mut [u8]) -> Listed
-    ensures { λ r. ⌜ r ≡ listedOf (now (log .entry)) (length (now (out .entry))) ⌝ }
-    ensures { λ _. ⌜ now (out .exit) ≡ listingAfter (now (log .entry)) (now (out .entry)) ⌝ }
+// Lists a log: reads it, mines it in the profile, replays it on its graph.
+pub fn write_listing(log: &[u8], profile: Profile, out: &mut [u8]) -> Listed
+    ensures { λ r. ⌜ r ≡ listedOf (now (log .entry)) profile (length (now (out .entry))) ⌝ }
+    ensures { λ _. ⌜ now (out .exit) ≡ listingAfter (now (log .entry)) profile (now (out .entry)) ⌝ }
 {
     if out.len() < LONGEST {
         return Listed {
@@ -76,7 +77,7 @@ pub fn write_listing(log: &[u8], out: &mut [u8]) -> Listed
             length: 0,
         };
     }
-    let mined = miner::mine(log);
+    let mined = miner::mine(log, profile);
     let answer = mined.answer;
     if !answer.is_done() {
         let size = put_refused(out, answer);

@@ -1,8 +1,10 @@
--- The mined graph of an accepted log is acceptable by the engine's own test: it is never refused with 3 or 5. Assumes nothing.
+-- A graph of relations with reasons in an accepted log is acceptable by the engine's own test: it is never refused with 3 or 5. So is the
+-- mined graph, in both profiles. Assumes nothing.
 use mathlib.Core.Path.{_≡_, sym, subst}
 use mathlib.Core.Bool.{Bool, false}
 use mathlib.Core.List.{List}
 use Prim.Native.Nat.{ℕ, zero, suc, _<_}
+use native.Mathlib.Nat.{lt-of-lt-of-le}
 use borrow.Author.Tests.{le-ltb, lt-ltb}
 use lib.Dec.{T}
 use Rattle.sets.specs.Tests.{non}
@@ -16,16 +18,17 @@ use Rattle.sets.proofs.Members.{those-i, those-e, within-i}
 use Rattle.sets.proofs.RowLaws.{in-rowsOf}
 use Rattle.sets.proofs.TableLaws.{table-tablesOf}
 use Rattle.sets.specs.Members.{noSet}
-use Rattle.engine.specs.Relations.{relationCount, kept}
+use Rattle.engine.specs.Relations.{Relations, relationCount, kept}
 use Rattle.engine.specs.Judged.{rowWithin, rowsWithin, relationsWithin, graphWithin, judgedFor, judged}
 use Rattle.sets.specs.Sizes.{mostActivities}
 use Rattle.engine.proofs.Acceptable.{marking-whole}
+use Rattle.rules.specs.declared.Profile.{Profile}
 use Rattle.rules.specs.Traces.{Traces}
 use Rattle.rules.specs.Mining.{event, mined}
 use Rattle.rules.specs.Mined.{graphFrom, minedGraph}
 use Rattle.rules.specs.Replays.{Accepted}
 use Rattle.rules.proofs.Places.{some-trace}
-use Rattle.rules.proofs.Why.{of-conditions, of-responses, of-includes, of-excludes}
+use Rattle.rules.proofs.Why.{Reasons, Small, reasons}
 
 -- a refusal that is not given
 pub passed : (a : Bool) → T a → non a ≡ false
@@ -46,24 +49,35 @@ module _ (A : ℕ) (L : Traces) (ok : Accepted A L) where
   unfolding event
   event-below a h = let r = some-trace L _ h in ok .members (r .0) (r .1) a (r .2)
 
-  graph-within : T (graphWithin (minedGraph A L))
-  unfolding graphWithin relationsWithin minedGraph graphFrom
-  graph-within =
-      let E = those (event L) in
-      let none : T (within noSet E) = within-i noSet E (λ a l t. absurd (T-eq (mem-none a) t)) in
-      and-i _ _
-      (and-i _ _
-      (within-i E _ (λ a l t. those-i _ a l (true→T (lt-ltb a A (event-below a (those-e (event L) a t .1))))))
-      (marking-whole E _ none none (within-i E E (λ a l t. t))))
-      (every-i relationCount _
-      (λ k l. subst (λ (rows : List ℕ). T (rowsWithin E rows)) (sym (table-tablesOf relationCount (kept (mined L)) k l)) (of-table k)))
-    where
-      of-table : (k : ℕ) → T (rowsWithin (those (event L)) (rowsOf (kept (mined L) k)))
-      of-table zero = rows-within (event L) _ (λ t s h. let r = of-conditions L s t h in (r .1, r .0))
-      of-table (suc zero) = rows-within (event L) _ (of-responses L)
-      of-table (suc (suc zero)) = rows-within (event L) _ (of-includes L)
-      of-table (suc (suc (suc k))) = rows-within (event L) _ (of-excludes L)
+  pub small : Small L
+  small a h = lt-of-lt-of-le (event-below a h) (ok .activities)
 
-  pub acceptable : judged (minedGraph A L) ≡ Done
-  unfolding judgedFor minedGraph graphFrom
-  acceptable = rw (le-ltb mostActivities A (ok .activities), passed _ graph-within)
+  module _ (g : Relations) (why : Reasons L g) where
+    graph-within : T (graphWithin (graphFrom A (those (event L)) g))
+    unfolding graphWithin relationsWithin graphFrom
+    graph-within =
+        let E = those (event L) in
+        let none : T (within noSet E) = within-i noSet E (λ a l t. absurd (T-eq (mem-none a) t)) in
+        and-i _ _
+        (and-i _ _
+        (within-i E _ (λ a l t. those-i _ a l (true→T (lt-ltb a A (event-below a (those-e (event L) a t .1))))))
+        (marking-whole E _ none none (within-i E E (λ a l t. t))))
+        (every-i relationCount _
+        (λ k l. subst (λ (rows : List ℕ). T (rowsWithin E rows)) (sym (table-tablesOf relationCount (kept g) k l)) (of-table k)))
+      where
+        of-table : (k : ℕ) → T (rowsWithin (those (event L)) (rowsOf (kept g k)))
+        of-table zero = rows-within (event L) _ (λ t s h. let r = why .condition s t h .0 in (r .1, r .0))
+        of-table (suc zero) = rows-within (event L) _ (λ s t h. why .response s t h .0)
+        of-table (suc (suc zero)) = rows-within (event L) _ (why .include)
+        of-table (suc (suc (suc k))) = rows-within (event L) _ (λ s t h. why .exclude s t h .0)
+
+    pub acceptable-by : judged (graphFrom A (those (event L)) g) ≡ Done
+    unfolding judgedFor graphFrom
+    acceptable-by = rw (le-ltb mostActivities A (ok .activities), passed _ graph-within)
+
+  pub mined-reasons : (p : Profile) → Reasons L (mined L p)
+  mined-reasons p = reasons L small p
+
+  pub acceptable : (p : Profile) → judged (minedGraph A L p) ≡ Done
+  unfolding minedGraph
+  acceptable p = acceptable-by (mined L p) (mined-reasons p)

@@ -1,4 +1,5 @@
--- The cases of 01, "Calls to try", that are marked (P), with the blockers of 02, 2/12: one table, computed by antt.
+-- The cases of 01, "Calls to try", that are marked (P), with the blockers of 02, 2/12, and the light graph of L (02, 3/12): one table, computed by
+-- antt.
 use lib.Dec.{ltb, lit≤}
 use mathlib.Core.Path.{ap}
 use Prim.Native.Nat.{_≤_}
@@ -28,10 +29,11 @@ use Rattle.calllog.specs.Layout.{activitiesIn, tracesIn, offsetAt, lengthAt, bo
 use Rattle.sets.specs.Answers.{firstRefusal}
 use Rattle.calllog.specs.Judged.{allBelow, judgedHead, judgedEntry, judgedBodies, judgedContents, judgedLog}
 use Rattle.calllog.specs.Logs.{tracesFrom, logOf}
+use Rattle.rules.specs.declared.Profile.the-variants.{Full, Light}
 use Rattle.rules.specs.Traces.{Traces, _has_, _beginsWith_, atEachFrom, atSomeFrom, everyTrace, someTrace}
-use Rattle.rules.specs.Mining.{noPair, noRelations, smallestSource, _without_, event, someEvent, _with_, atMostOnce, precedes, answers, chained, together, before, followed, between, alternates, beforeFirst, step1, step2, directlyBefore, step3, neverTogether, step4, closes, step5, step6, step7, reduced, step8, includedAfter, neverMissed, step9, step10, afterFive, afterSeven, afterEight, mined}
+use Rattle.rules.specs.Mining.{noPair, noRelations, smallestSource, _without_, event, someEvent, _with_, atMostOnce, precedes, answers, chained, together, before, followed, between, alternates, beforeFirst, step1, step2, directlyBefore, step3, neverTogether, step4, closes, step5, step6, step7, reduced, step8, includedAfter, neverMissed, step9, step10, afterFive, afterSix, afterSeven, afterEight, mined}
 use Rattle.rules.specs.Mined.{graphFrom, minedGraph}
-use Rattle.rules.proofs.Listed.{_to_, listed, rows, Case, _gives_, reading, mining, replaying, stepping, log, graph, ended, stepped, end, step, asked, wanted}
+use Rattle.rules.proofs.Listed.{Pair, _to_, listed, rows, Case, _gives_, reading, mining, replaying, stepping, log, graph, ended, stepped, end, step, asked, wanted}
 
 -- the log L, and all bytes of its file
 unfoldable pub L : Traces
@@ -40,20 +42,26 @@ L = (0 ∷ 1 ∷ 2 ∷ []) ∷ (0 ∷ 2 ∷ []) ∷ []
 file : List ℕ
 file = 66 ∷ 76 ∷ 1 ∷ 3 ∷ 2 ∷ 0 ∷ 0 ∷ 0 ∷ 3 ∷ 0 ∷ 3 ∷ 0 ∷ 2 ∷ 0 ∷ 0 ∷ 1 ∷ 2 ∷ 0 ∷ 2 ∷ []
 
--- the graph of L as the listing has it: the pairs of C, R, I, E
-listing : Graph
-listing =
+-- the graph of L as the listing has it: the pairs of C, R, I, and those given for E
+listing : List Pair → Graph
+listing excludes =
     listed 3 (0 ∷ 1 ∷ 2 ∷ [])
     (0 to 1 ∷ 0 to 2 ∷ [])
     (0 to 2 ∷ 1 to 2 ∷ [])
     (0 to 1 ∷ [])
-    (0 to 0 ∷ 1 to 1 ∷ 2 to 1 ∷ 2 to 2 ∷ [])
+    excludes
 
 -- the same in numbers: each set, and each row of a relation from row 0, as the number that the graph file holds
-unfoldable pub G : Graph
-G =
+abbrev inNumbers : List ℕ → Graph
+inNumbers excludes =
     graphOf (headOf 3 (those (λ a. ltb a 3)) (openingOf (those (λ a. ltb a 3))))
-    (rows (0 ∷ 1 ∷ 1 ∷ []) ++ (rows (4 ∷ 4 ∷ []) ++ (rows (2 ∷ []) ++ rows (1 ∷ 2 ∷ 6 ∷ []))))
+    (rows (0 ∷ 1 ∷ 1 ∷ []) ++ (rows (4 ∷ 4 ∷ []) ++ (rows (2 ∷ []) ++ rows excludes)))
+
+unfoldable pub G : Graph
+G = inNumbers (1 ∷ 2 ∷ 6 ∷ [])
+
+unfoldable pub lightG : Graph
+lightG = inNumbers (1 ∷ 2 ∷ 4 ∷ [])
 
 part0 : List Case
 part0 =
@@ -62,12 +70,12 @@ part0 =
 
 part1 : List Case
 part1 =
-    mining 3 L gives graph listing
+    mining 3 L Full gives graph (listing (0 to 0 ∷ 1 to 1 ∷ 2 to 1 ∷ 2 to 2 ∷ []))
     ∷ []
 
 part2 : List Case
 part2 =
-    mining 3 L gives graph G
+    mining 3 L Full gives graph G
     ∷ []
 
 part3 : List Case
@@ -88,17 +96,17 @@ part4 =
 
 part5 : List Case
 part5 =
-    mining 2 ((0 ∷ 1 ∷ 0 ∷ []) ∷ []) gives graph (listed 2 (0 ∷ 1 ∷ []) (0 to 1 ∷ []) (1 to 0 ∷ []) (0 to 1 ∷ 1 to 0 ∷ []) (0 to 0 ∷ 1 to 1 ∷ []))
+    mining 2 ((0 ∷ 1 ∷ 0 ∷ []) ∷ []) Full gives graph (listed 2 (0 ∷ 1 ∷ []) (0 to 1 ∷ []) (1 to 0 ∷ []) (0 to 1 ∷ 1 to 0 ∷ []) (0 to 0 ∷ 1 to 1 ∷ []))
     ∷ []
 
 part6 : List Case
 part6 =
-    mining 2 ((0 ∷ []) ∷ (1 ∷ []) ∷ []) gives graph (listed 2 (0 ∷ 1 ∷ []) [] [] [] (0 to 0 ∷ 0 to 1 ∷ 1 to 0 ∷ 1 to 1 ∷ []))
+    mining 2 ((0 ∷ []) ∷ (1 ∷ []) ∷ []) Full gives graph (listed 2 (0 ∷ 1 ∷ []) [] [] [] (0 to 0 ∷ 0 to 1 ∷ 1 to 0 ∷ 1 to 1 ∷ []))
     ∷ []
 
 part7 : List Case
 part7 =
-    mining 1 ((0 ∷ 0 ∷ []) ∷ []) gives graph (listed 1 (0 ∷ []) [] [] [] [])
+    mining 1 ((0 ∷ 0 ∷ []) ∷ []) Full gives graph (listed 1 (0 ∷ []) [] [] [] [])
     ∷ []
 
 part8 : List Case
@@ -106,8 +114,14 @@ part8 =
     stepping table3 table3-before 4 gives stepped 0 255 table3-after
     ∷ []
 
+-- without step 6 only the exclusions differ
+part9 : List Case
+part9 =
+    mining 3 L Light gives graph (listing (0 to 0 ∷ 1 to 1 ∷ 2 to 2 ∷ []))
+    ∷ []
+
 pub table : List Case
-table = part0 ++ part1 ++ part2 ++ part3 ++ part4 ++ part5 ++ part6 ++ part7 ++ part8
+table = part0 ++ part1 ++ part2 ++ part3 ++ part4 ++ part5 ++ part6 ++ part7 ++ part8 ++ part9
 
 same0 : map asked part0 ≡ map wanted part0
 unfolding part0 file L listing G
@@ -118,7 +132,7 @@ unfolding part0 file L listing G
     _has_ _beginsWith_ atEachFrom atSomeFrom everyTrace someTrace
     noPair noRelations smallestSource _without_ event someEvent _with_ atMostOnce precedes answers chained together before followed between alternates beforeFirst
     step1 step2 directlyBefore step3 neverTogether step4 closes step5 step6 step7 reduced step8 includedAfter neverMissed step9 step10
-    afterFive afterSeven afterEight mined graphFrom minedGraph
+    afterFive afterSix afterSeven afterEight mined graphFrom minedGraph
 same0 = refl
 
 same1 : map asked part1 ≡ map wanted part1
@@ -130,7 +144,7 @@ unfolding part1 file L listing G
     _has_ _beginsWith_ atEachFrom atSomeFrom everyTrace someTrace
     noPair noRelations smallestSource _without_ event someEvent _with_ atMostOnce precedes answers chained together before followed between alternates beforeFirst
     step1 step2 directlyBefore step3 neverTogether step4 closes step5 step6 step7 reduced step8 includedAfter neverMissed step9 step10
-    afterFive afterSeven afterEight mined graphFrom minedGraph
+    afterFive afterSix afterSeven afterEight mined graphFrom minedGraph
 same1 = refl
 
 same2 : map asked part2 ≡ map wanted part2
@@ -142,7 +156,7 @@ unfolding part2 file L listing G
     _has_ _beginsWith_ atEachFrom atSomeFrom everyTrace someTrace
     noPair noRelations smallestSource _without_ event someEvent _with_ atMostOnce precedes answers chained together before followed between alternates beforeFirst
     step1 step2 directlyBefore step3 neverTogether step4 closes step5 step6 step7 reduced step8 includedAfter neverMissed step9 step10
-    afterFive afterSeven afterEight mined graphFrom minedGraph
+    afterFive afterSix afterSeven afterEight mined graphFrom minedGraph
 same2 = refl
 
 judged-G : judged G ≡ Done
@@ -169,7 +183,7 @@ unfolding part5 file L listing G
     _has_ _beginsWith_ atEachFrom atSomeFrom everyTrace someTrace
     noPair noRelations smallestSource _without_ event someEvent _with_ atMostOnce precedes answers chained together before followed between alternates beforeFirst
     step1 step2 directlyBefore step3 neverTogether step4 closes step5 step6 step7 reduced step8 includedAfter neverMissed step9 step10
-    afterFive afterSeven afterEight mined graphFrom minedGraph
+    afterFive afterSix afterSeven afterEight mined graphFrom minedGraph
 same5 = refl
 
 same6 : map asked part6 ≡ map wanted part6
@@ -181,7 +195,7 @@ unfolding part6 file L listing G
     _has_ _beginsWith_ atEachFrom atSomeFrom everyTrace someTrace
     noPair noRelations smallestSource _without_ event someEvent _with_ atMostOnce precedes answers chained together before followed between alternates beforeFirst
     step1 step2 directlyBefore step3 neverTogether step4 closes step5 step6 step7 reduced step8 includedAfter neverMissed step9 step10
-    afterFive afterSeven afterEight mined graphFrom minedGraph
+    afterFive afterSix afterSeven afterEight mined graphFrom minedGraph
 same6 = refl
 
 same7 : map asked part7 ≡ map wanted part7
@@ -193,14 +207,26 @@ unfolding part7 file L listing G
     _has_ _beginsWith_ atEachFrom atSomeFrom everyTrace someTrace
     noPair noRelations smallestSource _without_ event someEvent _with_ atMostOnce precedes answers chained together before followed between alternates beforeFirst
     step1 step2 directlyBefore step3 neverTogether step4 closes step5 step6 step7 reduced step8 includedAfter neverMissed step9 step10
-    afterFive afterSeven afterEight mined graphFrom minedGraph
+    afterFive afterSix afterSeven afterEight mined graphFrom minedGraph
 same7 = refl
 
 same8 : map asked part8 ≡ map wanted part8
 unfolding part8 replayFrom enabled waits blocker after accepting someBelow leastBelow bitsOf bit mem those _and_ _or_ non rowAt tableAt withRowIn inRow G listFrom
 same8 = λ i. step (stepped-judged table3 table-judged table3-before (opening-inside table3 (judged-within table3 0 table-judged)) 4 i) ∷ []
 
+same9 : map asked part9 ≡ map wanted part9
+unfolding part9 file L listing G
+    _and_ _or_ non bit mem those bitsOf someBelow everyBelow isEmpty within rowAt tableAt withRowIn inRow listFrom rowsOf tablesOf
+    waits enabled after accepting markingWithin rowWithin rowsWithin relationsWithin graphWithin judgedFor judgedWith enabledOf steppedOf replayFrom replayOf
+    opensWith valueOf numberAt activitiesIn tracesIn offsetAt lengthAt bodiesStart eventsBefore
+    firstRefusal allBelow judgedHead judgedEntry judgedBodies judgedContents judgedLog tracesFrom logOf
+    _has_ _beginsWith_ atEachFrom atSomeFrom everyTrace someTrace
+    noPair noRelations smallestSource _without_ event someEvent _with_ atMostOnce precedes answers chained together before followed between alternates beforeFirst
+    step1 step2 directlyBefore step3 neverTogether step4 closes step5 step6 step7 reduced step8 includedAfter neverMissed step9 step10
+    afterFive afterSix afterSeven afterEight mined graphFrom minedGraph
+same9 = refl
+
 -- THE THEOREM
 pub cases : map asked table ≡ map wanted table
-unfolding table part0 part1 part2 part3 part4 part5 part6 part7 part8
-cases = λ i. same0 i ++ same1 i ++ same2 i ++ same3 i ++ same4 i ++ same5 i ++ same6 i ++ same7 i ++ same8 i
+unfolding table part0 part1 part2 part3 part4 part5 part6 part7 part8 part9
+cases = λ i. same0 i ++ same1 i ++ same2 i ++ same3 i ++ same4 i ++ same5 i ++ same6 i ++ same7 i ++ same8 i ++ same9 i

@@ -1,4 +1,5 @@
--- Demand 3 for a log given as bytes: for every accepted file, the empty trace and each trace of the file replay on the graph mined of it.
+-- Demand 3 for a log given as bytes: for every accepted file, the empty trace and each trace of the file replay on the graph mined of it,
+-- in both profiles.
 -- (A refused file gives A 0 and no trace, so nothing has to be asked of the bytes.) Assumes nothing.
 use mathlib.Core.Path.{_≡_, refl, sym, subst}
 use mathlib.Core.Logic.{inl, inr}
@@ -12,6 +13,7 @@ use Rattle.sets.specs.Sizes.{longestTrace}
 use Rattle.calllog.specs.Judged.{allBelow}
 use Rattle.calllog.specs.Logs.{logOf}
 use Rattle.calllog.proofs.Traces.{read-within}
+use Rattle.rules.specs.declared.Profile.{Profile}
 use Rattle.rules.specs.Traces.{Traces, _has_}
 use Rattle.rules.specs.Replays.{Accepted, AllReplay}
 use Rattle.rules.proofs.Demand3.{demand3}
@@ -54,9 +56,9 @@ module _ (bytes : List ℕ) where
       }
 
   -- THE THEOREM, for a file
-  pub demand3-file : AllReplay A L
-  demand3-file =
+  pub demand3-file : (p : Profile) → AllReplay A L p
+  demand3-file p =
       record {
-        empty = demand3 A L file-accepted [] (inr refl);
-        each = λ k l. demand3 A L file-accepted (getD L k []) (inl (trace-of L k l));
+        empty = demand3 A L p file-accepted [] (inr refl);
+        each = λ k l. demand3 A L p file-accepted (getD L k []) (inl (trace-of L k l));
       }

@@ -17,6 +17,7 @@ use Rattle.engine.specs.Markings.{markingOf}
 use Rattle.engine.specs.Relations.{headOf, graphOf, tablesFrom}
 use Rattle.engine.specs.Replay.{replayOf, steppedOf}
 use Rattle.calllog.specs.Logs.{logOf}
+use Rattle.rules.specs.declared.Profile.{Profile}
 use Rattle.rules.specs.Traces.{Traces, _has_}
 use Rattle.rules.specs.Mined.{minedGraph}
 
@@ -50,7 +51,7 @@ rows xs = listFrom width 0 (λ a. getD xs a 0)
 
 pub data Asked : Type 0 where
   reading : List ℕ → Asked
-  mining : ℕ → Traces → Asked
+  mining : ℕ → Traces → Profile → Asked
   replaying : Graph → List ℕ → Asked
   stepping : Graph → Marking → ℕ → Asked
 
@@ -71,7 +72,7 @@ step r = stepped (numberOf (r .answer)) (blockerOf (r .answer)) (r .marking)
 
 abbrev pub answered : Asked → Given
 answered (reading bytes) = log (numberOf (logOf bytes .answer)) (logOf bytes .activities) (logOf bytes .traces)
-answered (mining A L) = graph (minedGraph A L)
+answered (mining A L p) = graph (minedGraph A L p)
 answered (replaying g σ) = end (replayOf g σ)
 answered (stepping g m e) = step (steppedOf g m e)
 

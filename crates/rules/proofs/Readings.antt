@@ -1,51 +1,56 @@
--- Where the words of 01 allow more than one reading: logs on which the readings differ, and the pairs that the chosen reading gives. Those
--- of steps 3 to 5 are told apart only before step 6, so they have a table and a theorem of their own. Both are computed by antt.
+-- Where the words of 01 allow more than one reading: logs on which the readings differ, and the pairs that the chosen reading gives. What
+-- steps 1 and 3 to 5 exclude is read in the light graph, since step 6 hides it in a full one, in a table and a theorem of its own. Both are
+-- computed by antt.
 use mathlib.Core.Path.{_≡_, refl}
 use mathlib.Core.List.{List, [], _∷_, map}
 use Prim.Native.Nat.{ℕ}
 use Rattle.sets.specs.Tests.{_and_, _or_, non}
 use Rattle.sets.specs.Members.{someBelow}
 use Rattle.sets.specs.Rows.{listFrom}
+use Rattle.rules.specs.declared.Profile.the-variants.{Full, Light}
 use Rattle.rules.specs.Traces.{Traces, _has_, _beginsWith_, atEachFrom, atSomeFrom, everyTrace, someTrace}
-use Rattle.rules.specs.Mining.{noPair, noRelations, smallestSource, _without_, event, someEvent, _with_, atMostOnce, precedes, answers, chained, together, before, followed, between, alternates, beforeFirst, step1, step2, directlyBefore, step3, neverTogether, step4, closes, step5, step6, step7, reduced, step8, includedAfter, neverMissed, step9, step10, afterFive, afterSeven, afterEight, mined}
+use Rattle.rules.specs.Mining.{noPair, noRelations, smallestSource, _without_, event, someEvent, _with_, atMostOnce, precedes, answers, chained, together, before, followed, between, alternates, beforeFirst, step1, step2, directlyBefore, step3, neverTogether, step4, closes, step5, step6, step7, reduced, step8, includedAfter, neverMissed, step9, step10, afterFive, afterSix, afterSeven, afterEight, mined}
 use Rattle.rules.proofs.Listed.{Pair, _to_, oneOf, pairs, Claim, _are_, found, meant}
 
 -- the relations of a log with activities below A, by their pairs
 abbrev includesOf : ℕ → Traces → List Pair
-includesOf A L = pairs A (mined L .includes)
+includesOf A L = pairs A (mined L Full .includes)
 
 abbrev excludesOf : ℕ → Traces → List Pair
-excludesOf A L = pairs A (mined L .excludes)
+excludesOf A L = pairs A (mined L Full .excludes)
 
 abbrev conditionsOf : ℕ → Traces → List Pair
-conditionsOf A L = pairs A (mined L .conditions)
+conditionsOf A L = pairs A (mined L Full .conditions)
 
-abbrev excludesBeforeSix : ℕ → Traces → List Pair
-excludesBeforeSix A L = pairs A (afterFive L .excludes)
+abbrev lightExcludes : ℕ → Traces → List Pair
+lightExcludes A L = pairs A (mined L Light .excludes)
 
--- steps 3 to 5
-pub readingsBeforeSix : List Claim
-readingsBeforeSix =
-    -- step 4: the smallest source is taken among the step's own pairs; 0 excludes 0 already, and 1 excludes 0 all the same
-    excludesBeforeSix 2 ((0 ∷ []) ∷ (1 ∷ []) ∷ []) are (0 to 0 ∷ 0 to 1 ∷ 1 to 0 ∷ 1 to 1 ∷ [])
+-- steps 1 and 3 to 5, in the light graph
+pub lightReadings : List Claim
+lightReadings =
+    -- step 1: what stands once in each trace excludes itself. Step 4: the smallest source is taken among the step's own pairs; 0 excludes 0
+    -- already, and 1 excludes 0 all the same
+    lightExcludes 2 ((0 ∷ []) ∷ (1 ∷ []) ∷ []) are (0 to 0 ∷ 0 to 1 ∷ 1 to 0 ∷ 1 to 1 ∷ [])
     -- each target keeps one source: of 1 and 2 for 0, of 0 and 2 for 1, of 0 and 1 for 2
-    ∷ excludesBeforeSix 3 ((0 ∷ []) ∷ (1 ∷ []) ∷ (2 ∷ []) ∷ []) are (0 to 0 ∷ 0 to 1 ∷ 0 to 2 ∷ 1 to 0 ∷ 1 to 1 ∷ 2 to 2 ∷ [])
-    -- step 5: the later one is the source; of 1 and 2, both after 0, the smaller is kept
-    ∷ excludesBeforeSix 3 ((0 ∷ 0 ∷ 1 ∷ 2 ∷ []) ∷ []) are (1 to 0 ∷ 1 to 1 ∷ 2 to 2 ∷ [])
+    ∷ lightExcludes 3 ((0 ∷ []) ∷ (1 ∷ []) ∷ (2 ∷ []) ∷ []) are (0 to 0 ∷ 0 to 1 ∷ 0 to 2 ∷ 1 to 0 ∷ 1 to 1 ∷ 2 to 2 ∷ [])
+    -- step 5: the later one is the source; of 1 and 2, both after 0, the smaller is kept (the second would go at step 7 in the first log,
+    -- not in the other)
+    ∷ lightExcludes 3 ((0 ∷ 0 ∷ 1 ∷ 2 ∷ []) ∷ []) are (1 to 0 ∷ 1 to 1 ∷ 2 to 2 ∷ [])
+    ∷ lightExcludes 3 ((0 ∷ 0 ∷ 1 ∷ []) ∷ (0 ∷ 0 ∷ 2 ∷ []) ∷ []) are (1 to 0 ∷ 1 to 1 ∷ 1 to 2 ∷ 2 to 1 ∷ 2 to 2 ∷ [])
     -- here too the step's own pairs count alone: 0 excludes 1 by step 4, and 2 excludes 1 all the same
-    ∷ excludesBeforeSix 3 ((0 ∷ []) ∷ (1 ∷ 1 ∷ 2 ∷ []) ∷ []) are (0 to 0 ∷ 0 to 1 ∷ 0 to 2 ∷ 1 to 0 ∷ 2 to 1 ∷ 2 to 2 ∷ [])
-    -- step 5: what excludes itself by step 3, here 2, is left out as well
-    ∷ excludesBeforeSix 5 ((1 ∷ 2 ∷ 1 ∷ 2 ∷ 4 ∷ []) ∷ (4 ∷ []) ∷ []) are (2 to 2 ∷ 4 to 1 ∷ 4 to 4 ∷ [])
+    ∷ lightExcludes 3 ((0 ∷ []) ∷ (1 ∷ 1 ∷ 2 ∷ []) ∷ []) are (0 to 0 ∷ 0 to 1 ∷ 0 to 2 ∷ 1 to 0 ∷ 2 to 1 ∷ 2 to 2 ∷ [])
+    -- step 3: 2 excludes itself, though a trace has it twice. Step 5: what excludes itself by step 3 is left out as well, so no 4 to 2
+    ∷ lightExcludes 5 ((1 ∷ 2 ∷ 1 ∷ 2 ∷ 4 ∷ []) ∷ (4 ∷ []) ∷ []) are (2 to 2 ∷ 4 to 1 ∷ 4 to 4 ∷ [])
     ∷ []
 
--- THE THEOREM of steps 3 to 5
-pub as-read-before-six : map found readingsBeforeSix ≡ map meant readingsBeforeSix
-unfolding readingsBeforeSix _and_ _or_ non someBelow listFrom _has_ _beginsWith_ atEachFrom atSomeFrom everyTrace someTrace
-    noPair noRelations smallestSource event someEvent _with_ atMostOnce precedes answers chained together before
-    step1 step2 directlyBefore step3 neverTogether step4 closes step5 afterFive
-as-read-before-six = refl
+-- THE THEOREM of steps 1 and 3 to 5
+pub as-read-light : map found lightReadings ≡ map meant lightReadings
+unfolding lightReadings _and_ _or_ non someBelow listFrom _has_ _beginsWith_ atEachFrom atSomeFrom everyTrace someTrace
+    noPair noRelations smallestSource _without_ event someEvent _with_ atMostOnce precedes answers chained together before alternates
+    step1 step2 directlyBefore step3 neverTogether step4 closes step5 step7 step8 step9 step10 afterFive afterSix afterSeven afterEight mined
+as-read-light = refl
 
--- the later steps
+-- the other steps, in the full graph
 pub readings : List Claim
 readings =
     -- step 6: what stands between may be the source itself (0 to 2) or the target (2 to 2), and the target is any later one (3 to 2)
@@ -71,5 +76,5 @@ pub as-read : map found readings ≡ map meant readings
 unfolding readings _and_ _or_ non someBelow listFrom _has_ _beginsWith_ atEachFrom atSomeFrom everyTrace someTrace
     noPair noRelations smallestSource _without_ event someEvent _with_ atMostOnce precedes answers chained together before followed between alternates beforeFirst
     step1 step2 directlyBefore step3 neverTogether step4 closes step5 step6 step7 reduced step8 includedAfter neverMissed step9 step10
-    afterFive afterSeven afterEight mined
+    afterFive afterSix afterSeven afterEight mined
 as-read = refl

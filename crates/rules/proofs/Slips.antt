@@ -12,8 +12,9 @@ use Rattle.engine.specs.Markings.{openingOf}
 use Rattle.engine.specs.Relations.{Relations}
 use Rattle.engine.specs.Steps.{waits, blocker, enabled, after, accepting}
 use Rattle.engine.specs.Replay.{replayFrom}
+use Rattle.rules.specs.declared.Profile.the-variants.{Full}
 use Rattle.rules.specs.Traces.{Traces, _has_, _beginsWith_, atEachFrom, atEach, atSomeFrom, everyTrace, someTrace}
-use Rattle.rules.specs.Mining.{noPair, noRelations, smallestSource, _without_, event, someEvent, _with_, atMostOnce, precedes, answers, chained, together, before, followed, between, alternates, beforeFirst, step1, step2, directlyBefore, step3, neverTogether, step4, closes, step5, step6, step7, reduced, step8, includedAfter, neverMissed, step9, step10, afterFive, afterSeven, afterEight, mined}
+use Rattle.rules.specs.Mining.{noPair, noRelations, smallestSource, _without_, event, someEvent, _with_, atMostOnce, precedes, answers, chained, together, before, followed, between, alternates, beforeFirst, step1, step2, directlyBefore, step3, neverTogether, step4, closes, step5, step6, step7, reduced, step8, includedAfter, neverMissed, step9, step10, afterFive, afterSix, afterSeven, afterEight, mined}
 use Rattle.rules.proofs.Listed.{Pair, _to_, oneOf, pairs, Given, ended, end, Claim, _are_, found, meant}
 use Rattle.rules.proofs.Cases.{L}
 
@@ -35,14 +36,14 @@ module _ (L : Traces) where
   minedBy : (Relations → Relation) → Relations
   minedBy test =
       step10 L (record {
-        conditions = _with_ L (afterEight L .conditions) (λ s t. non (eqb s t) and beforeFirst L s t and test (afterEight L) s t);
-        responses = afterEight L .responses;
-        includes = afterEight L .includes;
-        excludes = afterEight L .excludes;
+        conditions = _with_ L (afterEight L Full .conditions) (λ s t. non (eqb s t) and beforeFirst L s t and test (afterEight L Full) s t);
+        responses = afterEight L Full .responses;
+        includes = afterEight L Full .includes;
+        excludes = afterEight L Full .excludes;
       })
 
   -- with the rule's own test they are the rule
-  the-rule : minedBy (neverMissed L) ≡ mined L
+  the-rule : minedBy (neverMissed L) ≡ mined L Full
   unfolding minedBy mined step9
   the-rule = refl
 
@@ -70,10 +71,10 @@ responsesOf = step2 line noRelations .responses
 pub slips : List Claim
 slips =
     -- line 33 adds 1 to 2: no 1 follows the 2 of the second trace (0 to 2 then goes, by way of 1)
-    pairs 3 (mined L .conditions) are (0 to 1 ∷ 0 to 2 ∷ [])
+    pairs 3 (mined L Full .conditions) are (0 to 1 ∷ 0 to 2 ∷ [])
     ∷ pairs 3 (minedBy L (printed33 L) .conditions) are (0 to 1 ∷ 1 to 2 ∷ [])
     -- the exclusion alone adds 2 to 1
-    ∷ pairs 3 (mined again .conditions) are (0 to 1 ∷ [])
+    ∷ pairs 3 (mined again Full .conditions) are (0 to 1 ∷ [])
     ∷ pairs 3 (minedBy again (excludedEarlier again) .conditions) are (0 to 1 ∷ 2 to 1 ∷ [])
     -- the pairs in rising order give the rule's result; with the greatest source first, 0 to 3 is left over
     ∷ pairs 4 (reduced line responsesOf) are (0 to 1 ∷ 1 to 2 ∷ 2 to 3 ∷ [])
@@ -92,5 +93,5 @@ unfolding slips refusals L again line printed33 excludedEarlier minedBy replayBy
     _has_ _beginsWith_ atEachFrom atSomeFrom everyTrace someTrace
     noPair noRelations smallestSource _without_ event someEvent _with_ atMostOnce precedes answers chained together before followed between alternates beforeFirst
     step1 step2 directlyBefore step3 neverTogether step4 closes step5 step6 step7 reduced step8 includedAfter neverMissed step9 step10
-    afterFive afterSeven afterEight mined
+    afterFive afterSix afterSeven afterEight mined
 slipped = (refl, refl)

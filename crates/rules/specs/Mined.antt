@@ -5,6 +5,7 @@ use Rattle.sets.specs.declared.set.Set.{Set}
 use Rattle.engine.specs.Markings.{openingOf}
 use Rattle.engine.specs.Relations.{Relations, headOf, graphOf, tablesFrom}
 use Rattle.engine.specs.declared.graph.Graph.{Graph}
+use Rattle.rules.specs.declared.Profile.{Profile}
 use Rattle.rules.specs.Traces.{Traces}
 use Rattle.rules.specs.Mining.{event, mined}
 
@@ -13,6 +14,6 @@ use Rattle.rules.specs.Mining.{event, mined}
 unfoldable pub graphFrom : ℕ → Set → Relations → Graph
 graphFrom A events r = graphOf (headOf A events (openingOf events)) (tablesFrom r)
 
--- A is the log's, and the events are the activities that occur
-unfoldable pub minedGraph : ℕ → Traces → Graph
-minedGraph A L = graphFrom A (those (event L)) (mined L)
+-- A is the log's, the events are the activities that occur, and the relations are those of the profile (02, 3/12)
+unfoldable pub minedGraph : ℕ → Traces → Profile → Graph
+minedGraph A L p = graphFrom A (those (event L)) (mined L p)

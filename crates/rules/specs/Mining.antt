@@ -1,5 +1,5 @@
--- 01, "Mining, in this order": first what the rules ask of the log, then the ten steps. A step is given the relations as they stood when it
--- began, and gives the relations after it.
+-- 01, "Mining, in this order": first what the rules ask of the log, then the ten steps, and at the end which of them each profile takes
+-- (02, 3/12). A step is given the relations as they stood when it began, and gives the relations after it.
 -- To read it: `g .excludes s t` asks whether s excludes t in the relations g, source first, and so for the other three; `eqb s t` asks
 -- whether s is t; `λ s t. ..` is the relation of the pairs s, t that pass what follows; `λ past rest. ..` is a test of a place by what stands
 -- before and after it, nearest first.
@@ -11,6 +11,8 @@ use Rattle.sets.specs.Tests.{_and_, _or_, non}
 use Rattle.sets.specs.Members.{width, someBelow}
 use Rattle.sets.specs.Rows.{Relation}
 use Rattle.engine.specs.Relations.{Relations}
+use Rattle.rules.specs.declared.Profile.{Profile}
+use Rattle.rules.specs.declared.Profile.the-variants.{Full, Light}
 use Rattle.rules.specs.Traces.{Traces, _has_, _beginsWith_, atEach, atSome, everyTrace, someTrace}
 
 -- before step 1: no pair in any relation
@@ -215,11 +217,16 @@ module _ (L : Traces) where
   unfoldable pub afterFive : Relations
   afterFive = step5 (step4 (step3 (step2 (step1 noRelations))))
 
-  unfoldable pub afterSeven : Relations
-  afterSeven = step7 (step6 afterFive)
+  -- 02, 3/12: the light profile skips step 6, and the steps after it go on from what step 5 left
+  unfoldable pub afterSix : Profile → Relations
+  afterSix Full = step6 afterFive
+  afterSix Light = afterFive
 
-  unfoldable pub afterEight : Relations
-  afterEight = step8 afterSeven
+  unfoldable pub afterSeven : Profile → Relations
+  afterSeven p = step7 (afterSix p)
 
-  unfoldable pub mined : Relations
-  mined = step10 (step9 afterEight)
+  unfoldable pub afterEight : Profile → Relations
+  afterEight p = step8 (afterSeven p)
+
+  unfoldable pub mined : Profile → Relations
+  mined p = step10 (step9 (afterEight p))

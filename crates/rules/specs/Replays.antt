@@ -10,6 +10,7 @@ use Rattle.engine.specs.declared.graph.Graph.{Graph}
 use Rattle.sets.specs.Members.{noSet}
 use Rattle.sets.specs.Sizes.{mostActivities, longestTrace}
 use Rattle.engine.specs.Replay.{replayOf}
+use Rattle.rules.specs.declared.Profile.{Profile}
 use Rattle.rules.specs.Traces.{Traces, _has_}
 use Rattle.rules.specs.Mined.{minedGraph}
 
@@ -27,7 +28,7 @@ pub record Replays (g : Graph) (σ : List ℕ) : Type 0 where
   pub settled : replayOf g σ .marking .pending ≡ noSet
   pub accepted : replayOf g σ .accepting ≡ true
 
--- so it is for the empty trace and for each trace of the log, by its number, on the graph mined of the log
-pub record AllReplay (A : ℕ) (L : Traces) : Type 0 where
-  pub empty : Replays (minedGraph A L) []
-  pub each : (k : ℕ) → k < length L → Replays (minedGraph A L) (getD L k [])
+-- so it is for the empty trace and for each trace of the log, by its number, on the graph mined of the log in the profile
+pub record AllReplay (A : ℕ) (L : Traces) (p : Profile) : Type 0 where
+  pub empty : Replays (minedGraph A L p) []
+  pub each : (k : ℕ) → k < length L → Replays (minedGraph A L p) (getD L k [])

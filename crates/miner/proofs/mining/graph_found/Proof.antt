@@ -5,4 +5,5 @@ use Rattle.miner.proofs.mining.graph_found.Tie as tie
 
 pub graph-found-spec : {M : Type 1} → statement M
 graph-found-spec =
-    tie.close (tie.spec (λ c κs. search needs) (λ c κs. search needs) (λ c κs. search needs) (λ c. search (found-by, needs)))
+    tie.close
+    (tie.spec (λ c κs. search needs) (λ c κs. search needs) (λ c κs. search needs) (λ c κs. search needs) (λ c. search (found-by, needs)))

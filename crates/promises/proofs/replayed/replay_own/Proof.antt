@@ -14,7 +14,7 @@ is-done-requires : tie.Need-is-done-requires
 is-done-requires c κs = search needs
 
 returns : tie.Need-returns
-returns c = own-refused _ _ _ _ (c .before .before .find-trace .ensures) (c .before .is-done .ensures) (c .if1 .taken)
+returns c = own-refused _ _ _ _ (c .before .before .find-trace .ensures) (c .before .is-done .ensures) _ (c .if1 .taken)
 
 add-end : tie.Need-add-end
 add-end c = omega (arith, own-within _ _ _ _ (c .before .before .before .find-trace .ensures) (c .before .before .is-done .ensures) (c .before .if1 .left))
@@ -34,7 +34,7 @@ replay-requires c κs = search needs
 returns-2 : tie.Need-returns-2
 returns-2 c =
     let d = c .before .before .before .before in
-    own-done _ _ _ _ (d .before .find-trace .ensures) (d .is-done .ensures) (c .before .before .before .if1 .left) _ _ (d .before .before .before .mine .ensures) (c .replay .ensures)
+    own-done _ _ _ _ (d .before .find-trace .ensures) (d .is-done .ensures) (c .before .before .before .if1 .left) _ _ _ (d .before .before .before .mine .ensures) (c .replay .ensures)
 
 pub replay-own-spec : {M : Type 1} → statement M
 replay-own-spec =
