@@ -1,11 +1,15 @@
 -- What the calls of a stage of mining ensure, put together. Assumes nothing.
-use mathlib.Core.Path.{_≡_, sym, ap, ap₂, _∙_}
+use mathlib.Core.Path.{_≡_, refl, sym, ap, ap₂, _∙_, subst}
+use mathlib.Core.Bool.{Bool}
 use mathlib.Core.List.{List, []}
-use Prim.Native.Nat.{ℕ}
-use Rattle.sets.specs.Members.{those}
+use Prim.Native.Nat.{ℕ, _*_}
+use native.Mathlib.Omega.{arith}
+use lib.ListN.{length, length-replicate}
+use Rattle.sets.specs.Members.{width, those}
 use Rattle.sets.specs.Rows.{noRows, rowsOf, rowsFor, turned}
-use Rattle.sets.specs.Tables.{noTables, withTable}
+use Rattle.sets.specs.Tables.{noTables, tableAt, withTable}
 use Rattle.sets.specs.declared.set.Set.{Set}
+use Rattle.sets.proofs.RowLaws.{length-rowsOf}
 use Rattle.engine.specs.Markings.{openingOf}
 use Rattle.engine.specs.Relations.{relationCount, headOf, graphOf}
 use Rattle.engine.specs.declared.marking.Marking.{Marking}
@@ -14,78 +18,206 @@ use Rattle.rules.specs.declared.Profile.{Profile}
 use Rattle.rules.specs.declared.Profile.the-variants.{Full, Light}
 use Rattle.rules.specs.Traces.{Traces, _has_, someTrace}
 use Rattle.rules.specs.Mining.{event}
-use Rattle.steps.specs.Rowwise.{inEither, reducedOf, waited}
+use Rattle.steps.specs.Rowwise.{excluders, inEither, reducedOf, waited}
 use Rattle.tally.specs.Passes.{gains, forward, through}
-use Rattle.tally.specs.Tallies.{tableCount, noted}
+use Rattle.tally.specs.Tallies.{tableCount, noted, tallied, beforeTable, laterTable}
+use Rattle.tally.proofs.Folds.{forward-rowsOf, through-rowsOf}
 use Rattle.miner.specs.Facts.{letIn, beforeFirst, missed}
-use Rattle.miner.specs.Stages.{conditionsOf, chainsOf, responsesOf, neverOf, fiveFrom, sevenFrom, includesFrom}
-use Rattle.miner.specs.Stages.{waitedOf, fourTables, tablesAfterSix, tablesRead, graphFound}
+use Rattle.miner.specs.Stages.{conditionsOf, chainsOf, responsesOf, neverOf, fiveOf, sevenFrom, includesSix, excludesSix}
+use Rattle.miner.specs.Stages.{waitedOf, fourTables, tablesRead, graphFound}
+use Rattle.miner.proofs.Holding.{Held, held-any, length-held, held-c, held-r, held-i, held-x, held-four, held-is, taken-from, put-long}
 
--- steps 3 and 6, of the includes
-pub includes-by : (L : Traces) (chains never three r : List ℕ) → three ≡ rowsOf (turned chains)
-    → r ≡ through (λ r σ. forward (gains (letIn never)) r [] σ) three L → r ≡ includesFrom chains never L
-includes-by L chains never three r ht h = h ∙ ap (λ (x : List ℕ). through (λ r σ. forward (gains (letIn never)) r [] σ) x L) ht
+-- step 6, of the includes
+pub let-in-by : (L : Traces) (t t′ never never′ held held′ includes : List ℕ) → t′ ≡ withTable t 2 includes
+    → includes ≡ through (λ r σ. forward (gains (letIn never)) r [] σ) held L → never ≡ never′ → held ≡ held′
+    → t′ ≡ withTable t 2 (through (λ r σ. forward (gains (letIn never′)) r [] σ) held′ L)
+let-in-by L t t′ never never′ held held′ includes h hi hn hh =
+    h ∙ ap (withTable t 2) (hi ∙ (λ i. through (λ r σ. forward (gains (letIn (hn i))) r [] σ) (hh i) L))
 
--- steps 9 and 10
-pub conditions-by : (L : Traces) (events : Set) (eight includes excludes first₀ unmet₀ first unmet nine r : List ℕ)
-    → first₀ ≡ noRows → unmet₀ ≡ noRows
+-- step 9: the replay, and what is waited for
+pub replay-by : (L : Traces) (events : Set) (includes includes′ excludes excludes′ unmet unmet′ : List ℕ)
+    → unmet′ ≡ through (λ r σ. forward (gains (missed events includes excludes)) r [] σ) unmet L → includes ≡ includes′ → excludes ≡ excludes′
+    → unmet′ ≡ through (λ r σ. forward (gains (missed events includes′ excludes′)) r [] σ) unmet L
+replay-by L events includes includes′ excludes excludes′ unmet unmet′ h hi hx =
+    h ∙ (λ i. through (λ r σ. forward (gains (missed events (hi i) (hx i))) r [] σ) unmet L)
+
+pub nine-by : (L : Traces) (events : Set) (eight includes excludes t t′ first₀ unmet₀ first unmet : List ℕ)
+    → t′ ≡ withTable t 0 (rowsFor events (waited events eight first unmet))
     → first ≡ through (λ r σ. forward (gains beforeFirst) r [] σ) first₀ L
-    → unmet ≡ through (λ r σ. forward (gains (missed events includes excludes)) r [] σ) unmet₀ L
-    → nine ≡ rowsFor events (waited events eight first unmet) → r ≡ rowsFor events (reducedOf nine)
-    → r ≡ waitedOf events eight includes excludes L
-conditions-by L events eight includes excludes first₀ unmet₀ first unmet nine r h₀ k₀ hf hu hn h =
+    → unmet ≡ through (λ r σ. forward (gains (missed events includes excludes)) r [] σ) unmet₀ L → first₀ ≡ noRows → unmet₀ ≡ noRows
+    → t′ ≡ withTable t 0
+    (rowsFor events (waited events eight (through (λ r σ. forward (gains beforeFirst) r [] σ) noRows L)
+    (through (λ r σ. forward (gains (missed events includes excludes)) r [] σ) noRows L)))
+nine-by L events eight includes excludes t t′ first₀ unmet₀ first unmet h hf hu h₀ k₀ =
     h
-    ∙ ap (λ (x : List ℕ). rowsFor events (reducedOf x))
-    (hn
-    ∙ ap₂ (λ (x y : List ℕ). rowsFor events (waited events eight x y))
+    ∙ ap₂ (λ (x y : List ℕ). withTable t 0 (rowsFor events (waited events eight x y)))
     (hf ∙ ap (λ (x : List ℕ). through (λ r σ. forward (gains beforeFirst) r [] σ) x L) h₀)
-    (hu ∙ ap (λ (x : List ℕ). through (λ r σ. forward (gains (missed events includes excludes)) r [] σ) x L) k₀))
+    (hu ∙ ap (λ (x : List ℕ). through (λ r σ. forward (gains (missed events includes excludes)) r [] σ) x L) k₀)
 
--- the tables, put in one after the other
-pub tables-by : (c r i x o₁ o₂ o₃ o₄ : List ℕ) → o₁ ≡ withTable (noTables relationCount) 0 c → o₂ ≡ withTable o₁ 1 r → o₃ ≡ withTable o₂ 2 i
-    → o₄ ≡ withTable o₃ 3 x → o₄ ≡ fourTables c r i x
-tables-by c r i x o₁ o₂ o₃ o₄ h₁ h₂ h₃ h₄ =
-    h₄
-    ∙ ap (λ (o : List ℕ). withTable o 3 x) (h₃ ∙ ap (λ (o : List ℕ). withTable o 2 i) (h₂ ∙ ap (λ (o : List ℕ). withTable o 1 r) h₁))
+-- ---- the rows of a stage are rows of the width
 
--- steps 7 to 10
-pub after-by : (L : Traces) (events : Set) (tally includes six excludes two eight conditions answering responses r : List ℕ)
-    → excludes ≡ sevenFrom events tally six → two ≡ conditionsOf events tally → eight ≡ rowsFor events (reducedOf two)
-    → conditions ≡ waitedOf events eight includes excludes L
-    → answering ≡ responsesOf events tally → responses ≡ rowsFor events (reducedOf answering)
-    → r ≡ fourTables conditions responses includes excludes → r ≡ tablesAfterSix L events tally includes six
-after-by L events tally includes six excludes two eight conditions answering responses r hx hw he hd ha hr h =
-    h
-    ∙ (λ i.
-    fourTables ((hd ∙ (λ j. waitedOf events ((he ∙ ap (λ (x : List ℕ). rowsFor events (reducedOf x)) hw) j) includes (hx j) L)) i)
-    ((hr ∙ ap (λ (x : List ℕ). rowsFor events (reducedOf x)) ha) i) includes (hx i))
+length-for : (events : Set) (r : ℕ → ℕ → Bool) → length (rowsFor events r) ≡ width
+unfolding rowsFor
+length-for events r = length-rowsOf _
 
--- with step 6, and without it
-module _ (L : Traces) (events : Set) (tally chains five includes r : List ℕ) (hc : chains ≡ chainsOf events tally) (hf : five
-    ≡ fiveFrom events tally chains) where
-  the-five : five ≡ fiveFrom events tally (chainsOf events tally)
-  the-five = hf ∙ ap (fiveFrom events tally) hc
+module _ (L : Traces) (events : Set) (tally : List ℕ) where
+  length-includes : (p : Profile) → length (includesSix p events tally L) ≡ width
+  length-includes Full =
+      ap length (through-rowsOf (letIn (neverOf events tally)) _ (λ r σ. forward-rowsOf (letIn (neverOf events tally)) r [] σ)
+      (turned (chainsOf events tally)) L) ∙ length-rowsOf _
+  length-includes Light = length-rowsOf _
 
-  pub full-by : (p : Profile) (never six : List ℕ) → p ≡ Full → never ≡ neverOf events tally → six ≡ rowsFor events (inEither five never)
-      → includes ≡ includesFrom chains never L → r ≡ tablesAfterSix L events tally includes six → r ≡ tablesRead L events tally p
-  full-by p never six e hn hs hi h =
-      h
-      ∙ (λ i. tablesAfterSix L events tally ((hi ∙ (λ j. includesFrom (hc j) (hn j) L)) i)
-      ((hs ∙ (λ j. rowsFor events (inEither (the-five j) (hn j)))) i))
-      ∙ ap (tablesRead L events tally) (sym e)
+  length-excludes : (p : Profile) → length (excludesSix p events tally) ≡ width
+  length-excludes Full = length-for events _
+  length-excludes Light = length-rowsOf _
 
-  pub light-by : (p : Profile) → p ≡ Light → includes ≡ rowsOf (turned chains) → r ≡ tablesAfterSix L events tally includes five
-      → r ≡ tablesRead L events tally p
-  light-by p e hi h =
-      h
-      ∙ (λ i. tablesAfterSix L events tally ((hi ∙ ap (λ (x : List ℕ). rowsOf (turned x)) hc) i) (the-five i))
-      ∙ ap (tablesRead L events tally) (sym e)
+  -- ---- step 6
+  module _ (t t₁ t₂ t₃ : List ℕ) (h₁ : t₁ ≡ withTable t 1 (neverOf events tally))
+      (h₂ : t₂ ≡ withTable t₁ 2 (through (λ r σ. forward (gains (letIn (withTable noRows 0 (tableAt t₁ 1)))) r [] σ)
+      (withTable noRows 0 (tableAt t₁ 2)) L))
+      (h₃ : t₃ ≡ withTable t₂ 3 (rowsFor events (inEither (withTable noRows 0 (tableAt t₂ 3)) (withTable noRows 0 (tableAt t₂ 1))))) where
+    abbrev never : List ℕ
+    never = neverOf events tally
+
+    abbrev let-in : List ℕ → List ℕ
+    let-in rows = through (λ r σ. forward (gains (letIn never)) r [] σ) rows L
+
+    six-held : length t ≡ relationCount * width → length (let-in (tableAt t 2)) ≡ width
+        → Held t₃ (tableAt t 0) never (let-in (tableAt t 2)) (rowsFor events (inEither (tableAt t 3) never))
+    six-held long li =
+        let one = held-r _ _ _ _ _ t₁ never (held-any t long) (length-for events _) h₁ in
+        let two = held-i _ _ _ _ _ t₂ (let-in (tableAt t 2)) one li
+        (h₂
+        ∙ (λ i. withTable t₁ 2 (through (λ r σ. forward (gains (letIn (taken-from t₁ 1 never (one .responses) (length-for events _) i))) r [] σ)
+        (taken-from t₁ 2 (tableAt t 2) (one .includes) (length-held t 2 long (omega arith)) i) L))) in
+        held-x _ _ _ _ _ t₃ _ two (length-for events _)
+        (h₃
+        ∙ (λ i. withTable t₂ 3 (rowsFor events (inEither
+        (taken-from t₂ 3 (tableAt t 3) (two .excludes) (length-held t 3 long (omega arith)) i)
+        (taken-from t₂ 1 never (two .responses) (length-for events _) i)))))
+
+    pub six-length : length t₃ ≡ length t
+    six-length = put-long t₂ t₃ 3 _ h₃ ∙ put-long t₁ t₂ 2 _ h₂ ∙ put-long t t₁ 1 _ h₁
+
+    module _ (p : Profile) (e : p ≡ Full) (long : length t ≡ relationCount * width) (hi : tableAt t 2 ≡ includesSix Light events tally L) where
+      full-held : Held t₃ (tableAt t 0) never (let-in (tableAt t 2)) (rowsFor events (inEither (tableAt t 3) never))
+      full-held = six-held long (ap (λ (x : List ℕ). length (let-in x)) hi ∙ length-includes Full)
+
+      pub six-includes : tableAt t₃ 2 ≡ includesSix p events tally L
+      six-includes = full-held .includes ∙ ap let-in hi ∙ ap (λ (q : Profile). includesSix q events tally L) (sym e)
+
+      pub six-excludes : tableAt t 3 ≡ excludesSix Light events tally → tableAt t₃ 3 ≡ excludesSix p events tally
+      six-excludes hx =
+          full-held .excludes
+          ∙ ap (λ (x : List ℕ). rowsFor events (inEither x never)) hx
+          ∙ ap (λ (q : Profile). excludesSix q events tally) (sym e)
+
+  module _ (t : List ℕ) (p : Profile) (e : p ≡ Light) (long : length t ≡ relationCount * width)
+      (hi : tableAt t 2 ≡ includesSix Light events tally L) where
+    pub light-includes : tableAt t 2 ≡ includesSix p events tally L
+    light-includes = hi ∙ ap (λ (q : Profile). includesSix q events tally L) (sym e)
+
+    pub light-excludes : tableAt t 3 ≡ excludesSix Light events tally → tableAt t 3 ≡ excludesSix p events tally
+    light-excludes hx = hx ∙ ap (λ (q : Profile). excludesSix q events tally) (sym e)
+
+  -- ---- the tables after step 8
+  module _ (p : Profile) where
+    abbrev eightOf : List ℕ
+    eightOf = rowsFor events (reducedOf (conditionsOf events tally))
+
+    abbrev answersOf : List ℕ
+    answersOf = rowsFor events (reducedOf (responsesOf events tally))
+
+    abbrev afterSeven : List ℕ
+    afterSeven = sevenFrom events tally (excludesSix p events tally)
+
+    abbrev excludedOf : List ℕ
+    excludedOf = rowsFor events (excluders events (tableAt tally beforeTable) (tableAt tally laterTable) (chainsOf events tally))
+
+    pub eight-four : Held (fourTables eightOf answersOf (includesSix p events tally L) afterSeven) eightOf answersOf
+        (includesSix p events tally L) afterSeven
+    eight-four = held-four _ _ _ _ (length-for events _) (length-for events _) (length-includes p) (length-for events _)
+
+    pub eight-by : (t t₁ t₂ t₃ t₄ t₅ t₆ t₇ : List ℕ) → t₁ ≡ withTable t 2 (rowsOf (turned (chainsOf events tally)))
+        → t₂ ≡ withTable t₁ 3 excludedOf → t₃ ≡ withTable t₂ 3 (rowsOf (turned (withTable noRows 0 (tableAt t₂ 3))))
+        → length t₄ ≡ length t₃
+        → (length t₃ ≡ relationCount * width → tableAt t₃ 2 ≡ includesSix Light events tally L → tableAt t₄ 2 ≡ includesSix p events tally L)
+        → (length t₃ ≡ relationCount * width → tableAt t₃ 2 ≡ includesSix Light events tally L
+        → tableAt t₃ 3 ≡ excludesSix Light events tally → tableAt t₄ 3 ≡ excludesSix p events tally)
+        → t₅ ≡ withTable t₄ 3 (sevenFrom events tally (withTable noRows 0 (tableAt t₄ 3)))
+        → t₆ ≡ withTable t₅ 0 eightOf → t₇ ≡ withTable t₆ 1 answersOf
+        → length t ≡ relationCount * width → t₇ ≡ fourTables eightOf answersOf (includesSix p events tally L) afterSeven
+    eight-by t t₁ t₂ t₃ t₄ t₅ t₆ t₇ h₁ h₂ h₃ l₄ i₄ x₄ h₅ h₆ h₇ long =
+        let three = held-i _ _ _ _ _ t₁ _ (held-any t long) (length-rowsOf _) h₁ in
+        let excluded = held-x _ _ _ _ _ t₂ _ three (length-for events _) h₂ in
+        let five = held-x _ _ _ _ _ t₃ (fiveOf events tally) excluded (length-rowsOf _)
+        (h₃ ∙ ap (λ (x : List ℕ). withTable t₂ 3 (rowsOf (turned x))) (taken-from t₂ 3 excludedOf (excluded .excludes) (length-for events _))) in
+        let six : Held t₄ (tableAt t₄ 0) (tableAt t₄ 1) (includesSix p events tally L) (excludesSix p events tally) = record {
+          long = l₄ ∙ five .long;
+          conditions = refl;
+          responses = refl;
+          includes = i₄ (five .long) (five .includes);
+          excludes = x₄ (five .long) (five .includes) (five .excludes);
+        } in
+        let seven = held-x _ _ _ _ _ t₅ afterSeven six (length-for events _)
+        (h₅ ∙ ap (λ (x : List ℕ). withTable t₄ 3 (sevenFrom events tally x)) (taken-from t₄ 3 _ (six .excludes) (length-excludes p))) in
+        let eight = held-c _ _ _ _ _ t₆ _ seven (length-for events _) h₆ in
+        held-is _ _ _ _ (length-for events _) (length-for events _) (length-includes p) (length-for events _) t₇
+        (held-r _ _ _ _ _ t₇ _ eight (length-for events _) h₇)
 
 -- from the tally of the traces
-pub found-by : (A : ℕ) (L : Traces) (p : Profile) (none tally r : List ℕ) (events : Set) (opening : Marking) → none ≡ noTables tableCount
-    → events ≡ those (λ x. someTrace L (λ σ. σ has x)) → tally ≡ through noted none L → r ≡ tablesRead L events tally p
-    → opening ≡ openingOf events → graphOf (headOf A events opening) r ≡ graphFound A L p
-unfolding graphFound event
-found-by A L p none tally r events opening h₀ hv ht h ho =
-    λ i. graphOf (headOf A (hv i) ((ho ∙ ap openingOf hv) i))
-    ((h ∙ (λ j. tablesRead L (hv j) ((ht ∙ ap (λ (x : List ℕ). through noted x L) h₀) j) p)) i)
+pub events-by : (L : Traces) (r : Set) → r ≡ those (λ x. someTrace L (λ σ. σ has x)) → r ≡ those (event L)
+unfolding event
+events-by L r h = h
+
+pub tally-by : (L : Traces) (events : Set) (p : Profile) (none tally t t′ : List ℕ) → none ≡ noTables tableCount → tally ≡ through noted none L
+    → (length t ≡ relationCount * width → t′
+    ≡ fourTables (eightOf L events tally p) (answersOf L events tally p) (includesSix p events tally L) (afterSeven L events tally p))
+    → length t ≡ relationCount * width → t′
+    ≡ fourTables (eightOf L events (tallied L) p) (answersOf L events (tallied L) p) (includesSix p events (tallied L) L)
+    (afterSeven L events (tallied L) p)
+tally-by L events p none tally t t′ h₀ ht h long =
+    h long
+    ∙ ap (λ (x : List ℕ). fourTables (eightOf L events x p) (answersOf L events x p) (includesSix p events x L) (afterSeven L events x p))
+    (ht ∙ ap (λ (x : List ℕ). through noted x L) h₀)
+
+-- steps 9 and 10, and the head
+module _ (A : ℕ) (L : Traces) (p : Profile) (events : Set) (t₁ t₂ t₃ : List ℕ) (opening : Marking) where
+  abbrev eight : List ℕ
+  eight = eightOf L events (tallied L) p
+
+  abbrev included : List ℕ
+  included = includesSix p events (tallied L) L
+
+  abbrev excluding : List ℕ
+  excluding = afterSeven L events (tallied L) p
+
+  abbrev nineFrom : List ℕ → List ℕ → List ℕ → List ℕ
+  nineFrom c i x =
+      rowsFor events
+      (waited events c (through (λ r σ. forward (gains beforeFirst) r [] σ) noRows L)
+      (through (λ r σ. forward (gains (missed events i x)) r [] σ) noRows L))
+
+  pub found-by : events ≡ those (event L)
+      → (length (noTables relationCount) ≡ relationCount * width → t₁ ≡ fourTables eight (answersOf L events (tallied L) p) included excluding)
+      → t₂ ≡ withTable t₁ 0
+      (nineFrom (withTable noRows 0 (tableAt t₁ 0)) (withTable noRows 0 (tableAt t₁ 2)) (withTable noRows 0 (tableAt t₁ 3)))
+      → t₃ ≡ withTable t₂ 0 (rowsFor events (reducedOf (withTable noRows 0 (tableAt t₂ 0))))
+      → opening ≡ openingOf events → graphOf (headOf A events opening) t₃ ≡ graphFound A L p
+  unfolding graphFound
+  found-by hv h₁ h₂ h₃ ho =
+      let four = eight-four L events (tallied L) p in
+      let is = h₁ (length-replicate {A = ℕ} (relationCount * width) 0) in
+      let one : Held t₁ eight (answersOf L events (tallied L) p) included excluding = subst (λ (x : List ℕ). Held x eight
+      (answersOf L events (tallied L) p) included excluding) (sym is) four in
+      let nine = held-c _ _ _ _ _ t₂ (nineFrom eight included excluding) one (length-for events _)
+      (h₂
+      ∙ (λ i. withTable t₁ 0 (nineFrom (taken-from t₁ 0 eight (one .conditions) (length-for events _) i)
+      (taken-from t₁ 2 included (one .includes) (length-includes L events (tallied L) p) i)
+      (taken-from t₁ 3 excluding (one .excludes) (length-for events _) i)))) in
+      let ten = held-c _ _ _ _ _ t₃ (waitedOf events eight included excluding L) nine (length-for events _)
+      (h₃ ∙ ap (λ (x : List ℕ). withTable t₂ 0 (rowsFor events (reducedOf x)))
+      (taken-from t₂ 0 _ (nine .conditions) (length-for events _))) in
+      let all = held-is _ _ _ _ (length-for events _) (length-for events _) (length-includes L events (tallied L) p) (length-for events _) t₃ ten in
+      (λ i. graphOf (headOf A events (ho i)) (all i))
+      ∙ ap (λ (v : Set). graphOf (headOf A v (openingOf v)) (tablesRead L v (tallied L) p)) hv

@@ -8,6 +8,7 @@ pub mod After
 pub mod LetIn
 pub mod Replaying
 pub mod OverLog
+pub mod Holding
 pub mod Composed
 pub mod PairForPair
 pub mod FromLog

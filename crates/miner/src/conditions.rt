@@ -1,20 +1,44 @@
-// The conditions after step 8, and those of steps 9 and 10. Step 9 asks for a replay by the includes and excludes after step 7: a pass of
-// its own over each trace, from the first place to the last, where `seen` is the set of what stands before the place.
+// The conditions of steps 8, 9 and 10, put into the tables that are lent. Step 9 asks for a replay by the includes and excludes after
+// step 7: a pass of its own over each trace, from the first place to the last, where `seen` is the set of what stands before the place.
 ghost use mathlib.Core.Path.{_≡_};
 ghost use mathlib.Core.List.{[]};
 ghost use Rattle.sets.specs.Tests.{_and_, _or_, non};
 ghost use Rattle.sets.specs.Members.{mem, those};
-ghost use Rattle.sets.specs.Rows.{inRow};
+ghost use Rattle.sets.specs.Rows.{inRow, noRows, rowsFor};
+ghost use Rattle.sets.specs.Tables.{tableAt, withTable};
+ghost use Rattle.steps.specs.Rowwise.{reducedOf, waited};
 ghost use Rattle.tally.specs.Passes.{gained, gains, forward, through, walked};
 ghost use Rattle.miner.specs.Facts.{beforeFirst, missed};
-ghost use Rattle.miner.specs.Stages.{waitedOf};
+ghost use Rattle.miner.specs.Stages.{conditionsOf};
 use crate::includes::and_then;
+use engine::Relations;
+use engine::graph::CONDITIONS;
+use engine::graph::EXCLUDES;
+use engine::graph::INCLUDES;
 use sets::Activity;
 use sets::Rows;
 use sets::Set;
 use sets::rows;
+use sets::tables;
 use steps::reduce;
 use steps::relations;
+use tally::Tally;
+use tally::log;
+
+// Steps 2 and 8, by target.
+fn conditions_eight(events: Set, tally: &Tally) -> Rows
+    ensures { λ r. ⌜ r ≡ rowsFor events (reducedOf (conditionsOf events (now (tally .entry)))) ⌝ }
+{
+    let two = relations::unbroken(events, tally, log::UNPRECEDED);
+    reduce::reduced(events, &two)
+}
+
+pub fn put_eight(events: Set, tally: &Tally, out: &mut Relations)
+    ensures { λ _. ⌜ now (out .exit) ≡ withTable (now (out .entry)) 0 (rowsFor events (reducedOf (conditionsOf events (now (tally .entry))))) ⌝ }
+{
+    let eight = conditions_eight(events, tally);
+    tables::put_rows(out, CONDITIONS, &eight);
+}
 
 // Where e stands for the first time in its trace: all that was seen; else nothing.
 fn at_first(seen: Set, e: Activity) -> Set
@@ -99,29 +123,63 @@ fn replay_log<'a>(
     }
 }
 
-// The conditions, by target: steps 9 and 10 on those of step 8.
-pub fn conditions_ten<'a>(
+// The same by the includes and excludes of the tables.
+fn replay_by<'a>(
     log: &'a [u8],
     traces: usize,
     events: Set,
-    eight: &'a Rows,
-    includes: &'a Rows,
-    excludes: &'a Rows,
-) -> Rows
-    ensures { λ r. ⌜ r ≡ waitedOf events (now (eight .entry)) (now (includes .entry)) (now (excludes .entry))
+    held: &'a Relations,
+    first: &mut Rows,
+    unmet: &mut Rows,
+)
+    ensures { λ _. ⌜ now (first .exit) ≡ through (λ r σ. forward (gains beforeFirst) r [] σ) (now (first .entry))
         (walked (now (log .entry)) traces 0) ⌝ }
+    ensures { λ _. ⌜ now (unmet .exit) ≡ through
+        (λ r σ. forward (gains (missed events (withTable noRows 0 (tableAt (now (held .entry)) 2))
+        (withTable noRows 0 (tableAt (now (held .entry)) 3)))) r [] σ) (now (unmet .entry))
+        (walked (now (log .entry)) traces 0) ⌝ }
+{
+    let includes = tables::taken(held, INCLUDES);
+    let excludes = tables::taken(held, EXCLUDES);
+    replay_log(log, traces, events, &includes, &excludes, first, unmet);
+}
+
+// The conditions, and those that are waited for.
+fn put_waited<'a>(events: Set, first: &'a Rows, unmet: &'a Rows, out: &mut Relations)
+    ensures { λ _. ⌜ now (out .exit) ≡ withTable (now (out .entry)) 0
+        (rowsFor events (waited events (withTable noRows 0 (tableAt (now (out .entry)) 0)) (now (first .entry)) (now (unmet .entry)))) ⌝ }
+{
+    let eight = tables::taken(out, CONDITIONS);
+    let nine = relations::waited(events, &eight, first, unmet);
+    tables::put_rows(out, CONDITIONS, &nine);
+}
+
+// Step 9, on the tables after step 8.
+pub fn put_nine(log: &[u8], traces: usize, events: Set, out: &mut Relations)
+    ensures { λ _. ⌜ now (out .exit) ≡ withTable (now (out .entry)) 0
+        (rowsFor events (waited events (withTable noRows 0 (tableAt (now (out .entry)) 0))
+        (through (λ r σ. forward (gains beforeFirst) r [] σ) noRows (walked (now (log .entry)) traces 0))
+        (through (λ r σ. forward (gains (missed events (withTable noRows 0 (tableAt (now (out .entry)) 2))
+        (withTable noRows 0 (tableAt (now (out .entry)) 3)))) r [] σ) noRows (walked (now (log .entry)) traces 0)))) ⌝ }
 {
     let mut first = rows::empty();
     let mut unmet = rows::empty();
-    replay_log(
-        log,
-        traces,
-        events,
-        includes,
-        excludes,
-        &mut first,
-        &mut unmet,
-    );
-    let nine = relations::waited(events, eight, &first, &unmet);
+    replay_by(log, traces, events, out, &mut first, &mut unmet);
+    put_waited(events, &first, &unmet, out);
+}
+
+fn reduced_nine(events: Set, held: &Relations) -> Rows
+    ensures { λ r. ⌜ r ≡ rowsFor events (reducedOf (withTable noRows 0 (tableAt (now (held .entry)) 0))) ⌝ }
+{
+    let nine = tables::taken(held, CONDITIONS);
     reduce::reduced(events, &nine)
+}
+
+// Step 10, on the conditions of step 9.
+pub fn put_ten(events: Set, out: &mut Relations)
+    ensures { λ _. ⌜ now (out .exit) ≡ withTable (now (out .entry)) 0
+        (rowsFor events (reducedOf (withTable noRows 0 (tableAt (now (out .entry)) 0)))) ⌝ }
+{
+    let ten = reduced_nine(events, out);
+    tables::put_rows(out, CONDITIONS, &ten);
 }

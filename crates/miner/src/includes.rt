@@ -1,5 +1,5 @@
-// The includes of steps 3 and 6. What step 6 lets in needs the pairs that never follow, so it is asked of the log in a pass of its own:
-// over each trace from the first place to the last.
+// The includes of steps 3 and 6, put into the tables that are lent. What step 6 lets in needs the pairs that never follow, so it is asked of
+// the log in a pass of its own: over each trace from the first place to the last.
 ghost use mathlib.Core.Path.{_≡_};
 ghost use mathlib.Core.Bool.{cond};
 ghost use mathlib.Core.List.{[]};
@@ -8,17 +8,25 @@ ghost use lib.Dec.{eqb, ltb};
 ghost use lib.ListN.{length, getD, set, drop};
 ghost use Rattle.sets.specs.Tests.{_and_, _or_, non};
 ghost use Rattle.sets.specs.Members.{width, mem, those};
-ghost use Rattle.sets.specs.Rows.{inRow};
+ghost use Rattle.sets.specs.Rows.{inRow, noRows, rowsOf, turned};
+ghost use Rattle.sets.specs.Tables.{tableAt, withTable};
 ghost use Rattle.rules.specs.Traces.{_has_};
 ghost use Rattle.tally.specs.Passes.{gained, gains, forward, through, walked};
 ghost use Rattle.miner.specs.Facts.{letIn};
-ghost use Rattle.miner.specs.Stages.{includesFrom};
+ghost use Rattle.miner.specs.Stages.{chainsOf};
+use engine::Relations;
+use engine::graph::INCLUDES;
+use engine::graph::RESPONSES;
 use sets::Activity;
 use sets::Place;
 use sets::Rows;
 use sets::Set;
 use sets::activity::WIDTH;
 use sets::rows;
+use sets::tables;
+use steps::relations;
+use tally::Tally;
+use tally::log;
 
 // What was seen, with e.
 pub fn and_then(seen: Set, e: Activity) -> Set
@@ -134,11 +142,23 @@ fn let_in_log<'a>(log: &'a [u8], traces: usize, unfollowed: &'a Rows, out: &mut 
     }
 }
 
-// The includes after step 6: those of step 3, from the chains by target, and what is let in.
-pub fn includes_six<'a>(log: &'a [u8], traces: usize, chains: &'a Rows, never: &'a Rows) -> Rows
-    ensures { λ r. ⌜ r ≡ includesFrom (now (chains .entry)) (now (never .entry)) (walked (now (log .entry)) traces 0) ⌝ }
+// Step 3: what a chain leads to, turned round.
+pub fn put_three(events: Set, tally: &Tally, out: &mut Relations)
+    ensures { λ _. ⌜ now (out .exit) ≡ withTable (now (out .entry)) 2 (rowsOf (turned (chainsOf events (now (tally .entry))))) ⌝ }
 {
-    let mut out = rows::turned(chains);
-    let_in_log(log, traces, never, &mut out);
-    out
+    let chains = relations::unbroken(events, tally, log::UNCHAINED);
+    let includes = rows::turned(&chains);
+    tables::put_rows(out, INCLUDES, &includes);
+}
+
+// Step 6: the includes gain what is let in. What never directly follows stands where the responses will.
+pub fn put_six(log: &[u8], traces: usize, out: &mut Relations)
+    ensures { λ _. ⌜ now (out .exit) ≡ withTable (now (out .entry)) 2
+        (through (λ r σ. forward (gains (letIn (withTable noRows 0 (tableAt (now (out .entry)) 1)))) r [] σ)
+        (withTable noRows 0 (tableAt (now (out .entry)) 2)) (walked (now (log .entry)) traces 0)) ⌝ }
+{
+    let mut includes = tables::taken(out, INCLUDES);
+    let never = tables::taken(out, RESPONSES);
+    let_in_log(log, traces, &never, &mut includes);
+    tables::put_rows(out, INCLUDES, &includes);
 }

@@ -1,17 +1,27 @@
-// The miner: from the bytes of a log to its graph.
+// The miner: from the bytes of a log to its graph. The graph's tables are lent from stage to stage, and a stage's own rows are gone when it
+// returns: that is what keeps the stack small (02, 4/12).
 ghost use mathlib.Core.Path.{_≡_};
+ghost use Prim.Native.Nat.{_*_};
+ghost use lib.ListN.{length};
+ghost use Rattle.sets.specs.Members.{width, those};
+ghost use Rattle.sets.specs.Rows.{rowsFor};
+ghost use Rattle.sets.specs.Tables.{tableAt, withTable};
+ghost use Rattle.engine.specs.Relations.{relationCount};
+ghost use Rattle.rules.specs.declared.Profile.the-variants.{Light};
+ghost use Rattle.rules.specs.Mining.{event};
+ghost use Rattle.steps.specs.Rowwise.{reducedOf};
 ghost use Rattle.tally.specs.Passes.{walked};
-ghost use Rattle.miner.specs.Stages.{fiveFrom, fourTables, tablesAfterSix, tablesRead, graphFound};
+ghost use Rattle.tally.specs.Tallies.{tallied};
+ghost use Rattle.miner.specs.Stages.{conditionsOf, responsesOf, neverOf, includesSix, excludesSix, sevenFrom};
+ghost use Rattle.miner.specs.Stages.{fourTables, graphFound};
 ghost use Rattle.miner.specs.Mine.{minedOf};
 use crate::conditions;
+use crate::excludes;
 use crate::includes;
 use engine::Graph;
 use engine::Head;
 use engine::Marking;
 use engine::Relations;
-use engine::graph::CONDITIONS;
-use engine::graph::EXCLUDES;
-use engine::graph::INCLUDES;
 use engine::graph::KINDS;
 use engine::graph::RESPONSES;
 use rules::Profile;
@@ -19,7 +29,6 @@ use sets::Answer;
 use sets::Rows;
 use sets::Set;
 use sets::activity::WIDTH;
-use sets::rows;
 use sets::tables;
 use steps::reduce;
 use steps::relations;
@@ -32,86 +41,105 @@ pub struct Mined {
     pub graph: Graph,
 }
 
-// The excludes after steps 1 to 5, by source.
-fn excludes_five<'a>(events: Set, tally: &'a Tally, chains: &'a Rows) -> Rows
-    ensures { λ r. ⌜ r ≡ fiveFrom events (now (tally .entry)) (now (chains .entry)) ⌝ }
+// The responses of steps 2 and 8.
+fn responses_eight(events: Set, tally: &Tally) -> Rows
+    ensures { λ r. ⌜ r ≡ rowsFor events (reducedOf (responsesOf events (now (tally .entry)))) ⌝ }
 {
-    let excluded = relations::excluded_by(events, tally, log::BEFORE, log::LATER, chains);
-    rows::turned(&excluded)
+    let two = relations::unbroken(events, tally, log::UNANSWERED);
+    reduce::reduced(events, &two)
 }
 
-// The tables of a graph, from the rows of its relations.
-fn relations_of<'a>(
-    conditions: &'a Rows,
-    responses: &'a Rows,
-    includes: &'a Rows,
-    excludes: &'a Rows,
-) -> Relations
-    ensures { λ r. ⌜ r ≡ fourTables (now (conditions .entry)) (now (responses .entry)) (now (includes .entry)) (now (excludes .entry)) ⌝ }
+fn put_responses(events: Set, tally: &Tally, out: &mut Relations)
+    ensures { λ _. ⌜ now (out .exit) ≡ withTable (now (out .entry)) 1 (rowsFor events (reducedOf (responsesOf events (now (tally .entry))))) ⌝ }
 {
-    let mut out: Relations = [0; KINDS as usize * WIDTH];
-    tables::put_rows(&mut out, CONDITIONS, conditions);
-    tables::put_rows(&mut out, RESPONSES, responses);
-    tables::put_rows(&mut out, INCLUDES, includes);
-    tables::put_rows(&mut out, EXCLUDES, excludes);
-    out
+    let eight = responses_eight(events, tally);
+    tables::put_rows(out, RESPONSES, &eight);
 }
 
-// Steps 7 to 10, from the includes and excludes after step 6. Step 9 asks the traces once more.
-fn tables_after_six<'a>(
-    bytes: &'a [u8],
-    traces: usize,
-    events: Set,
-    tally: &'a Tally,
-    includes: &'a Rows,
-    six: &'a Rows,
-) -> Relations
-    ensures { λ r. ⌜ r ≡ tablesAfterSix (walked (now (bytes .entry)) traces 0) events (now (tally .entry)) (now (includes .entry))
-        (now (six .entry)) ⌝ }
+// What never directly follows, for step 6. It stands where the responses will: they come last.
+fn put_never(events: Set, tally: &Tally, out: &mut Relations)
+    ensures { λ _. ⌜ now (out .exit) ≡ withTable (now (out .entry)) 1 (neverOf events (now (tally .entry))) ⌝ }
 {
-    let excludes = relations::not_redundant(events, six, tally, log::UNALTERNATED);
-    let two = relations::unbroken(events, tally, log::UNPRECEDED);
-    let eight = reduce::reduced(events, &two);
-    let conditions = conditions::conditions_ten(bytes, traces, events, &eight, includes, &excludes);
-    let answering = relations::unbroken(events, tally, log::UNANSWERED);
-    let responses = reduce::reduced(events, &answering);
-    relations_of(&conditions, &responses, includes, &excludes)
+    let never = relations::absent(events, tally, log::FOLLOWED);
+    tables::put_rows(out, RESPONSES, &never);
 }
 
-// The tables that a tally gives, with the traces that it is of. Step 6 asks the traces once more; the light profile leaves it out (02,
-// 3/12).
-fn tables_read<'a>(
+// Step 6, which asks the traces once more; the light profile leaves it out (02, 3/12).
+fn put_six<'a>(
     bytes: &'a [u8],
     traces: usize,
     events: Set,
     tally: &'a Tally,
     profile: Profile,
-) -> Relations
-    ensures { λ r. ⌜ r ≡ tablesRead (walked (now (bytes .entry)) traces 0) events (now (tally .entry)) profile ⌝ }
+    out: &mut Relations,
+)
+    ensures { λ _. ⌜ length (now (out .exit)) ≡ length (now (out .entry)) ⌝ }
+    ensures { λ _. ⌜ (length (now (out .entry)) ≡ relationCount * width
+        → tableAt (now (out .entry)) 2 ≡ includesSix Light events (now (tally .entry)) (walked (now (bytes .entry)) traces 0)
+        → tableAt (now (out .exit)) 2 ≡ includesSix profile events (now (tally .entry)) (walked (now (bytes .entry)) traces 0)) ⌝ }
+    ensures { λ _. ⌜ (length (now (out .entry)) ≡ relationCount * width
+        → tableAt (now (out .entry)) 2 ≡ includesSix Light events (now (tally .entry)) (walked (now (bytes .entry)) traces 0)
+        → tableAt (now (out .entry)) 3 ≡ excludesSix Light events (now (tally .entry))
+        → tableAt (now (out .exit)) 3 ≡ excludesSix profile events (now (tally .entry))) ⌝ }
 {
-    let chains = relations::unbroken(events, tally, log::UNCHAINED);
-    let five = excludes_five(events, tally, &chains);
     match profile {
         Profile::Full => {
-            let never = relations::absent(events, tally, log::FOLLOWED);
-            let six = relations::united(events, &five, &never);
-            let includes = includes::includes_six(bytes, traces, &chains, &never);
-            tables_after_six(bytes, traces, events, tally, &includes, &six)
+            put_never(events, tally, out);
+            includes::put_six(bytes, traces, out);
+            excludes::put_six(events, out);
         }
-        Profile::Light => {
-            let includes = rows::turned(&chains);
-            tables_after_six(bytes, traces, events, tally, &includes, &five)
-        }
+        Profile::Light => {}
     }
+}
+
+// The tables after step 8 that a tally gives, with the traces that it is of.
+fn put_eight<'a>(
+    bytes: &'a [u8],
+    traces: usize,
+    events: Set,
+    tally: &'a Tally,
+    profile: Profile,
+    out: &mut Relations,
+)
+    ensures { λ _. ⌜ (length (now (out .entry)) ≡ relationCount * width → now (out .exit) ≡ fourTables
+        (rowsFor events (reducedOf (conditionsOf events (now (tally .entry)))))
+        (rowsFor events (reducedOf (responsesOf events (now (tally .entry)))))
+        (includesSix profile events (now (tally .entry)) (walked (now (bytes .entry)) traces 0))
+        (sevenFrom events (now (tally .entry)) (excludesSix profile events (now (tally .entry))))) ⌝ }
+{
+    includes::put_three(events, tally, out);
+    excludes::put_excluded(events, tally, out);
+    excludes::turn(out);
+    put_six(bytes, traces, events, tally, profile, out);
+    excludes::put_seven(events, tally, out);
+    conditions::put_eight(events, tally, out);
+    put_responses(events, tally, out);
+}
+
+// The same of a log's first traces; it gives their events. The tally, the largest of all, is gone when it returns.
+fn tables_eight(bytes: &[u8], traces: usize, profile: Profile, out: &mut Relations) -> Set
+    ensures { λ r. ⌜ r ≡ those (event (walked (now (bytes .entry)) traces 0)) ⌝ }
+    ensures { λ r. ⌜ (length (now (out .entry)) ≡ relationCount * width → now (out .exit) ≡ fourTables
+        (rowsFor r (reducedOf (conditionsOf r (tallied (walked (now (bytes .entry)) traces 0)))))
+        (rowsFor r (reducedOf (responsesOf r (tallied (walked (now (bytes .entry)) traces 0)))))
+        (includesSix profile r (tallied (walked (now (bytes .entry)) traces 0)) (walked (now (bytes .entry)) traces 0))
+        (sevenFrom r (tallied (walked (now (bytes .entry)) traces 0)) (excludesSix profile r (tallied (walked (now (bytes .entry)) traces 0)))))
+        ⌝ }
+{
+    let mut tally = log::empty();
+    let events = log::note_traces(bytes, traces, &mut tally);
+    put_eight(bytes, traces, events, &tally, profile, out);
+    events
 }
 
 // The graph of a log's first traces.
 fn graph_found(bytes: &[u8], activities: u8, traces: usize, profile: Profile) -> Graph
     ensures { λ r. ⌜ r ≡ graphFound activities (walked (now (bytes .entry)) traces 0) profile ⌝ }
 {
-    let mut tally = log::empty();
-    let events = log::note_traces(bytes, traces, &mut tally);
-    let found = tables_read(bytes, traces, events, &tally, profile);
+    let mut found: Relations = [0; KINDS as usize * WIDTH];
+    let events = tables_eight(bytes, traces, profile, &mut found);
+    conditions::put_nine(bytes, traces, events, &mut found);
+    conditions::put_ten(events, &mut found);
     Graph {
         head: Head {
             activities,
