@@ -1,0 +1,4 @@
+-- The modules of `proofs/` that belong to no one function.
+pub mod Placing
+pub mod Serving
+pub mod Isolation
