@@ -8,10 +8,15 @@ int printf(const char *format, ...);
 long read(int file, void *bytes, size_t count);
 void *memset(void *bytes, int value, size_t count);
 
-enum { MINE, LISTING, REWRITE, REPLAY, STEP, FUNCTIONS, END = 255 };
+enum { MINE, LISTING, REWRITE, REPLAY, STEP, PLAIN_STEP, PLAIN_ACCEPTING, PLAIN_REPLAY, FILL, FUNCTIONS, END = 255 };
 enum { ROOM = 1 << 18, PAST = 64, UNTOUCHED = 165 };
 
-static uint8_t input[ROOM], beside[ROOM], lent[ROOM + PAST];
+static const char *const names[FUNCTIONS] = {"mine",       "listing",         "rewrite",      "replay", "step",
+                                             "plain step", "plain accepting", "plain replay", "fill"};
+static uint8_t input[ROOM], beside[ROOM];
+static uint16_t memory[(ROOM + PAST) / 2], lists[4][ROOM / 2];
+static uint8_t *const lent = (uint8_t *)memory;
+static size_t pairs[4];
 
 /* Whole parts only: 0 at the end of the record, and -1 where it ends within a part. */
 static int take(void *to, size_t count) {
@@ -59,13 +64,43 @@ static int touched(const uint8_t *past) {
     return 0;
 }
 
+/* The four lists of a plain graph, and how many pairs each has. */
+static int take_lists(void) {
+    for (int k = 0; k < 4; k++) {
+        size_t bytes = part((uint8_t *)lists[k]);
+        if (bytes > ROOM) return 0;
+        pairs[k] = bytes / 2;
+    }
+    return 1;
+}
+
+static int is_plain(int function) { return function >= PLAIN_STEP && function <= PLAIN_REPLAY; }
+
+#define PLAIN input, n, lists[0], pairs[0], lists[1], pairs[1], lists[2], pairs[2], lists[3], pairs[3]
+
 static uint64_t call(int function, size_t n, size_t m, size_t room, uint8_t activity) {
     switch (function) {
+    case PLAIN_STEP: return skelfora_plain_step(PLAIN, lent, room, activity);
+    case PLAIN_ACCEPTING: return skelfora_plain_accepting(PLAIN, beside, m);
+    case PLAIN_REPLAY: return skelfora_plain_replay(PLAIN, beside, m);
+    case FILL: return skelfora_fill(input, n, activity, memory, room / 2);
     case MINE: return skelfora_mine(input, n, lent, room);
     case LISTING: return skelfora_listing(input, n, lent, room);
     case REWRITE: return skelfora_rewrite(input, n, lent, room);
     case REPLAY: return skelfora_replay(input, n, beside, m);
     default: return skelfora_step(input, n, lent, room, activity);
+    }
+}
+
+/* As the header reads it: a step and a replay name a blocker beside 10, and beside no other number; nothing else has those bits. */
+static int blocker_in_place(int function, uint64_t given) {
+    int waits = skelfora_number(given) == SKELFORA_WAITING;
+    switch (function) {
+    case REPLAY:
+    case STEP:
+    case PLAIN_STEP:
+    case PLAIN_REPLAY: return waits == (skelfora_blocker(given) != SKELFORA_NO_BLOCKER);
+    default: return skelfora_blocker(given) == 0;
     }
 }
 
@@ -83,25 +118,28 @@ int main(void) {
     while (take(&function, 1) == 1 && function != END) {
         uint8_t activity = (uint8_t)number(1);
         size_t room = number(4), n = part(input), m = part(beside);
+        int whole = function < FUNCTIONS && room <= ROOM && n <= ROOM && m <= ROOM && (!is_plain(function) || take_lists());
         uint64_t wanted = number(8), after = number(8);
-        if (function >= FUNCTIONS || room > ROOM || n > ROOM || m > ROOM) {
+        if (!whole) {
             printf("not a record\n");
             return 2;
         }
         memset(lent, UNTOUCHED, room + PAST);
-        for (size_t i = 0; function == STEP && i < m; i++) lent[i] = beside[i];
+        for (size_t i = 0; (function == STEP || function == PLAIN_STEP) && i < m; i++) lent[i] = beside[i];
         uint64_t given = call(function, n, m, room, activity);
         calls[function]++;
         all++;
-        if (given != wanted || hash(lent, room) != after || touched(lent + room)) different++;
+        if (given != wanted || hash(lent, room) != after || touched(lent + room) || !blocker_in_place(function, given)) different++;
     }
     if (function != END || number(8) != all) {
         printf("the record is not whole\n");
         return 2;
     }
-    for (int i = 0; i < FUNCTIONS; i++) different += calls[i] == 0;
     different += short_buffers();
-    printf("mine %lu, listing %lu, rewrite %lu, replay %lu, step %lu calls; %lu different\n", calls[MINE], calls[LISTING],
-           calls[REWRITE], calls[REPLAY], calls[STEP], different);
+    for (int i = 0; i < FUNCTIONS; i++) {
+        different += calls[i] == 0;
+        printf("%s %lu, ", names[i], calls[i]);
+    }
+    printf("in all %lu calls; %lu different\n", all, different);
     return different != 0;
 }

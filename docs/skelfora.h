@@ -1,4 +1,4 @@
-/* The functions of the library port (crates/port/src/lib.rt), for C and C++. docs/PORT.md explains them.
+/* The functions of the library port (crates/port/src), for C and C++. docs/PORT.md explains them.
  * No tool checks these declarations against the source: keep them in step by hand. compare/caller.c uses them in the gate. */
 #ifndef SKELFORA_H
 #define SKELFORA_H
@@ -26,11 +26,17 @@ enum {
     SKELFORA_NO_TRACE = 11
 };
 
+/* What skelfora_blocker gives beside every number but SKELFORA_WAITING. */
+#define SKELFORA_NO_BLOCKER 255
+
 /* Room that is always enough, in bytes. */
 #define SKELFORA_LOG_ROOM 36871      /* a log read from a file: one byte more than the longest, so that a longer file is refused */
 #define SKELFORA_GRAPH_ROOM 2356     /* a graph file: 52, and 9 for each of 4 x 64 rows */
 #define SKELFORA_LISTING_ROOM 147506 /* a listing; skelfora_listing asks for no less */
 #define SKELFORA_MARKING_SIZE 24     /* a marking: executed, pending, included, 8 bytes each */
+#define SKELFORA_HEAD_AT 3           /* where the head of a graph stands in its file */
+#define SKELFORA_HEAD_SIZE 33        /* a head: A, then events, executed, pending, included, 8 bytes each */
+#define SKELFORA_PAIRS_ROOM 4096     /* the pairs of a relation, as 16-bit numbers; a longer list is refused */
 
 /* Mines a log and writes its graph file into the first bytes of file.
  * Gives number + 256 * length of the file. */
@@ -45,17 +51,45 @@ uint64_t skelfora_listing(const uint8_t *log, size_t log_len, uint8_t *out, size
 uint64_t skelfora_rewrite(const uint8_t *file, size_t file_len, uint8_t *out, size_t room);
 
 /* Replays a trace, one byte an event, on the graph of a file.
- * Gives number + 256 * place, and 2^32 more where it ends accepting. */
+ * Gives number + 256 * place, 2^32 more where it ends accepting, and 2^40 * blocker. */
 uint64_t skelfora_replay(const uint8_t *file, size_t file_len, const uint8_t *trace, size_t trace_len);
 
 /* One step of an activity on the graph of a file, at the marking in the first 24 lent bytes.
- * Gives the number; the file is judged before the room for the marking. */
+ * Gives number + 2^40 * blocker; the file is judged before the room for the marking. */
 uint64_t skelfora_step(const uint8_t *file, size_t file_len, uint8_t *marking, size_t marking_len, uint8_t activity);
 
-/* The parts of what the first four give. */
+/* The plain engine: a graph is its head in the first 33 bytes, and four lists of pairs, source * 256 + target; lengths count pairs.
+ * Fewer than 33 bytes give 7, before all else. */
+
+/* One step of an activity at the marking in the first 24 lent bytes.
+ * Gives number + 2^40 * blocker; the graph is judged before the room for the marking. */
+uint64_t skelfora_plain_step(const uint8_t *head, size_t head_len, const uint16_t *conditions, size_t conditions_len,
+                             const uint16_t *responses, size_t responses_len, const uint16_t *includes, size_t includes_len,
+                             const uint16_t *excludes, size_t excludes_len, uint8_t *marking, size_t marking_len, uint8_t activity);
+
+/* Whether the marking in the first 24 bytes is accepting.
+ * Gives the number, and 2^32 more where it is. */
+uint64_t skelfora_plain_accepting(const uint8_t *head, size_t head_len, const uint16_t *conditions, size_t conditions_len,
+                                  const uint16_t *responses, size_t responses_len, const uint16_t *includes, size_t includes_len,
+                                  const uint16_t *excludes, size_t excludes_len, const uint8_t *marking, size_t marking_len);
+
+/* Replays a trace, one byte an event, from the head's opening marking.
+ * Gives number + 256 * place, 2^32 more where it ends accepting, and 2^40 * blocker. */
+uint64_t skelfora_plain_replay(const uint8_t *head, size_t head_len, const uint16_t *conditions, size_t conditions_len,
+                               const uint16_t *responses, size_t responses_len, const uint16_t *includes, size_t includes_len,
+                               const uint16_t *excludes, size_t excludes_len, const uint8_t *trace, size_t trace_len);
+
+/* Relation kind of a graph file (0 conditions, 1 responses, 2 includes, 3 excludes; any other has no pair) into the first numbers of memory.
+ * Gives number + 256 * how many pairs. */
+uint64_t skelfora_fill(const uint8_t *file, size_t file_len, uint8_t kind, uint16_t *memory, size_t room);
+
+/* The parts of what they give. Only a step and a replay have a blocker: beside SKELFORA_WAITING the smallest activity that the step
+ * waits for, SKELFORA_NO_BLOCKER beside every other number, SKELFORA_DONE too. So ask for the number of a step that was done. */
 static inline unsigned skelfora_number(uint64_t given) { return (unsigned)(given & 0xff); }
 static inline size_t skelfora_length(uint64_t given) { return (size_t)((given >> 8) & 0xffffff); }
 static inline size_t skelfora_place(uint64_t given) { return skelfora_length(given); }
+static inline size_t skelfora_pairs(uint64_t given) { return skelfora_length(given); }
+static inline unsigned skelfora_blocker(uint64_t given) { return (unsigned)((given >> 40) & 0xff); }
 static inline int skelfora_accepting(uint64_t given) { return (int)((given >> 32) & 1); }
 
 #ifdef __cplusplus

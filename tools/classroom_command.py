@@ -16,10 +16,10 @@ PARTS = [
     ("4. A step shut out early that was let in again", "class-again.graph", "class-again.log"),
 ]
 
-COLUMNS = ["trace", "number", "place", "executed", "pending", "included", "open", "accepting"]
+COLUMNS = ["trace", "number", "blocker", "place", "executed", "pending", "included", "open", "accepting"]
 
 # A line of the program `cases`.
-REPLAYED = re.compile(r"replay .* trace \d+: (\d+) place (\d+) executed(.*) pending(.*) included(.*) accepting (yes|no)")
+REPLAYED = re.compile(r"replay .* trace \d+: (\d+) by (\d+) place (\d+) executed(.*) pending(.*) included(.*) accepting (yes|no)")
 
 
 def traces(log):
@@ -30,10 +30,10 @@ def traces(log):
 
 def row(trace, line):
     """The cells of a row: what the program said, and beside it what is both pending and included."""
-    number, place, executed, pending, included, accepting = REPLAYED.fullmatch(line).groups()
+    number, blocker, place, executed, pending, included, accepting = REPLAYED.fullmatch(line).groups()
     both = " ".join(step for step in pending.split() if step in included.split())
     sets = [members.strip() or "none" for members in (executed, pending, included, both)]
-    return [trace, number, place, *sets, accepting]
+    return [trace, number, "none" if blocker == "255" else blocker, place, *sets, accepting]
 
 
 def rows(graph, log):

@@ -1,5 +1,6 @@
-//! The five functions of the proved library `port`, as every implementation offers them.
+//! The nine functions of the proved library `port`, as every implementation offers them.
 //! Numbers and bytes only, so that results can be compared to the byte.
+use crate::value::{Answer, PlainGraph};
 
 /// number + 256 x length; the lent buffer receives the file or the listing.
 pub type Fill = fn(&[u8], &mut [u8]) -> u64;
@@ -11,13 +12,21 @@ pub struct Door {
     pub mine: Fill,
     /// log, listing; the number is the log's, the text is there in either case
     pub listing: Fill,
-    /// graph file, trace -> number + 256 x place + 2^32 where accepting
+    /// graph file, trace -> number + 256 x place + 2^32 where accepting + 2^40 x blocker
     pub replay: fn(&[u8], &[u8]) -> u64,
     /// graph file, graph file
     pub rewrite: Fill,
     /// graph file, marking (executed, pending, included: 24 bytes, with fewer 7), activity
-    /// -> number
+    /// -> number + 2^40 x blocker
     pub step: fn(&[u8], &mut [u8], u8) -> u64,
+    /// the plain engine's step: marking, activity -> number + 2^40 x blocker
+    pub plain_step: fn(&PlainGraph, &mut [u8], u8) -> u64,
+    /// marking -> number + 2^32 where accepting
+    pub plain_accepting: fn(&PlainGraph, &[u8]) -> u64,
+    /// trace -> number + 256 x place + 2^32 where accepting + 2^40 x blocker
+    pub plain_replay: fn(&PlainGraph, &[u8]) -> u64,
+    /// graph file, relation, memory -> number + 256 x pairs
+    pub fill: fn(&[u8], u8, &mut [u16]) -> u64,
 }
 
 /// No listing is longer: four relations of 4,096 lines of 8 bytes, 1,024 lines of at
@@ -26,6 +35,12 @@ pub const LISTING_ROOM: usize = 4 * 4096 * 8 + 1024 * 17 + 128;
 
 /// No graph file is longer: 52 bytes and four times 64 rows of 9.
 pub const GRAPH_ROOM: usize = 52 + 4 * 64 * 9;
+
+/// A plain graph's head: A, events, executed, pending, included.
+pub const HEAD: usize = 33;
+
+/// No relation has more pairs, and no list may.
+pub const MOST_PAIRS: usize = 4096;
 
 pub fn filled(number: u8, length: usize) -> u64 {
     u64::from(number) + 256 * length as u64
@@ -39,6 +54,20 @@ pub fn written(outcome: Result<usize, u8>) -> u64 {
     }
 }
 
-pub fn replayed(number: u8, place: usize, accepting: bool) -> u64 {
-    u64::from(number) + 256 * place as u64 + (u64::from(accepting) << 32)
+/// Whether a marking is accepting, or the number of a refusal: 10 is never given here.
+pub fn verdict(outcome: Result<bool, u8>) -> u64 {
+    match outcome {
+        Ok(accepting) => u64::from(accepting) << 32,
+        Err(number) => u64::from(number),
+    }
+}
+
+/// Where 10 may be given the blocker stands above the rest.
+pub fn replayed(answer: impl Into<Answer>, place: usize, accepting: bool) -> u64 {
+    let Answer { number, blocker } = answer.into();
+    filled(number, place) + (u64::from(accepting) << 32) + (u64::from(blocker) << 40)
+}
+
+pub fn stepped(outcome: Result<(), Answer>) -> u64 {
+    replayed(outcome.err().unwrap_or(Answer::from(0)), 0, false)
 }

@@ -1,5 +1,5 @@
 //! The proved code, where build.rs found `../target/staticlib/libport.a`.
-//! A `&[u8]` passes as a pointer and then a length. Nothing checks these declarations
+//! A slice passes as a pointer and then its length in elements. Nothing checks these declarations
 //! against the Rattle source: docs/PORT.md is what they are kept in step with.
 use crate::door::Door;
 
@@ -23,6 +23,56 @@ mod sys {
             marking_len: usize,
             activity: u8,
         ) -> u64;
+        pub fn skelfora_plain_step(
+            head: *const u8,
+            head_len: usize,
+            conditions: *const u16,
+            conditions_len: usize,
+            responses: *const u16,
+            responses_len: usize,
+            includes: *const u16,
+            includes_len: usize,
+            excludes: *const u16,
+            excludes_len: usize,
+            marking: *mut u8,
+            marking_len: usize,
+            activity: u8,
+        ) -> u64;
+        pub fn skelfora_plain_accepting(
+            head: *const u8,
+            head_len: usize,
+            conditions: *const u16,
+            conditions_len: usize,
+            responses: *const u16,
+            responses_len: usize,
+            includes: *const u16,
+            includes_len: usize,
+            excludes: *const u16,
+            excludes_len: usize,
+            marking: *const u8,
+            marking_len: usize,
+        ) -> u64;
+        pub fn skelfora_plain_replay(
+            head: *const u8,
+            head_len: usize,
+            conditions: *const u16,
+            conditions_len: usize,
+            responses: *const u16,
+            responses_len: usize,
+            includes: *const u16,
+            includes_len: usize,
+            excludes: *const u16,
+            excludes_len: usize,
+            trace: *const u8,
+            trace_len: usize,
+        ) -> u64;
+        pub fn skelfora_fill(
+            file: *const u8,
+            file_len: usize,
+            kind: u8,
+            memory: *mut u16,
+            room: usize,
+        ) -> u64;
     }
 }
 
@@ -30,6 +80,7 @@ mod sys {
 #[cfg(port)]
 mod calls {
     use super::sys;
+    use crate::value::PlainGraph;
 
     pub fn mine(log: &[u8], file: &mut [u8]) -> u64 {
         unsafe { sys::skelfora_mine(log.as_ptr(), log.len(), file.as_mut_ptr(), file.len()) }
@@ -51,6 +102,61 @@ mod calls {
         let (lent, room) = (marking.as_mut_ptr(), marking.len());
         unsafe { sys::skelfora_step(file.as_ptr(), file.len(), lent, room, activity) }
     }
+
+    pub fn plain_step(graph: &PlainGraph, marking: &mut [u8], activity: u8) -> u64 {
+        let PlainGraph { head, lists } = graph;
+        let [c, r, i, e] = lists;
+        unsafe {
+            sys::skelfora_plain_step(
+                head.as_ptr(),
+                head.len(),
+                c.as_ptr(),
+                c.len(),
+                r.as_ptr(),
+                r.len(),
+                i.as_ptr(),
+                i.len(),
+                e.as_ptr(),
+                e.len(),
+                marking.as_mut_ptr(),
+                marking.len(),
+                activity,
+            )
+        }
+    }
+
+    /// Accepting and replay take the same: a plain graph, and bytes beside it.
+    macro_rules! on_plain {
+        ($name:ident, $function:ident) => {
+            pub fn $name(graph: &PlainGraph, beside: &[u8]) -> u64 {
+                let PlainGraph { head, lists } = graph;
+                let [c, r, i, e] = lists;
+                unsafe {
+                    sys::$function(
+                        head.as_ptr(),
+                        head.len(),
+                        c.as_ptr(),
+                        c.len(),
+                        r.as_ptr(),
+                        r.len(),
+                        i.as_ptr(),
+                        i.len(),
+                        e.as_ptr(),
+                        e.len(),
+                        beside.as_ptr(),
+                        beside.len(),
+                    )
+                }
+            }
+        };
+    }
+    on_plain!(plain_accepting, skelfora_plain_accepting);
+    on_plain!(plain_replay, skelfora_plain_replay);
+
+    pub fn fill(file: &[u8], kind: u8, memory: &mut [u16]) -> u64 {
+        let (lent, room) = (memory.as_mut_ptr(), memory.len());
+        unsafe { sys::skelfora_fill(file.as_ptr(), file.len(), kind, lent, room) }
+    }
 }
 
 #[cfg(port)]
@@ -62,6 +168,10 @@ pub fn door() -> Option<Door> {
         replay: calls::replay,
         rewrite: calls::rewrite,
         step: calls::step,
+        plain_step: calls::plain_step,
+        plain_accepting: calls::plain_accepting,
+        plain_replay: calls::plain_replay,
+        fill: calls::fill,
     })
 }
 

@@ -39,10 +39,38 @@ impl GraphValue {
     };
 }
 
+/// A graph as the plain engine has it (02, 1/12): the bytes of its head, and its lists of
+/// pairs in 01's order, conditions, responses, includes, excludes. Any bytes, any numbers.
+#[derive(Clone, PartialEq, Eq, Debug, Default)]
+pub struct PlainGraph {
+    pub head: Vec<u8>,
+    pub lists: [Vec<u16>; 4],
+}
+
+/// What stands where there is no blocker.
+pub const NO_BLOCKER: u8 = 255;
+
+/// The number of a step or a replay, and the activity that blocks (02, 2/12).
+#[derive(Clone, Copy, PartialEq, Eq, Debug)]
+pub struct Answer {
+    pub number: u8,
+    pub blocker: u8,
+}
+
+/// Any number but 10.
+impl From<u8> for Answer {
+    fn from(number: u8) -> Answer {
+        Answer {
+            number,
+            blocker: NO_BLOCKER,
+        }
+    }
+}
+
 /// What replay returns.
 #[derive(Clone, Copy, PartialEq, Eq, Debug)]
 pub struct Replayed {
-    pub number: u8,
+    pub answer: Answer,
     pub place: usize,
     pub marking: MarkingValue,
     pub accepting: bool,
@@ -52,7 +80,7 @@ impl Replayed {
     /// Refused before the first event was looked at.
     pub fn refused(number: u8) -> Replayed {
         Replayed {
-            number,
+            answer: number.into(),
             place: 0,
             marking: MarkingValue::default(),
             accepting: false,

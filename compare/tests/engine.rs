@@ -3,11 +3,8 @@ mod common;
 use common::*;
 use compare::judge::graph::{graph_of, marking_of, marking_value};
 use compare::seeds::graphs::{file, marking_bytes};
-use compare::value::{GraphValue, MarkingValue, Replayed};
+use compare::value::{Answer, GraphValue, MarkingValue, Replayed};
 use compare::{judge, yardstick};
-
-/// number, place, accepting
-type Outcome = (u64, u64, bool);
 
 fn set(members: &[u8]) -> u64 {
     members.iter().map(|a| 1u64 << a).sum()
@@ -22,7 +19,11 @@ fn marking(executed: &[u8], pending: &[u8], included: &[u8]) -> MarkingValue {
 }
 
 /// Judge and yardstick on a step of a value.
-fn executed(graph: &GraphValue, from: MarkingValue, e: u8) -> [(Result<(), u8>, MarkingValue); 2] {
+fn executed(
+    graph: &GraphValue,
+    from: MarkingValue,
+    e: u8,
+) -> [(Result<(), Answer>, MarkingValue); 2] {
     let mut sets = marking_of(&from);
     let ours = judge::engine::execute(&graph_of(graph), &mut sets, e);
     let mut words = from;
@@ -33,7 +34,7 @@ fn executed(graph: &GraphValue, from: MarkingValue, e: u8) -> [(Result<(), u8>, 
 fn replayed(graph: &GraphValue, trace: &[u8]) -> [Replayed; 2] {
     let done = judge::engine::replay(&graph_of(graph), trace);
     let ours = Replayed {
-        number: done.number,
+        answer: done.answer,
         place: done.place,
         marking: marking_value(&done.marking),
         accepting: done.accepting,
@@ -48,14 +49,14 @@ fn g() -> GraphValue {
 #[test]
 fn traces_on_g() {
     let cases: [(&[u8], Outcome); 8] = [
-        (&[], (0, 0, true)),
-        (&[0], (0, 1, false)),
-        (&[2], (10, 0, false)),
-        (&[0, 0], (9, 1, false)),
-        (&[0, 2, 1], (9, 2, false)),
-        (&[3], (8, 0, false)),
-        (&[255], (8, 0, false)),
-        (&[0, 1, 2], (0, 3, true)),
+        (&[], (0, 255, 0, true)),
+        (&[0], (0, 255, 1, false)),
+        (&[2], (10, 0, 0, false)),
+        (&[0, 0], (9, 255, 1, false)),
+        (&[0, 2, 1], (9, 255, 2, false)),
+        (&[3], (8, 255, 0, false)),
+        (&[255], (8, 255, 0, false)),
+        (&[0, 1, 2], (0, 255, 3, true)),
     ];
     for (trace, wanted) in cases {
         for door in doors() {
@@ -77,7 +78,7 @@ fn reading_12_marking_of_a_replay() {
         assert_eq!(
             done,
             Replayed {
-                number: 0,
+                answer: 0.into(),
                 place: 1,
                 marking: after_0,
                 accepting: false
@@ -88,7 +89,7 @@ fn reading_12_marking_of_a_replay() {
         assert_eq!(
             done,
             Replayed {
-                number: 9,
+                answer: 9.into(),
                 place: 1,
                 marking: after_0,
                 accepting: false
@@ -115,7 +116,12 @@ fn table_3() {
     }
     for door in doors() {
         let mut lent = marking_bytes(&from);
-        assert_eq!((door.step)(&file(&graph), &mut lent, 4), 0, "{}", door.name);
+        assert_eq!(
+            answer((door.step)(&file(&graph), &mut lent, 4)),
+            (0, 255),
+            "{}",
+            door.name
+        );
         assert_eq!(lent, marking_bytes(&then), "{}", door.name);
     }
 }
@@ -140,13 +146,13 @@ fn paper_graph() -> GraphValue {
 #[test]
 fn the_papers_graph() {
     let cases: [(&[u8], Outcome); 7] = [
-        (&[0], (0, 1, true)),
-        (&[0, 2, 1, 3, 0], (0, 5, true)),
-        (&[2, 3, 2], (0, 3, false)),
-        (&[2, 3, 2, 0], (10, 3, false)),
-        (&[2, 3, 2, 1], (10, 3, false)),
-        (&[2, 3, 2, 3], (9, 3, false)),
-        (&[], (0, 0, false)),
+        (&[0], (0, 255, 1, true)),
+        (&[0, 2, 1, 3, 0], (0, 255, 5, true)),
+        (&[2, 3, 2], (0, 255, 3, false)),
+        (&[2, 3, 2, 0], (10, 1, 3, false)),
+        (&[2, 3, 2, 1], (10, 0, 3, false)),
+        (&[2, 3, 2, 3], (9, 255, 3, false)),
+        (&[], (0, 255, 0, false)),
     ];
     let bytes = file(&paper_graph());
     for (trace, wanted) in cases {
@@ -190,13 +196,13 @@ fn lengths_512_and_513() {
     for door in doors() {
         assert_eq!(
             replay(&door, &bytes, &[0; 512]),
-            (0, 512, true),
+            (0, 255, 512, true),
             "{}",
             door.name
         );
         assert_eq!(
             replay(&door, &bytes, &[0; 513]),
-            (3, 0, false),
+            (3, 255, 0, false),
             "{}",
             door.name
         );
@@ -234,10 +240,10 @@ fn readings_10_and_11_graph_values() {
     ];
     for (wanted, graph) in cases {
         for done in replayed(&graph, &[255]) {
-            assert_eq!((done.number, done.place), (wanted, 0), "{graph:?}");
+            assert_eq!((done.answer, done.place), (wanted.into(), 0), "{graph:?}");
         }
         for (outcome, _) in executed(&graph, MarkingValue::default(), 1) {
-            assert_eq!(outcome, Err(wanted), "{graph:?}");
+            assert_eq!(outcome, Err(wanted.into()), "{graph:?}");
         }
     }
 }
@@ -254,7 +260,8 @@ fn a_marking_too_short() {
             (&g_file(), 24, 5),
         ] {
             let mut lent = stray[..length].to_vec();
-            assert_eq!((door.step)(file, &mut lent, 0), wanted, "{}", door.name);
+            let given = answer((door.step)(file, &mut lent, 0));
+            assert_eq!(given, (wanted, 255), "{}", door.name);
             assert_eq!(lent, stray[..length], "{}", door.name);
         }
     }
@@ -265,17 +272,47 @@ fn a_marking_too_short() {
 fn a_marking_beside_the_graph() {
     let stray = marking(&[], &[], &[0, 3]);
     for outcome in executed(&g(), stray, 200) {
-        assert_eq!(outcome, (Err(5), stray));
+        assert_eq!(outcome, (Err(5.into()), stray));
     }
     for door in doors() {
         let mut lent = marking_bytes(&stray);
-        assert_eq!((door.step)(&g_file(), &mut lent, 200), 5, "{}", door.name);
+        let given = answer((door.step)(&g_file(), &mut lent, 200));
+        assert_eq!(given, (5, 255), "{}", door.name);
         assert_eq!(lent, marking_bytes(&stray), "{}", door.name);
     }
-    for (e, wanted) in [(3, 8), (0, 9), (2, 10)] {
+    for (e, number, blocker) in [(3, 8, 255), (0, 9, 255), (2, 10, 0)] {
+        let wanted = Answer { number, blocker };
         let from = marking(&[], &[1], if e == 0 { &[1] } else { &[0, 1, 2] });
         for outcome in executed(&g(), from, e) {
             assert_eq!(outcome, (Err(wanted), from));
+        }
+    }
+}
+
+/// 02, 2/12: conditions 1, 3, 5 and 63 to 2. The smallest that is included and not executed.
+#[test]
+fn the_smallest_blocks() {
+    let all = set(&[1, 2, 3, 5, 63]);
+    let mut graph = GraphValue {
+        a: 64,
+        events: all,
+        ..GraphValue::EMPTY
+    };
+    graph.conditions[2] = set(&[1, 3, 5, 63]);
+    let cases: [(&[u8], &[u8], (u64, u64)); 7] = [
+        (&[], &[1, 2, 3, 5, 63], (10, 1)),
+        (&[1], &[1, 2, 3, 5, 63], (10, 3)),
+        (&[], &[2, 5, 63], (10, 5)),
+        (&[3], &[2, 3, 63], (10, 63)),
+        (&[1, 3, 5, 63], &[1, 2, 3, 5, 63], (0, 255)),
+        (&[], &[2], (0, 255)),
+        (&[], &[1, 3, 5, 63], (9, 255)),
+    ];
+    for (executed, included, wanted) in cases {
+        for door in doors() {
+            let mut lent = marking_bytes(&marking(executed, &[], included));
+            let given = answer((door.step)(&file(&graph), &mut lent, 2));
+            assert_eq!(given, wanted, "{} {executed:?} {included:?}", door.name);
         }
     }
 }

@@ -156,7 +156,12 @@ fn reading_7_the_empty_trace() {
         for empty in [log(0, &[]), log(0, &[&[], &[]]), log(5, &[])] {
             let mut file = vec![0; 52];
             assert_eq!((door.mine)(&empty, &mut file), 256 * 52, "{}", door.name);
-            assert_eq!(replay(&door, &file, &[]), (0, 0, true), "{}", door.name);
+            assert_eq!(
+                replay(&door, &file, &[]),
+                (0, 255, 0, true),
+                "{}",
+                door.name
+            );
         }
         let lines = "events 0 C 0 R 0 I 0 E 0 traces 2\nT 0 0 0 1\nT 1 0 0 1\n";
         assert_eq!(listing(&door, &log(0, &[&[], &[]])), lines, "{}", door.name);

@@ -101,8 +101,13 @@ def marked(executed, pending, included):
     return listed("executed", executed) + listed("pending", pending) + listed("included", included)
 
 
-def ended(number, place, executed, pending, included, accepting):
-    return f": {number} place {place}" + marked(executed, pending, included) + f" accepting {accepting}"
+def blocked(answer):
+    """The answer to a step: 10 is written with the activity that blocks, "10 by 0"; beside every other number stands 255."""
+    return answer if isinstance(answer, str) else f"{answer} by 255"
+
+
+def ended(answer, place, executed, pending, included, accepting):
+    return f": {blocked(answer)} place {place}" + marked(executed, pending, included) + f" accepting {accepting}"
 
 
 def said(a, events):
@@ -280,8 +285,8 @@ replays(
     ([0], (0, 1, [0], [1], [0, 2, 3], "yes")),
     ([0, 2, 1, 3, 0], (0, 5, [0, 1, 2, 3], [1], [0, 2], "yes")),
     ([2, 3, 2], (0, 3, *LOCKED)),
-    ([2, 3, 2, 0], (10, 3, *LOCKED)),
-    ([2, 3, 2, 1], (10, 3, *LOCKED)),
+    ([2, 3, 2, 0], ("10 by 1", 3, *LOCKED)),
+    ([2, 3, 2, 1], ("10 by 0", 3, *LOCKED)),
     ([2, 3, 2, 3], (9, 3, *LOCKED)),
 )  # fmt: skip
 
@@ -324,24 +329,24 @@ for name, number in (("bytes-5.log", 1), ("letter-first.log", 2), ("a-65.log", 3
 # ---- one step at a marking that is handed over: accepting, enabled, execute
 
 
-def one_step(accepting, number, marking):
+def one_step(accepting, answer, marking):
     """The marking handed over is accepting or not, with the number where it or the graph is refused. Enabled and the step have
-    the same number; then the marking that the step leaves."""
-    judged = number if number in (3, 5) else 0
-    return f": accepting {judged} {accepting}; enabled {number}; step {number}" + marked(*marking)
+    the same number and blocker; then the marking that the step leaves."""
+    judged = answer if answer in (3, 5) else 0
+    return f": accepting {judged} {accepting}; enabled {blocked(answer)}; step {blocked(answer)}" + marked(*marking)
 
 
-def step(graph, name, marking, accepting, activity, number, after=None):
+def step(graph, name, marking, accepting, activity, answer, after=None):
     """Where the step is refused the marking is as it was."""
     files[name] = b"".join(map(eight, marking)) + bytes([activity])
-    case("step", graph, name, f"step {graph} {name}" + one_step(accepting, number, after or marking))
+    case("step", graph, name, f"step {graph} {name}" + one_step(accepting, answer, after or marking))
 
 
 # on G, at its opening marking: 0 is done, and lets 1 in again, excludes itself, asks for 2; 1 and 2 wait for 0; the rest are no events
 OPEN = ([], [], [0, 1, 2])
 step("sample.graph", "open-0.step", OPEN, "yes", 0, 0, ([0], [2], [1, 2]))
-step("sample.graph", "open-1.step", OPEN, "yes", 1, 10)
-step("sample.graph", "open-2.step", OPEN, "yes", 2, 10)
+step("sample.graph", "open-1.step", OPEN, "yes", 1, "10 by 0")
+step("sample.graph", "open-2.step", OPEN, "yes", 2, "10 by 0")
 step("sample.graph", "open-3.step", OPEN, "yes", 3, 8)
 step("sample.graph", "open-64.step", OPEN, "yes", 64, 8)
 step("sample.graph", "open-255.step", OPEN, "yes", 255, 8)
@@ -363,6 +368,14 @@ for name, marking in (
 
 # 9 comes before 10: in the paper's graph 1 is not included, and its source 0 is included and not executed
 step("paper.graph", "paper-1.step", ([], [0], [0, 2, 3]), "no", 1, 9)
+
+# 02, 2/12: 3 waits for 0, 2 and 4. The smallest of them that is included and not executed blocks; executed and included in turn
+files["blocked.graph"] = graph_file(5, range(5), [], [], range(5), [(3, [0, 2, 4])], [], [], [])
+step("blocked.graph", "by-0.step", ([], [], range(5)), "yes", 3, "10 by 0")
+step("blocked.graph", "0-executed.step", ([0], [], range(5)), "yes", 3, "10 by 2")
+step("blocked.graph", "0-excluded.step", ([], [], [1, 2, 3, 4]), "yes", 3, "10 by 2")
+step("blocked.graph", "4-left.step", ([0], [], [0, 1, 3, 4]), "yes", 3, "10 by 4")
+step("blocked.graph", "none-left.step", ([0, 2], [], [0, 1, 2, 3]), "yes", 3, 0, ([0, 2, 3], [], [0, 1, 2, 3]))
 
 # the paper's Table 3: event 4 has response 2, include 2, exclude 7
 TABLE_3 = ([0], [1, 4], [1, 4, 7])
@@ -399,7 +412,7 @@ files["row-c.graph"] = graph_file(3, [0, 1, 2], *OPEN, ROW, [], [], [])
 files["row-r.graph"] = graph_file(3, [0, 1, 2], *OPEN, [], ROW, [], [])
 files["row-i.graph"] = graph_file(3, [0, 1, 2], [], [], [1, 2], [], [], ROW, [])
 files["row-e.graph"] = graph_file(3, [0, 1, 2], *OPEN, [], [], [], ROW)
-WAITS = ("yes", 10, OPEN)
+WAITS = ("yes", "10 by 0", OPEN)
 value("row-c.graph", "row-c", 255, WAITS, (0, 61))
 value("row-r.graph", "row-r", 61, ("yes", 0, ([1], [0], [0, 1, 2])), (0, 61), row=(1, 1, [0]))
 value("row-i.graph", "row-i", 62, ("yes", 0, ([1], [], [0, 1, 2])), (0, 61), row=(2, 1, [0]), opening=([], [], [1, 2]))
@@ -447,7 +460,7 @@ replays(
     ([0, 2], (0, 2, [0, 2], [], [], "yes")),
     ([0, 1], (0, 2, [0, 1], [2], [2], "no")),
     ([0, 1, 2], (0, 3, [0, 1, 2], [], [], "yes")),
-    ([1], (10, 0, [], [], [0, 1, 2], "no")),
+    ([1], ("10 by 0", 0, [], [], [0, 1, 2], "no")),
     ([0, 2, 1], (9, 2, [0, 2], [], [], "no")),
 )  # fmt: skip
 
@@ -455,7 +468,7 @@ replays(
 files["class-waive.graph"] = graph_file(3, [0, 1, 2], [], [], [0, 1, 2], [(2, [1])], [], [], [(0, [1])])
 replays(
     "class-waive.graph", "class-waive.log", 3,
-    ([2], (10, 0, [], [], [0, 1, 2], "no")),
+    ([2], ("10 by 1", 0, [], [], [0, 1, 2], "no")),
     ([1, 2], (0, 2, [1, 2], [], [0, 1, 2], "yes")),
     ([0], (0, 1, [0], [], [0, 2], "yes")),
     ([0, 2], (0, 2, [0, 2], [], [0, 2], "yes")),
@@ -479,7 +492,7 @@ replays(
     "class-again.graph", "class-again.log", 4,
     ([0, 2], (0, 2, [0, 2], [], [0, 2, 3], "yes")),
     ([0, 3], (0, 2, [0, 3], [], [0, 1, 2, 3], "yes")),
-    ([0, 3, 2], (10, 2, [0, 3], [], [0, 1, 2, 3], "no")),
+    ([0, 3, 2], ("10 by 1", 2, [0, 3], [], [0, 1, 2, 3], "no")),
     ([0, 3, 1], (0, 3, [0, 1, 3], [], [0, 1, 2, 3], "yes")),
     ([0, 3, 1, 2], (0, 4, [0, 1, 2, 3], [], [0, 1, 2, 3], "yes")),
     ([3, 0, 2], (0, 3, [0, 2, 3], [], [0, 2, 3], "yes")),

@@ -1,7 +1,7 @@
 //! The benchmark: ns an event for judging, mining and replaying, on six shapes of log and
 //! at growing sizes; the yardstick, and beside it the proved code where it is linked.
 //!
-//! All calls go through the five functions of `port`, so both do the same work from the
+//! All calls go through the functions of `port`, so both do the same work from the
 //! same bytes. A log is judged by mining one whose last byte is bad; the proved `mine` hands
 //! back an empty graph then, so `net judge` leaves out what the refusal of no bytes costs. Lent buffers are not cleared between calls. The implementations take turns,
 //! a tenth of a millisecond each, and the best turn counts: other work on the machine then

@@ -1,11 +1,12 @@
 //! The comparison: `compare [ROUNDS] [--need-port] [--record=FILE]`.
 //! Fails on a difference, on a number that was never seen, and, with `--need-port`, where
-//! the proved code is not linked. FILE gets the calls of the five functions on the fixed
+//! the proved code is not linked. FILE gets the calls of the nine functions on the fixed
 //! inputs and in the first rounds, with the judge's results.
 use compare::comparison::record::Record;
 use compare::comparison::{rounds, Comparison};
 use compare::{port, yardstick};
 use std::process::ExitCode;
+use std::sync::atomic::{AtomicU64, Ordering};
 use std::time::Instant;
 
 /// Well under a minute on one core.
@@ -54,22 +55,45 @@ fn main() -> ExitCode {
     }
 }
 
+/// The fixed inputs and the recorded rounds are one thread's; then every core takes the next
+/// round that is left. What is counted does not depend on who took which.
 fn run(others: Vec<compare::door::Door>, count: u64, record: Record) -> bool {
     let start = Instant::now();
-    let mut comparison = Comparison::with(others);
-    comparison.record = record;
-    rounds::once(&mut comparison);
-    println!(
-        "fixed inputs done after {:.1} s",
-        start.elapsed().as_secs_f64()
-    );
-    for seed in 0..count {
-        if seed == RECORDED {
-            comparison.record.finish();
+    let recorded = count.min(RECORDED);
+    let next = AtomicU64::new(recorded);
+    let rest = |comparison: &mut Comparison| loop {
+        let seed = next.fetch_add(1, Ordering::Relaxed);
+        if seed >= count {
+            return;
         }
-        rounds::round(&mut comparison, seed);
-    }
-    comparison.record.finish();
+        rounds::round(comparison, seed);
+    };
+    let mut comparison = Comparison::with(others.clone());
+    comparison.record = record;
+    let cores = std::thread::available_parallelism().map_or(1, |cores| cores.get());
+    std::thread::scope(|scope| {
+        let helpers: Vec<_> = (1..cores)
+            .map(|_| {
+                let mut helper = Comparison::with(others.clone());
+                let work = || {
+                    rest(&mut helper);
+                    helper
+                };
+                // as much stack as the first thread has
+                let thread = std::thread::Builder::new().stack_size(8 << 20);
+                thread.spawn_scoped(scope, work).expect("a thread")
+            })
+            .collect();
+        rounds::once(&mut comparison);
+        for seed in 0..recorded {
+            rounds::round(&mut comparison, seed);
+        }
+        comparison.record.finish();
+        rest(&mut comparison);
+        for helper in helpers {
+            comparison.join(helper.join().expect("a thread ends well"));
+        }
+    });
     let well = comparison.report();
     println!("took {:.1} s", start.elapsed().as_secs_f64());
     well

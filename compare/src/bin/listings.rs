@@ -21,7 +21,9 @@ fn longest(in_order: bool) -> Vec<u8> {
         let own = if in_order { 2 * place } else { 0 };
         (own + prng.below(if in_order { 2 } else { 64 })) as u8
     };
-    let traces: Vec<Vec<u8>> = (0..1024).map(|_| (0..32).map(&mut event).collect()).collect();
+    let traces: Vec<Vec<u8>> = (0..1024)
+        .map(|_| (0..32).map(&mut event).collect())
+        .collect();
     log_file(64, &traces)
 }
 

@@ -1,4 +1,4 @@
-//! The five functions of `port`, called on each implementation with the same bytes. Lent
+//! The five functions of `port` on files, called on each implementation with the same bytes. Lent
 //! buffers start with a pattern, so that a byte written where none should be shows.
 use super::record::{Call, Function};
 use super::{decimal, Comparison};
@@ -41,6 +41,7 @@ impl Comparison {
         self.record.keep(&Call {
             function: kept_as,
             input,
+            lists: None,
             beside: &[],
             room,
             activity: 0,
@@ -94,6 +95,7 @@ impl Comparison {
         self.record.keep(&Call {
             function: Function::Replay,
             input: file,
+            lists: None,
             beside: trace,
             room: 0,
             activity: 0,
@@ -118,6 +120,7 @@ impl Comparison {
         self.record.keep(&Call {
             function: Function::Step,
             input: file,
+            lists: None,
             beside: marking,
             room: marking.len(),
             activity,

@@ -4,6 +4,8 @@ use record::Record;
 use std::collections::BTreeMap;
 
 pub mod doors;
+pub mod plain;
+pub mod plain_rounds;
 pub mod record;
 pub mod rounds;
 pub mod values;
@@ -12,13 +14,17 @@ pub mod values;
 /// them is not taken for a full one.
 type Expected = (&'static str, &'static [u8]);
 
-/// The five functions of `port`: here the proved code takes part.
-const WITH_PORT: [Expected; 5] = [
+/// The nine functions of `port`: here the proved code takes part.
+const WITH_PORT: [Expected; 9] = [
     ("mine", &[0, 1, 2, 3, 4, 5, 7]),
     ("listing", &[0, 1, 2, 3, 4, 5]),
     ("replay", &[0, 1, 2, 3, 4, 5, 6, 8, 9, 10]),
     ("rewrite", &[0, 1, 2, 3, 4, 5, 6, 7]),
     ("step", &[0, 1, 2, 3, 4, 5, 6, 7, 8, 9, 10]),
+    ("plain step", &[0, 3, 5, 7, 8, 9, 10]),
+    ("plain accepting", &[0, 3, 5, 7]),
+    ("plain replay", &[0, 3, 5, 7, 8, 9, 10]),
+    ("fill", &[0, 1, 2, 3, 4, 5, 6, 7]),
 ];
 
 /// What those do not show: judge and yardstick, both Rust. These say nothing of the proved code.
@@ -40,7 +46,6 @@ pub struct Comparison {
     inputs: BTreeMap<&'static str, u64>,
     numbers: BTreeMap<&'static str, [u64; 12]>,
     differences: u64,
-    first: Option<String>,
     /// the one that takes least room to print
     shortest: Option<String>,
 }
@@ -53,7 +58,6 @@ impl Comparison {
             inputs: BTreeMap::new(),
             numbers: BTreeMap::new(),
             differences: 0,
-            first: None,
             shortest: None,
         }
     }
@@ -69,16 +73,30 @@ impl Comparison {
 
     pub fn differ(&mut self, function: &str, other: &str, what: impl FnOnce() -> String) {
         self.differences += 1;
-        let text = format!("{function}: judge and {other} differ\n{}", what());
-        if self.first.is_none() {
-            self.first = Some(text.clone());
-        }
-        if self
-            .shortest
-            .as_ref()
-            .is_none_or(|least| text.len() < least.len())
-        {
+        self.keep_shorter(format!("{function}: judge and {other} differ\n{}", what()));
+    }
+
+    fn keep_shorter(&mut self, text: String) {
+        let least = self.shortest.as_ref();
+        if least.is_none_or(|least| (text.len(), &text) < (least.len(), least)) {
             self.shortest = Some(text);
+        }
+    }
+
+    /// Takes over what another has counted and found.
+    pub fn join(&mut self, other: Comparison) {
+        for (kind, count) in other.inputs {
+            *self.inputs.entry(kind).or_default() += count;
+        }
+        for (function, counts) in other.numbers {
+            let sums = self.numbers.entry(function).or_default();
+            for (sum, count) in sums.iter_mut().zip(counts) {
+                *sum += count;
+            }
+        }
+        self.differences += other.differences;
+        if let Some(text) = other.shortest {
+            self.keep_shorter(text);
         }
     }
 
@@ -106,11 +124,8 @@ impl Comparison {
         for (function, number) in self.unseen() {
             println!("never seen: {function} {number}");
         }
-        if let Some(first) = &self.first {
-            println!("first difference, {first}");
-        }
-        if self.shortest != self.first {
-            println!("shortest, {}", self.shortest.as_deref().unwrap_or_default());
+        if let Some(shortest) = &self.shortest {
+            println!("shortest difference, {shortest}");
         }
         println!("differences {}", self.differences);
         self.differences == 0 && self.unseen().is_empty()

@@ -1,4 +1,4 @@
-//! Calls of the five functions with the judge's results, in a file, for a caller that is
+//! Calls of the nine functions with the judge's results, in a file, for a caller that is
 //! not linked here: `caller.c` makes them again.
 use std::fs::File;
 use std::io::{BufWriter, Write};
@@ -10,15 +10,23 @@ pub enum Function {
     Rewrite,
     Replay,
     Step,
+    PlainStep,
+    PlainAccepting,
+    PlainReplay,
+    Fill,
 }
 
 pub struct Call<'a> {
     pub function: Function,
-    /// the log or the graph file
+    /// the log, the graph file, or a plain graph's head
     pub input: &'a [u8],
+    /// a plain graph's lists
+    pub lists: Option<&'a [Vec<u16>; 4]>,
     /// the trace, or the marking before the step
     pub beside: &'a [u8],
+    /// in bytes
     pub room: usize,
+    /// the activity, or the relation to fill from
     pub activity: u8,
     pub result: u64,
     /// what was lent, after the call
@@ -61,6 +69,10 @@ impl Record {
         for part in [call.input, call.beside] {
             bytes.extend((part.len() as u32).to_le_bytes());
             bytes.extend(part);
+        }
+        for list in call.lists.into_iter().flatten() {
+            bytes.extend((2 * list.len() as u32).to_le_bytes());
+            bytes.extend(list.iter().flat_map(|pair| pair.to_le_bytes()));
         }
         bytes.extend(call.result.to_le_bytes());
         bytes.extend(hash(call.after).to_le_bytes());

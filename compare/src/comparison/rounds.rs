@@ -1,5 +1,5 @@
 //! Which inputs are tried: some sets of logs once, then rounds of seeded ones.
-use super::Comparison;
+use super::{plain_rounds, Comparison};
 use crate::door::GRAPH_ROOM;
 use crate::seeds::{damage, graphs, logs, shapes, Prng};
 use crate::{judge, seeds};
@@ -33,6 +33,7 @@ pub fn once(comparison: &mut Comparison) {
             &shapes::small(seed),
         );
     }
+    plain_rounds::once(comparison, &mut prng);
 }
 
 pub fn round(comparison: &mut Comparison, seed: u64) {
@@ -48,6 +49,7 @@ pub fn round(comparison: &mut Comparison, seed: u64) {
     for _ in 0..4 {
         on_random_graph(comparison, &mut prng);
     }
+    plain_rounds::round(comparison, &mut prng);
 }
 
 fn on_log(comparison: &mut Comparison, prng: &mut Prng, kind: &'static str, log: &[u8]) {
@@ -68,6 +70,7 @@ fn on_log(comparison: &mut Comparison, prng: &mut Prng, kind: &'static str, log:
         let changed = graphs::changed_trace(prng, trace, sound.a);
         comparison.replay(&file, &changed);
     }
+    plain_rounds::on_traces(comparison, prng, &file, &sound.traces);
     on_graph_file(comparison, prng, "graph: mined", &file);
 }
 
@@ -114,6 +117,7 @@ fn on_graph_file(comparison: &mut Comparison, prng: &mut Prng, kind: &'static st
     let mut marking = graphs::marking_bytes(&graphs::any_marking(prng, events)).to_vec();
     marking.resize(prng.one_of(&[0, 8, 23, 25, 40]), 0);
     comparison.step(file, &marking, graphs::activity(prng, a));
+    plain_rounds::on_graph_file(comparison, prng, file, trace);
 }
 
 fn on_random_graph(comparison: &mut Comparison, prng: &mut Prng) {

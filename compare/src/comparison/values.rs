@@ -1,13 +1,14 @@
-//! What the five functions don't show: graphs as values, markings after a replay, the log
+//! What the functions of `port` don't show: graphs as values, markings after a replay, the log
 //! reader, mining without step 6. Judge and yardstick only.
 use super::{decimal, Comparison};
 use crate::judge::graph::{graph_of, graph_value, marking_of, marking_value};
-use crate::value::{GraphValue, MarkingValue, Replayed};
+use crate::value::{Answer, GraphValue, MarkingValue, Replayed};
 use crate::{judge, yardstick};
 use std::fmt::Debug;
 
-fn number<T>(outcome: &Result<T, u8>) -> u8 {
-    outcome.as_ref().err().copied().unwrap_or(0)
+fn number<T, E: Copy + Into<Answer>>(outcome: &Result<T, E>) -> u8 {
+    let refusal = outcome.as_ref().err().copied();
+    refusal.map_or(0, |refusal| refusal.into().number)
 }
 
 impl Comparison {
@@ -79,12 +80,12 @@ impl Comparison {
     pub fn value_replay(&mut self, graph: &GraphValue, trace: &[u8]) {
         let done = judge::engine::replay(&graph_of(graph), trace);
         let wanted = Replayed {
-            number: done.number,
+            answer: done.answer,
             place: done.place,
             marking: marking_value(&done.marking),
             accepting: done.accepting,
         };
-        self.saw("value replay", wanted.number);
+        self.saw("value replay", wanted.answer.number);
         let got = yardstick::engine::replay(graph, trace);
         self.same("value replay", &wanted, &got, || {
             format!("{graph:?}\n{}", decimal(trace))

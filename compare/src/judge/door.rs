@@ -1,9 +1,11 @@
-//! The judge behind the five functions of `port`.
-use super::engine::{execute, replay as replay_graph};
+//! The judge behind the nine functions of `port`.
+use super::engine::{accepting, execute, replay as replay_graph};
+use super::graph::Graph;
 use super::graph_file::{self, read_marking, set_bytes};
 use super::listing::listing as list;
-use super::{log, miner};
-use crate::door::{filled, replayed, written, Door};
+use super::{log, miner, plain};
+use crate::door::{filled, replayed, stepped, verdict, written, Door};
+use crate::value::{Answer, PlainGraph};
 
 pub const DOOR: Door = Door {
     name: "judge",
@@ -12,6 +14,10 @@ pub const DOOR: Door = Door {
     replay,
     rewrite,
     step,
+    plain_step,
+    plain_accepting,
+    plain_replay,
+    fill,
 };
 
 fn mine(bytes: &[u8], file: &mut [u8]) -> u64 {
@@ -26,13 +32,7 @@ fn listing(bytes: &[u8], out: &mut [u8]) -> u64 {
 }
 
 fn replay(file: &[u8], trace: &[u8]) -> u64 {
-    match graph_file::read(file) {
-        Err(number) => replayed(number, 0, false),
-        Ok(graph) => {
-            let done = replay_graph(&graph, trace);
-            replayed(done.number, done.place, done.accepting)
-        }
-    }
+    replay_on(graph_file::read(file), trace)
 }
 
 fn rewrite(file: &[u8], out: &mut [u8]) -> u64 {
@@ -40,19 +40,54 @@ fn rewrite(file: &[u8], out: &mut [u8]) -> u64 {
 }
 
 fn step(file: &[u8], lent: &mut [u8], activity: u8) -> u64 {
-    let graph = match graph_file::read(file) {
-        Err(number) => return u64::from(number),
-        Ok(graph) => graph,
-    };
+    stepped(step_on(graph_file::read(file), lent, activity))
+}
+
+fn plain_step(graph: &PlainGraph, lent: &mut [u8], activity: u8) -> u64 {
+    stepped(step_on(plain::read(graph, 0), lent, activity))
+}
+
+fn plain_accepting(graph: &PlainGraph, marking: &[u8]) -> u64 {
+    verdict(plain::read(graph, 0).and_then(|graph| {
+        if marking.len() < 24 {
+            return Err(7);
+        }
+        accepting(&graph, &read_marking(marking))
+    }))
+}
+
+fn plain_replay(graph: &PlainGraph, trace: &[u8]) -> u64 {
+    replay_on(plain::read(graph, trace.len()), trace)
+}
+
+fn fill(file: &[u8], kind: u8, memory: &mut [u16]) -> u64 {
+    written(graph_file::read(file).and_then(|graph| {
+        let pairs = plain::relation(&graph.relations, kind);
+        plain::fill(&pairs, memory)
+    }))
+}
+
+/// On the graph of a file or of lists, or with its refusal.
+fn replay_on(graph: Result<Graph, u8>, trace: &[u8]) -> u64 {
+    match graph {
+        Err(number) => replayed(number, 0, false),
+        Ok(graph) => {
+            let done = replay_graph(&graph, trace);
+            replayed(done.answer, done.place, done.accepting)
+        }
+    }
+}
+
+/// The graph's refusals come before those of what was lent.
+fn step_on(graph: Result<Graph, u8>, lent: &mut [u8], activity: u8) -> Result<(), Answer> {
+    let graph = graph?;
     if lent.len() < 24 {
-        return 7;
+        return Err(7.into());
     }
     let mut marking = read_marking(lent);
-    if let Err(number) = execute(&graph, &mut marking, activity) {
-        return u64::from(number);
-    }
+    execute(&graph, &mut marking, activity)?;
     lent[0..8].copy_from_slice(&set_bytes(&marking.executed));
     lent[8..16].copy_from_slice(&set_bytes(&marking.pending));
     lent[16..24].copy_from_slice(&set_bytes(&marking.included));
-    0
+    Ok(())
 }

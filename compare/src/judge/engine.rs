@@ -1,22 +1,33 @@
 //! The engine: enabled, execute, accepting, replay, on a graph handed over as a value.
 use super::graph::{judge_marking, judge_members, judge_size, Graph, Marking};
-use super::Relations;
+use super::{Relations, Set};
+use crate::value::Answer;
 
-/// 8, 9, 10 in that order.
-pub fn blocked(graph: &Graph, marking: &Marking, e: u8) -> Result<(), u8> {
-    if !graph.events.contains(&e) {
-        return Err(8);
-    }
-    if !marking.included.contains(&e) {
-        return Err(9);
-    }
+/// The condition sources of e that are included and not executed.
+fn blockers(graph: &Graph, marking: &Marking, e: u8) -> Set {
+    let mut blockers = Set::new();
     for &(source, target) in &graph.relations.conditions {
         let included = marking.included.contains(&source);
         if target == e && included && !marking.executed.contains(&source) {
-            return Err(10);
+            blockers.insert(source);
         }
     }
-    Ok(())
+    blockers
+}
+
+/// 8, 9, 10 in that order; 10 with the smallest blocker.
+pub fn blocked(graph: &Graph, marking: &Marking, e: u8) -> Result<(), Answer> {
+    if !graph.events.contains(&e) {
+        return Err(8.into());
+    }
+    if !marking.included.contains(&e) {
+        return Err(9.into());
+    }
+    let number = 10;
+    match blockers(graph, marking, e).first() {
+        Some(&blocker) => Err(Answer { number, blocker }),
+        None => Ok(()),
+    }
 }
 
 /// The marking after e, in the order of 01: lose, then gain.
@@ -48,13 +59,13 @@ fn judge(graph: &Graph, marking: &Marking) -> Result<(), u8> {
     judge_marking(&graph.events, marking)
 }
 
-pub fn enabled(graph: &Graph, marking: &Marking, e: u8) -> Result<(), u8> {
+pub fn enabled(graph: &Graph, marking: &Marking, e: u8) -> Result<(), Answer> {
     judge(graph, marking)?;
     blocked(graph, marking, e)
 }
 
 /// Alters the lent marking, and only when enabled.
-pub fn execute(graph: &Graph, marking: &mut Marking, e: u8) -> Result<(), u8> {
+pub fn execute(graph: &Graph, marking: &mut Marking, e: u8) -> Result<(), Answer> {
     enabled(graph, marking, e)?;
     *marking = stepped(&graph.relations, marking, e);
     Ok(())
@@ -72,15 +83,15 @@ pub fn accepting(graph: &Graph, marking: &Marking) -> Result<bool, u8> {
 
 #[derive(Clone, PartialEq, Eq, Debug)]
 pub struct Replay {
-    pub number: u8,
+    pub answer: Answer,
     pub place: usize,
     pub marking: Marking,
     pub accepting: bool,
 }
 
 pub fn replay(graph: &Graph, trace: &[u8]) -> Replay {
-    let refused = |number| Replay {
-        number,
+    let refused = |number: u8| Replay {
+        answer: number.into(),
         place: 0,
         marking: Marking::default(),
         accepting: false,
@@ -93,9 +104,9 @@ pub fn replay(graph: &Graph, trace: &[u8]) -> Replay {
     }
     let mut marking = graph.marking.clone();
     for (place, &e) in trace.iter().enumerate() {
-        if let Err(number) = blocked(graph, &marking, e) {
+        if let Err(answer) = blocked(graph, &marking, e) {
             return Replay {
-                number,
+                answer,
                 place,
                 marking,
                 accepting: false,
@@ -105,7 +116,7 @@ pub fn replay(graph: &Graph, trace: &[u8]) -> Replay {
     }
     let accepting = at_rest(&marking);
     Replay {
-        number: 0,
+        answer: 0.into(),
         place: trace.len(),
         marking,
         accepting,

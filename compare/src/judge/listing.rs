@@ -30,7 +30,7 @@ fn lines(log: &Log, graph: &Graph) -> String {
     for (k, trace) in log.traces.iter().enumerate() {
         let done = replay(graph, trace);
         let yes = u8::from(done.accepting);
-        text += &format!("T {k} {} {} {yes}\n", trace.len(), done.number);
+        text += &format!("T {k} {} {} {yes}\n", trace.len(), done.answer.number);
     }
     text
 }

@@ -11,6 +11,7 @@ pub mod graph_file;
 pub mod listing;
 pub mod log;
 pub mod miner;
+pub mod plain;
 pub mod steps;
 
 /// A set of activities.

@@ -5,6 +5,10 @@ use crate::value::{GraphValue, MarkingValue, Rows};
 /// A graph that 01 accepts, of any size, dense or nearly without pairs.
 pub fn value(prng: &mut Prng) -> GraphValue {
     let a = prng.one_of(&[0, 1, 2, 3, 4, 5, 8, 20, 63, 64, 64]);
+    value_of_size(prng, a)
+}
+
+pub fn value_of_size(prng: &mut Prng, a: u8) -> GraphValue {
     let share = prng.one_of(&[100, 100, 70, 30]);
     let low = if a == 64 { u64::MAX } else { (1u64 << a) - 1 };
     let events = prng.sparse(share) & low;

@@ -2,6 +2,7 @@
 pub mod damage;
 pub mod graphs;
 pub mod logs;
+pub mod plain;
 pub mod prng;
 pub mod process;
 pub mod shapes;

@@ -1,8 +1,8 @@
-//! The yardstick behind the five functions of `port`.
+//! The yardstick behind the nine functions of `port`.
 use super::graph_file::{marking_at, read_into, write_judged};
-use super::{engine, listing as lister, log, miner};
-use crate::door::{filled, replayed, written, Door};
-use crate::value::GraphValue;
+use super::{engine, listing as lister, log, miner, plain};
+use crate::door::{filled, replayed, stepped, verdict, written, Door};
+use crate::value::{Answer, GraphValue, MarkingValue, PlainGraph};
 
 pub const DOOR: Door = Door {
     name: "yardstick",
@@ -11,6 +11,10 @@ pub const DOOR: Door = Door {
     replay,
     rewrite,
     step,
+    plain_step,
+    plain_accepting,
+    plain_replay,
+    fill,
 };
 
 fn mine(bytes: &[u8], file: &mut [u8]) -> u64 {
@@ -31,7 +35,7 @@ fn replay(file: &[u8], trace: &[u8]) -> u64 {
         return replayed(3, 0, false);
     }
     let done = engine::replay_judged(&graph, trace);
-    replayed(done.number, done.place, done.accepting)
+    replayed(done.answer, done.place, done.accepting)
 }
 
 fn rewrite(file: &[u8], out: &mut [u8]) -> u64 {
@@ -41,22 +45,55 @@ fn rewrite(file: &[u8], out: &mut [u8]) -> u64 {
 
 fn step(file: &[u8], lent: &mut [u8], activity: u8) -> u64 {
     let mut graph = GraphValue::EMPTY;
-    if let Err(number) = read_into(file, &mut graph) {
-        return u64::from(number);
+    match read_into(file, &mut graph) {
+        Err(number) => stepped(Err(number.into())),
+        Ok(()) => stepped(step_judged(&graph, lent, activity)),
     }
+}
+
+/// The lent marking where it is whole and within the events.
+fn lent_marking(graph: &GraphValue, lent: &[u8]) -> Result<MarkingValue, u8> {
     if lent.len() < 24 {
-        return 7;
+        return Err(7);
     }
-    let mut m = marking_at(lent, 0);
+    let m = marking_at(lent, 0);
     if (m.executed | m.pending | m.included) & !graph.events != 0 {
-        return 5;
+        return Err(5);
     }
-    match engine::step(&graph, m, activity) {
-        Err(number) => return u64::from(number),
-        Ok(after) => m = after,
-    }
+    Ok(m)
+}
+
+fn step_judged(graph: &GraphValue, lent: &mut [u8], activity: u8) -> Result<(), Answer> {
+    let m = engine::step(graph, lent_marking(graph, lent)?, activity)?;
     lent[..8].copy_from_slice(&m.executed.to_le_bytes());
     lent[8..16].copy_from_slice(&m.pending.to_le_bytes());
     lent[16..24].copy_from_slice(&m.included.to_le_bytes());
-    0
+    Ok(())
+}
+
+fn plain_step(graph: &PlainGraph, lent: &mut [u8], activity: u8) -> u64 {
+    match plain::read(graph, 0) {
+        Err(number) => stepped(Err(number.into())),
+        Ok(graph) => stepped(step_judged(&graph, lent, activity)),
+    }
+}
+
+fn plain_accepting(graph: &PlainGraph, marking: &[u8]) -> u64 {
+    let lent = plain::read(graph, 0).and_then(|graph| lent_marking(&graph, marking));
+    verdict(lent.map(|m| m.pending & m.included == 0))
+}
+
+fn plain_replay(graph: &PlainGraph, trace: &[u8]) -> u64 {
+    match plain::read(graph, trace.len()) {
+        Err(number) => replayed(number, 0, false),
+        Ok(graph) => {
+            let done = engine::replay_judged(&graph, trace);
+            replayed(done.answer, done.place, done.accepting)
+        }
+    }
+}
+
+fn fill(file: &[u8], kind: u8, memory: &mut [u16]) -> u64 {
+    let mut graph = GraphValue::EMPTY;
+    written(read_into(file, &mut graph).and_then(|()| plain::fill(&graph, kind, memory)))
 }

@@ -1,6 +1,6 @@
 //! The engine on words.
 use super::{below, bit, index};
-use crate::value::{GraphValue, MarkingValue, Replayed};
+use crate::value::{Answer, GraphValue, MarkingValue, Replayed};
 
 /// 3 for A, then 5 for the graph.
 pub fn judge(graph: &GraphValue) -> Result<(), u8> {
@@ -38,16 +38,20 @@ fn judge_beside(graph: &GraphValue, m: &MarkingValue) -> Result<(), u8> {
 
 /// 8, 9, 10, or the marking after e.
 #[inline(always)]
-pub fn step(graph: &GraphValue, m: MarkingValue, e: u8) -> Result<MarkingValue, u8> {
+pub fn step(graph: &GraphValue, m: MarkingValue, e: u8) -> Result<MarkingValue, Answer> {
     if e >= 64 || graph.events & bit(e) == 0 {
-        return Err(8);
+        return Err(8.into());
     }
     if m.included & bit(e) == 0 {
-        return Err(9);
+        return Err(9.into());
     }
     let k = index(e);
-    if graph.conditions[k] & m.included & !m.executed != 0 {
-        return Err(10);
+    let blocking = graph.conditions[k] & m.included & !m.executed;
+    if blocking != 0 {
+        return Err(Answer {
+            number: 10,
+            blocker: blocking.trailing_zeros() as u8,
+        });
     }
     Ok(MarkingValue {
         executed: m.executed | bit(e),
@@ -56,12 +60,12 @@ pub fn step(graph: &GraphValue, m: MarkingValue, e: u8) -> Result<MarkingValue, 
     })
 }
 
-pub fn enabled(graph: &GraphValue, marking: &MarkingValue, e: u8) -> Result<(), u8> {
+pub fn enabled(graph: &GraphValue, marking: &MarkingValue, e: u8) -> Result<(), Answer> {
     judge_beside(graph, marking)?;
     step(graph, *marking, e).map(|_| ())
 }
 
-pub fn execute(graph: &GraphValue, marking: &mut MarkingValue, e: u8) -> Result<(), u8> {
+pub fn execute(graph: &GraphValue, marking: &mut MarkingValue, e: u8) -> Result<(), Answer> {
     judge_beside(graph, marking)?;
     *marking = step(graph, *marking, e)?;
     Ok(())
@@ -94,9 +98,9 @@ pub fn replay_judged(graph: &GraphValue, trace: &[u8]) -> Replayed {
     for (place, &e) in trace.iter().enumerate() {
         match step(graph, marking, e) {
             Ok(after) => marking = after,
-            Err(number) => {
+            Err(answer) => {
                 return Replayed {
-                    number,
+                    answer,
                     place,
                     marking,
                     accepting: false,
@@ -105,7 +109,7 @@ pub fn replay_judged(graph: &GraphValue, trace: &[u8]) -> Replayed {
         }
     }
     Replayed {
-        number: 0,
+        answer: 0.into(),
         place: trace.len(),
         marking,
         accepting: at_rest(&marking),

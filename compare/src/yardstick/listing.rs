@@ -83,7 +83,7 @@ fn list(log: &Log, graph: &GraphValue, page: &mut Page) {
         for number in [
             k,
             trace.len(),
-            usize::from(done.number),
+            usize::from(done.answer.number),
             usize::from(done.accepting),
         ] {
             page.field(number);

@@ -8,6 +8,7 @@ pub mod graph_file;
 pub mod listing;
 pub mod log;
 pub mod miner;
+pub mod plain;
 pub mod replayed_pass;
 pub mod rows;
 

@@ -78,8 +78,19 @@ pub fn mined_number(door: &Door, log: &[u8]) -> u64 {
     (door.mine)(log, &mut vec![0; GRAPH_ROOM]) % 256
 }
 
-/// number, place, accepting
-pub fn replay(door: &Door, file: &[u8], trace: &[u8]) -> (u64, u64, bool) {
+/// number, blocker, place, accepting
+pub type Outcome = (u64, u64, u64, bool);
+
+pub fn replay(door: &Door, file: &[u8], trace: &[u8]) -> Outcome {
     let result = (door.replay)(file, trace);
-    (result % 256, result % (1 << 32) / 256, result >> 32 == 1)
+    let accepting = result >> 32 & 255;
+    assert!(accepting < 2, "{} {result}", door.name);
+    let place = result % (1 << 32) / 256;
+    (result % 256, result >> 40, place, accepting == 1)
+}
+
+/// The number of a step, and its blocker: together all that a step gives.
+pub fn answer(result: u64) -> (u64, u64) {
+    assert_eq!(result % (1 << 40) / 256, 0, "{result}");
+    (result % 256, result >> 40)
 }

@@ -3,6 +3,7 @@
 mod engine;
 mod files;
 mod mining;
+mod plain;
 mod wrong_steps;
 
 /// How many seeds a mutant may survive.

@@ -11,10 +11,10 @@ pub fn say_step(g: Graph, m: Marking, a: Activity) {
     text::answer(b": accepting ", judged);
     text::yes_or_no(b"", verdict.accepting);
     let enabled = engine::step::enabled(g, m, a);
-    text::answer(b"; enabled ", enabled);
+    text::blocked(b"; enabled ", enabled);
     let stepped = engine::execute::executed(g, m, a);
     let answer = stepped.answer;
-    text::answer(b"; step ", answer);
+    text::blocked(b"; step ", answer);
     text::marking(stepped.marking);
 }
 

@@ -7,7 +7,7 @@ use engine::Replayed;
 // Where a replay ended.
 fn say_replayed(r: Replayed) {
     let answer = r.answer;
-    text::answer(b": ", answer);
+    text::blocked(b": ", answer);
     text::number(b" place ", r.place.0 as u64);
     text::marking(r.marking);
     text::yes_or_no(b" accepting", r.accepting);

@@ -25,6 +25,12 @@ pub fn answer(name: &[u8], a: Answer) {
     number(name, a.number() as u64);
 }
 
+// The number of a step or a replay, and what blocks it: 255 beside every number but 10.
+pub fn blocked(name: &[u8], a: Answer) {
+    answer(name, a);
+    number(b" by ", a.blocker() as u64);
+}
+
 pub fn yes_or_no(name: &[u8], yes: bool) {
     say(name);
     if yes {

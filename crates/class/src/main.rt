@@ -18,6 +18,9 @@ const SURVEY_ASSIGN: u16 = 258;
 
 const WAIVE_SURVEY: u16 = 1;
 
+// A second condition, 0 to 2.
+const WAIVE_ASSIGN: u16 = 2;
+
 // 0 Waive, 1 Survey, 2 Assign, all included.
 fn waive() -> Head {
     Head {
@@ -109,6 +112,10 @@ fn main() {
     the_rows(&c, &x);
     let twice = [WAIVE_SURVEY, WAIVE_SURVEY];
     show(b"listed twice, 0 2", &c, &twice, b"\x00\x02");
+    let both = [SURVEY_ASSIGN, WAIVE_ASSIGN];
+    show(b"1 and 0 to 2, 2", &both, &x, b"\x02");
+    show(b"1 and 0 to 2, 1 2", &both, &x, b"\x01\x02");
+    show(b"1 and 0 to 2, 0 2", &both, &x, b"\x00\x02");
     the_borders(&x);
     a_step(b"step 0", &c, &x, Set::below(3));
     a_step(b"step 0 at a marking outside", &c, &x, Set::below(4));

@@ -18,8 +18,12 @@ pub fn wide(n: u16) -> u64 {
     n as u64
 }
 
+// The number, and beside 10 what blocks.
 pub fn answer(a: Answer) {
     number(b": ", a.number() as u64);
+    if a.blocker() != Answer::NO_BLOCKER {
+        number(b" by ", a.blocker() as u64);
+    }
 }
 
 fn member(s: Set, a: u8) {

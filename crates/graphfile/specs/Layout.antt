@@ -39,6 +39,10 @@ markingAt bytes at = markingOf (setAt bytes at) (setAt bytes (at + 8)) (setAt by
 abbrev pub markingIn : List ℕ → Marking
 markingIn bytes = markingAt bytes 12
 
+-- A, the events and the marking from a place on
+abbrev pub headAt : List ℕ → ℕ → Head
+headAt bytes at = headOf (getD bytes at 0) (setAt bytes (at + 1)) (markingAt bytes (at + 9))
+
 -- A, the events and the marking
 abbrev pub headIn : List ℕ → Head
 headIn bytes = headOf (activitiesIn bytes) (eventsIn bytes) (markingIn bytes)

@@ -3,3 +3,4 @@ pub mod Refusals
 pub mod Held
 pub mod Writing
 pub mod Markings
+pub mod Heads

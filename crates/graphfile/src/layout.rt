@@ -2,7 +2,7 @@
 ghost use mathlib.Core.Path.{_≡_};
 ghost use Prim.Native.Nat.{_+_, _*_, _≤_, _<_};
 ghost use lib.ListN.{length};
-ghost use Rattle.graphfile.specs.Layout.{headLength, rowLength, setAt, markingAt, markingIn, headIn, offsetIn, countIn, earlierRows, keyIn, rowIn};
+ghost use Rattle.graphfile.specs.Layout.{headLength, rowLength, setAt, markingAt, markingIn, headAt, headIn, offsetIn, countIn, earlierRows, keyIn, rowIn};
 ghost use Rattle.engine.specs.Relations.{relationCount};
 use crate::number::number_at;
 use engine::Head;
@@ -22,7 +22,9 @@ pub const ROW: usize = 9;
 // How many relations: conditions, responses, includes, excludes.
 pub const RELATIONS: usize = KINDS as usize;
 
-// Where the events stand, and the marking: executed, pending, included.
+// Where A stands, then the events, and the marking: executed, pending, included.
+pub const ACTIVITIES: usize = 3;
+
 pub const EVENTS: usize = 4;
 
 pub const EXECUTED: usize = 12;
@@ -62,16 +64,23 @@ pub(crate) fn marking_in(bytes: &[u8]) -> Marking
     marking_at(bytes, EXECUTED)
 }
 
-// A, the events and the marking.
+// A, the events and the marking in 33 bytes from a place on.
+pub(crate) fn head_at(bytes: &[u8], at: usize) -> Head
+    requires { ⌜ at + 33 ≤ length (now bytes) ⌝ }
+    ensures { λ r. ⌜ r ≡ headAt (now (bytes .entry)) at ⌝ }
+{
+    Head {
+        activities: bytes[at],
+        events: set_at(bytes, at + 1),
+        opening: marking_at(bytes, at + 9),
+    }
+}
+
 pub(crate) fn head_in(bytes: &[u8]) -> Head
     requires { ⌜ headLength ≤ length (now bytes) ⌝ }
     ensures { λ r. ⌜ r ≡ headIn (now (bytes .entry)) ⌝ }
 {
-    Head {
-        activities: bytes[3],
-        events: set_at(bytes, EVENTS),
-        opening: marking_in(bytes),
-    }
+    head_at(bytes, ACTIVITIES)
 }
 
 pub(crate) fn offset_in(bytes: &[u8], r: usize) -> usize

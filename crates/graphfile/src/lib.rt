@@ -1,4 +1,5 @@
 // Graph files (01, "Two files, contents first": Graph): from bytes to a graph and back.
+pub mod head;
 mod layout;
 pub mod marking;
 mod number;

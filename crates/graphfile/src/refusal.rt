@@ -23,7 +23,7 @@ fn judge_head(bytes: &[u8]) -> Answer
     if !opening::opens_with(&layout::LETTERS, bytes) {
         return Answer::WrongLetters;
     }
-    let activities = bytes[3];
+    let activities = bytes[layout::ACTIVITIES];
     if Activity::LIMIT < activities {
         return Answer::AboveLimit;
     }

@@ -107,7 +107,7 @@ fn put_letters(out: &mut [u8], activities: u8)
     out[0] = wanted[0];
     out[1] = wanted[1];
     out[2] = wanted[2];
-    out[3] = activities;
+    out[layout::ACTIVITIES] = activities;
 }
 
 // Stores a marking: executed, pending, included.

@@ -2,15 +2,15 @@
 use mathlib.Core.Path.{_≡_, refl, sym, ap, _∙_, subst}
 use mathlib.Core.Bool.{Bool, true, false, not}
 use mathlib.Core.List.{List}
-use Prim.Native.Nat.{ℕ, zero, suc, _+_, _*_, _/_, _%_, _≤_, _<_}
+use Prim.Native.Nat.{ℕ, zero, suc, _<_}
 use native.Mathlib.Omega.{arith}
 use borrow.Author.Tests.{eq-eqb, ne-eqb}
 use lib.Dec.{T, eqb, eqb→eq, eqb-refl}
 use lib.ListN.{length, getD}
 use Rattle.sets.specs.Tests.{_and_, _or_, non}
-use Rattle.sets.specs.Members.{mem, someBelow, everyBelow}
+use Rattle.sets.specs.Members.{mem, someBelow}
 use Rattle.sets.specs.declared.set.Set.{Set}
-use Rattle.sets.proofs.Tests.{and-l, and-r, and-i, T-ext, T→true, F→false, true→T, false→F, eqb-of, not-non}
+use Rattle.sets.proofs.Tests.{and-l, and-r, and-i, T-ext, eqb-of, not-non}
 use Rattle.sets.proofs.Below.{some-i, some-e, every-i, every-e}
 use Rattle.plain.specs.Pairs.{pairOf, sourceOf, targetOf, someIn, everyIn, isAmong}
 

@@ -1,6 +1,6 @@
 -- A step, pair by pair, as the set rules have it. Assumes nothing.
 use mathlib.Core.Path.{_≡_, refl, sym, ap, _∙_, subst}
-use mathlib.Core.Bool.{Bool, true, false, not}
+use mathlib.Core.Bool.{Bool, true, false}
 use mathlib.Core.List.{List, []}
 use mathlib.Core.Logic.{_⊎_, inl, inr}
 use Prim.Native.Nat.{ℕ, zero, suc, _+_, _≤_, _<_}
@@ -8,7 +8,7 @@ use native.Mathlib.Numerals.{add-one}
 use native.Mathlib.Omega.{arith}
 use borrow.Author.Count.{below-more}
 use borrow.Author.Tests.{eq-eqb, ne-eqb, lt-ltb, le-ltb, ltb-true, ltb-false}
-use lib.Dec.{T, eqb, eqb→eq, eqb-refl, ltb}
+use lib.Dec.{T, eqb, eqb→eq, ltb}
 use lib.ListN.{length, getD}
 use Rattle.sets.specs.Tests.{_and_, _or_, non, when_then_else_}
 use Rattle.sets.specs.Members.{width, mem, those, someBelow, leastBelow}
@@ -16,9 +16,9 @@ use Rattle.sets.specs.declared.activity.Activity.{Activity}
 use Rattle.sets.specs.declared.set.Set.{Set}
 use Rattle.sets.specs.declared.answer.Answer.{Answer}
 use Rattle.sets.specs.declared.answer.Answer.the-variants.{Waiting}
-use Rattle.sets.proofs.Tests.{and-l, and-r, and-i, T-ext, T→true, F→false, true→T, false→F, eqb-of, split, either, or-false}
-use Rattle.sets.proofs.Below.{some-i, some-e, least-only, some-least}
-use Rattle.sets.proofs.Members.{Fits, is-those, those-ext, those-of, mem-those, has-above}
+use Rattle.sets.proofs.Tests.{and-l, and-r, and-i, T-ext, T→true, F→false, eqb-of, split}
+use Rattle.sets.proofs.Below.{some-e, least-only, some-least}
+use Rattle.sets.proofs.Members.{Fits, is-those, those-ext, those-of}
 use Rattle.engine.specs.declared.marking.Marking.{Marking}
 use Rattle.engine.specs.Markings.{markingOf}
 use Rattle.engine.specs.Relations.{Relations}

@@ -104,7 +104,7 @@ fn graph_within<'a>(
 }
 
 // A graph, with the length of a trace beside it.
-pub(crate) fn judge_for<'a>(
+pub fn judge_for<'a>(
     head: Head,
     conditions: &'a [u16],
     responses: &'a [u16],

@@ -2,7 +2,7 @@
 // results are those of the engine on sets, and so are the step rules that both are held to.
 pub mod execute;
 pub mod fill;
-mod judge;
+pub mod judge;
 mod pairs;
 pub mod replay;
 pub mod step;

@@ -8,7 +8,7 @@ use borrow.Author.Tests.{not-true, not-false, lt-ltb, le-ltb}
 use lib.Dec.{ltb}
 use lib.ListN.{length}
 use Rattle.sets.specs.Tests.{non, when_then_else_}
-use Rattle.sets.specs.Answers.{numberOf, isDone}
+use Rattle.sets.specs.Answers.{numberOf, blockerOf, isDone}
 use Rattle.sets.specs.declared.answer.Answer.{Answer}
 use Rattle.sets.specs.declared.answer.Answer.the-variants.{Done, AboveLimit, BufferTooSmall}
 use Rattle.sets.specs.Sizes.{longestTrace}
@@ -31,7 +31,7 @@ use Rattle.graphfile.specs.declared.writer.Written.{Written}
 use Rattle.graphfile.specs.Markings.{markingFrom, markingInto}
 use Rattle.miner.specs.declared.mining.Mined.{Mined}
 use Rattle.report.specs.declared.writer.Listed.{Listed}
-use Rattle.port.specs.Port.{packedOf, putNumber, putBuffer, replayNumber, refusedStep, stepOf, stepBytes}
+use Rattle.port.specs.Port.{packedOf, verdictOf, blockedOf, stepNumber, storedOf, putNumber, putBuffer, replayNumber, refusedStep, stepOf, stepBytes}
 
 pub packed-is : (a : Answer) (n low : ℕ) → low ≡ numberOf a → low + 256 * (n % 16777216) ≡ packedOf a n
 unfolding packedOf
@@ -41,6 +41,20 @@ packed-is a n low e = ap (λ (x : ℕ). x + 256 * (n % 16777216)) e
 pub packed-plain : (a : Answer) (n : ℕ) → n < 2 ^ 24 → packedOf a n ≡ numberOf a + 256 * n
 unfolding packedOf
 packed-plain a n l = let small : n < 16777216 = l in let same : n % 16777216 ≡ n = omega arith in ap (λ (x : ℕ). numberOf a + 256 * x) same
+
+-- the same where accepting, and where not
+module _ (a : Answer) (n low : ℕ) (t : Bool) (e : low ≡ packedOf a n) where
+  pub verdict-yes : t ≡ true → low + 4294967296 ≡ verdictOf a n t
+  unfolding verdictOf
+  verdict-yes y = ap₂ (λ (x : ℕ) (b : Bool). x + (when b then 2 ^ 32 else 0)) e (sym y)
+
+  pub verdict-no : t ≡ false → low ≡ verdictOf a n t
+  unfolding verdictOf
+  verdict-no y = let same : low ≡ low + 0 = omega arith in same ∙ ap₂ (λ (x : ℕ) (b : Bool). x + (when b then 2 ^ 32 else 0)) e (sym y)
+
+pub blocked-is : (a : Answer) (n low b : ℕ) (t : Bool) → low ≡ verdictOf a n t → b ≡ blockerOf a → low + 1099511627776 * b ≡ blockedOf a n t
+unfolding blockedOf
+blocked-is a n low b t e h = ap₂ (λ (x y : ℕ). x + 1099511627776 * y) e h
 
 -- ---- a graph written
 
@@ -105,48 +119,33 @@ module _ (file trace : List ℕ) (r : Reading) (hr : r ≡ readOf file) (d : Boo
   abbrev shown : Bool → ℕ
   shown t =
       when t then
-      packedOf (replayOf (readOf file .graph) trace .answer) (replayOf (readOf file .graph) trace .place .0)
-      + (when replayOf (readOf file .graph) trace .accepting then 2 ^ 32 else 0)
-      else packedOf (readOf file .answer) 0
+      blockedOf (replayOf (readOf file .graph) trace .answer) (replayOf (readOf file .graph) trace .place .0)
+      (replayOf (readOf file .graph) trace .accepting)
+      else blockedOf (readOf file .answer) 0 false
 
-  pub replay-refused : (n : ℕ) → not d ≡ true → n ≡ packedOf (r .answer) 0 → n ≡ replayNumber file trace
+  pub replay-refused : (n : ℕ) → not d ≡ true → n ≡ blockedOf (r .answer) 0 false → n ≡ replayNumber file trace
   unfolding replayNumber
-  replay-refused n h e = e ∙ ap (λ (x : Reading). packedOf (x .answer) 0) hr ∙ sym (ap shown (file-done false (not-true d h)))
+  replay-refused n h e = e ∙ ap (λ (x : Reading). blockedOf (x .answer) 0 false) hr ∙ sym (ap shown (file-done false (not-true d h)))
 
-  add : ℕ → Replayed → ℕ
-  add low x = low + (when x .accepting then 2 ^ 32 else 0)
+  abbrev said : Replayed → ℕ
+  said x = blockedOf (x .answer) (x .place .0) (x .accepting)
 
-  pub replay-too-long : (n : ℕ) → not d ≡ false → longestTrace < length trace → n ≡ packedOf AboveLimit 0 → n ≡ replayNumber file trace
-  unfolding replayNumber add
+  pub replay-too-long : (n : ℕ) → not d ≡ false → longestTrace < length trace → n ≡ blockedOf AboveLimit 0 false → n ≡ replayNumber file trace
+  unfolding replayNumber
   replay-too-long n h l e =
-      let same : packedOf AboveLimit 0 ≡ packedOf AboveLimit 0 + 0 = omega arith in
       e
-      ∙ same
-      ∙ ap (λ (x : Replayed). add (packedOf (x .answer) (x .place .0)) x) (sym (replay-long (readOf file .graph) trace l))
+      ∙ ap said (sym (replay-long (readOf file .graph) trace l))
       ∙ sym (ap shown (file-done true (not-false d h)))
 
-  module _ (h : not d ≡ false) (small : Bytes file) (l : length trace ≤ longestTrace) (p : Replayed)
-      (hp : p ≡ replayFrom (r .graph .head .events) (relationsOf (r .graph)) (r .graph .head .opening) 0 trace) where
-    the-replay : p ≡ replayOf (readOf file .graph) trace
-    the-replay = hp ∙ sym (replay-judged (r .graph) (read-judged file r d small hr hd h) trace l) ∙ ap (λ (x : Reading). replayOf (x .graph) trace) hr
-
-    pub replay-accepting : (low : ℕ) → low ≡ packedOf (p .answer) (p .place .0) → p .accepting ≡ true → low + 4294967296 ≡ replayNumber file trace
-    unfolding replayNumber add
-    replay-accepting low e y =
-        ap (λ (t : Bool). low + (when t then 2 ^ 32 else 0)) (sym y)
-        ∙ ap (λ (x : ℕ). add x p) e
-        ∙ ap (λ (x : Replayed). add (packedOf (x .answer) (x .place .0)) x) the-replay
-        ∙ sym (ap shown (file-done true (not-false d h)))
-
-    pub replay-other : (low : ℕ) → low ≡ packedOf (p .answer) (p .place .0) → p .accepting ≡ false → low ≡ replayNumber file trace
-    unfolding replayNumber add
-    replay-other low e y =
-        let same : low ≡ low + 0 = omega arith in
-        same
-        ∙ ap (λ (t : Bool). low + (when t then 2 ^ 32 else 0)) (sym y)
-        ∙ ap (λ (x : ℕ). add x p) e
-        ∙ ap (λ (x : Replayed). add (packedOf (x .answer) (x .place .0)) x) the-replay
-        ∙ sym (ap shown (file-done true (not-false d h)))
+  pub replay-run : (n : ℕ) → not d ≡ false → Bytes file → length trace ≤ longestTrace → (p : Replayed)
+      → p ≡ replayFrom (r .graph .head .events) (relationsOf (r .graph)) (r .graph .head .opening) 0 trace
+      → n ≡ said p → n ≡ replayNumber file trace
+  unfolding replayNumber
+  replay-run n h small l p hp e =
+      e
+      ∙ ap said (hp ∙ sym (replay-judged (r .graph) (read-judged file r d small hr hd h) trace l))
+      ∙ ap (λ (x : Reading). said (replayOf (x .graph) trace)) hr
+      ∙ sym (ap shown (file-done true (not-false d h)))
 
 pub ruleset replaying = (replay-refused, replay-too-long)
 
@@ -182,22 +181,16 @@ module _ (file bytes : List ℕ) (a : ℕ) where
         ∙ choice true false (not-false d n) (le-ltb (length bytes) 24 l)
 
   -- the lent bytes after it
-  module _ (s : Stepped) (d : Bool) (hs : s ≡ stepOf file bytes a) (hd : d ≡ isDone (s .answer)) where
-    said : (t : Bool) → d ≡ t → isDone (stepOf file bytes a .answer) ≡ t
-    said t e = sym (ap (λ (x : Stepped). isDone (x .answer)) hs) ∙ sym hd ∙ e
+  pub step-stored : (s : Stepped) (bytes′ : List ℕ) → s ≡ stepOf file bytes a → bytes′ ≡ storedOf s bytes → bytes′ ≡ stepBytes file bytes a
+  unfolding stepBytes storedOf
+  step-stored s bytes′ hs e = e ∙ ap (λ (x : Stepped). storedOf x bytes) hs
 
-    pub step-stored : (bytes′ : List ℕ) → not d ≡ false → bytes′ ≡ markingInto (s .marking) bytes → bytes′ ≡ stepBytes file bytes a
-    unfolding stepBytes
-    step-stored bytes′ n e =
-        e
-        ∙ ap (λ (x : Stepped). markingInto (x .marking) bytes) hs
-        ∙ sym (ap (λ (t : Bool). when t then markingInto (stepOf file bytes a .marking) bytes else bytes) (said true (not-false d n)))
+-- of any step that gives s
+module _ (s x : Stepped) (hs : s ≡ x) where
+  pub stored : (bytes bytes′ : List ℕ) → bytes′ ≡ storedOf s bytes → bytes′ ≡ storedOf x bytes
+  stored bytes bytes′ e = e ∙ ap (λ (y : Stepped). storedOf y bytes) hs
 
-    pub step-kept : not d ≡ true → bytes ≡ stepBytes file bytes a
-    unfolding stepBytes
-    step-kept n = sym (ap (λ (t : Bool). when t then markingInto (stepOf file bytes a .marking) bytes else bytes) (said false (not-true d n)))
+  pub step-number : (n : ℕ) → n ≡ stepNumber s → n ≡ stepNumber x
+  step-number n e = e ∙ ap stepNumber hs
 
-    pub step-number : (n : ℕ) → n ≡ numberOf (s .answer) → n ≡ numberOf (stepOf file bytes a .answer)
-    step-number n e = e ∙ ap (λ (x : Stepped). numberOf (x .answer)) hs
-
-pub ruleset stepping = (step-short, step-refused, step-taken, step-stored, step-kept, step-number)
+pub ruleset stepping = (step-short, step-refused, step-taken, step-stored, step-number)

@@ -1,10 +1,11 @@
 -- The numbers that the port gives back, and what it leaves in lent memory.
+use mathlib.Core.Bool.{Bool, false}
 use mathlib.Core.List.{List}
 use Prim.Native.Nat.{ℕ, _+_, _*_, _%_, _^_}
 use lib.Dec.{ltb}
 use lib.ListN.{length}
 use Rattle.sets.specs.Tests.{non, when_then_else_}
-use Rattle.sets.specs.Answers.{numberOf, isDone}
+use Rattle.sets.specs.Answers.{numberOf, blockerOf, isDone}
 use Rattle.sets.specs.declared.answer.Answer.{Answer}
 use Rattle.sets.specs.declared.answer.Answer.the-variants.{BufferTooSmall}
 use Rattle.engine.specs.Markings.{emptyMarking}
@@ -20,6 +21,14 @@ use Rattle.report.specs.Listing.{listedOf}
 -- a number of 01, and 256 times what goes with it; that has 24 bits
 unfoldable pub packedOf : Answer → ℕ → ℕ
 packedOf a n = numberOf a + 256 * (n % 2 ^ 24)
+
+-- the same, and 2^32 more where accepting
+unfoldable pub verdictOf : Answer → ℕ → Bool → ℕ
+verdictOf a n accepting = packedOf a n + (when accepting then 2 ^ 32 else 0)
+
+-- what a function gives that can answer 10: the same, and 2^40 times the blocker; 255 beside every other number (02, 2/12)
+unfoldable pub blockedOf : Answer → ℕ → Bool → ℕ
+blockedOf a n accepting = verdictOf a n accepting + 2 ^ 40 * blockerOf a
 
 -- what mining or reading gave, written as a file where it was done
 unfoldable pub putNumber : Answer → Graph → ℕ → ℕ
@@ -46,16 +55,24 @@ rewriteNumber file space = putNumber (readOf file .answer) (readOf file .graph) 
 abbrev pub rewriteBuffer : List ℕ → List ℕ → List ℕ
 rewriteBuffer file buffer = putBuffer (readOf file .answer) (readOf file .graph) buffer
 
--- skelfora_replay: the file's refusals, then the replay's; 2^32 more where it ends accepting
+-- skelfora_replay: the file's refusals, then the replay's
 unfoldable pub replayNumber : List ℕ → List ℕ → ℕ
 replayNumber file trace =
     when isDone (readOf file .answer) then
-    packedOf (replayOf (readOf file .graph) trace .answer) (replayOf (readOf file .graph) trace .place .0)
-    + (when replayOf (readOf file .graph) trace .accepting then 2 ^ 32 else 0)
-    else packedOf (readOf file .answer) 0
+    blockedOf (replayOf (readOf file .graph) trace .answer) (replayOf (readOf file .graph) trace .place .0)
+    (replayOf (readOf file .graph) trace .accepting)
+    else blockedOf (readOf file .answer) 0 false
 
 abbrev pub refusedStep : Answer → Stepped
 refusedStep a = record { answer = a; marking = emptyMarking }
+
+-- a marking's bytes after a step: as they were where refused
+unfoldable pub storedOf : Stepped → List ℕ → List ℕ
+storedOf s bytes = when isDone (s .answer) then markingInto (s .marking) bytes else bytes
+
+-- the number of a step
+abbrev pub stepNumber : Stepped → ℕ
+stepNumber s = blockedOf (s .answer) 0 false
 
 -- skelfora_step: the file's refusals, then 7 where the marking has too few bytes, then what the step gives
 unfoldable pub stepOf : List ℕ → List ℕ → ℕ → Stepped

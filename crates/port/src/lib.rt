@@ -3,9 +3,11 @@
 ghost use mathlib.Core.Path.{_≡_};
 ghost use Prim.Native.Nat.{_^_, _<_};
 ghost use lib.ListN.{length};
-ghost use Rattle.port.specs.Port.{packedOf, putNumber, putBuffer, mineNumber, mineBuffer, rewriteNumber, rewriteBuffer, replayNumber, listingNumber, stepOf, stepBytes};
+ghost use Rattle.port.specs.Port.{packedOf, verdictOf, blockedOf, stepNumber, storedOf, putNumber, putBuffer, mineNumber, mineBuffer, rewriteNumber, rewriteBuffer, replayNumber, listingNumber, stepOf, stepBytes};
 ghost use Rattle.report.specs.Listing.{listingAfter};
-ghost use Rattle.sets.specs.Answers.{numberOf};
+
+pub mod classroom;
+
 use engine::Graph;
 use engine::Marking;
 use engine::Stepped;
@@ -14,12 +16,47 @@ use sets::Answer;
 use sets::Place;
 
 // The number, and a length or place above it: 256 times. No length or place here reaches the 24 bits that it has.
-fn packed(answer: Answer, n: usize) -> u64
+pub(crate) fn packed(answer: Answer, n: usize) -> u64
     ensures { λ r. ⌜ r ≡ packedOf answer n ⌝ }
     ensures { λ r. ⌜ r < 2 ^ 32 ⌝ }
 {
     let low = answer.number() as u64;
     low + 256 * (n % 16777216) as u64
+}
+
+// The same, and 2^32 where accepting.
+pub(crate) fn packed_verdict(answer: Answer, n: usize, accepting: bool) -> u64
+    ensures { λ r. ⌜ r ≡ verdictOf answer n accepting ⌝ }
+    ensures { λ r. ⌜ r < 2 ^ 33 ⌝ }
+{
+    let low = packed(answer, n);
+    if accepting {
+        return low + 4294967296;
+    }
+    low
+}
+
+// What a function gives that can answer 10: the same, and the blocker.
+pub(crate) fn packed_blocker(answer: Answer, n: usize, accepting: bool) -> u64
+    ensures { λ r. ⌜ r ≡ blockedOf answer n accepting ⌝ }
+{
+    let low = packed_verdict(answer, n, accepting);
+    let blocker = answer.blocker() as u64;
+    low + 1099511627776 * blocker
+}
+
+// The marking after a step into the lent bytes, where it was done; its number and blocker.
+pub(crate) fn store(s: Stepped, marking: &mut [u8]) -> u64
+    ensures { λ r. ⌜ r ≡ stepNumber s ⌝ }
+    ensures { λ _. ⌜ now (marking .exit) ≡ storedOf s (now (marking .entry)) ⌝ }
+{
+    let answer = s.answer;
+    if !answer.is_done() {
+        return packed_blocker(answer, 0, false);
+    }
+    let after = s.marking;
+    graphfile::marking::write_marking(after, marking);
+    packed_blocker(answer, 0, false)
 }
 
 // What mining or reading gave, written as a file where it was done.
@@ -70,7 +107,7 @@ pub extern "C" fn skelfora_rewrite(file: &[u8], out: &mut [u8]) -> u64
     put(answer, g, out)
 }
 
-// Replays a trace on the graph of a file: the number, the place, and 2^32 where it ends accepting. Reading has judged the graph, so
+// Replays a trace on the graph of a file: the number, the place, 2^32 where it ends accepting, and the blocker. Reading has judged the graph, so
 // only the trace's length is left to judge; and nothing copies the rows.
 #[no_mangle]
 pub extern "C" fn skelfora_replay(file: &[u8], trace: &[u8]) -> u64
@@ -79,20 +116,16 @@ pub extern "C" fn skelfora_replay(file: &[u8], trace: &[u8]) -> u64
     let r = graphfile::read(file);
     let answer = r.answer;
     if !answer.is_done() {
-        return packed(answer, 0);
+        return packed_blocker(answer, 0, false);
     }
     if Place::LIMIT < trace.len() {
-        return packed(Answer::AboveLimit, 0);
+        return packed_blocker(Answer::AboveLimit, 0, false);
     }
     let head = r.graph.head;
     let p = engine::replay::run(head, &r.graph.relations, trace);
     let a = p.answer;
     let place = p.place.0;
-    let low = packed(a, place);
-    if p.accepting {
-        return low + 4294967296;
-    }
-    low
+    packed_blocker(a, place, p.accepting)
 }
 
 // A step on the graph of a file: the file's refusals, then 7 where the marking has too few bytes, then the step's.
@@ -121,15 +154,9 @@ fn stepped<'a>(file: &'a [u8], marking: &'a [u8], a: Activity) -> Stepped
 // One step at a marking of 24 lent bytes, executed, pending, included; they stay as they were where it is refused.
 #[no_mangle]
 pub extern "C" fn skelfora_step(file: &[u8], marking: &mut [u8], activity: u8) -> u64
-    ensures { λ r. ⌜ r ≡ numberOf (stepOf (now (file .entry)) (now (marking .entry)) activity .answer) ⌝ }
+    ensures { λ r. ⌜ r ≡ stepNumber (stepOf (now (file .entry)) (now (marking .entry)) activity) ⌝ }
     ensures { λ _. ⌜ now (marking .exit) ≡ stepBytes (now (file .entry)) (now (marking .entry)) activity ⌝ }
 {
     let s = stepped(file, marking, Activity(activity));
-    let answer = s.answer;
-    if !answer.is_done() {
-        return answer.number() as u64;
-    }
-    let after = s.marking;
-    graphfile::marking::write_marking(after, marking);
-    answer.number() as u64
+    store(s, marking)
 }

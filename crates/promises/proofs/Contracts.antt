@@ -7,7 +7,7 @@ use mathlib.Core.List.{List}
 use Prim.Native.Nat.{ℕ}
 use denote.Ref.{RefT, now}
 use lib.ListN.{length}
-use Rattle.sets.specs.Answers.{numberOf}
+use Rattle.sets.specs.Answers.{numberOf, blockerOf}
 use Rattle.sets.specs.declared.answer.Answer.{Answer}
 use Rattle.sets.specs.declared.answer.Answer.the-variants.{Done}
 use Rattle.engine.specs.Markings.{openingOf}
@@ -30,6 +30,7 @@ use Rattle.miner.specs.declared.mining.Mined.{Mined}
 use Rattle.report.specs.Listing.{listedOf, listingAfter}
 use Rattle.report.specs.declared.writer.Listed.{Listed}
 use Rattle.sets.proofs.answer.Answer.number.Reads as number
+use Rattle.sets.proofs.answer.Answer.blocker.Reads as blocker
 use Rattle.engine.proofs.step.enabled.Reads as enabled
 use Rattle.engine.proofs.step.step.Reads as step
 use Rattle.engine.proofs.step.accepting.Reads as accepting
@@ -68,6 +69,12 @@ number-gives a n = Gives number.Post (λ κ. (a, tt)) (λ κ. n)
 
 pub number-said : (a : Answer) (n : ℕ) → number-gives a n → n ≡ numberOf a
 number-said a n c = c .2
+
+abbrev pub blocker-gives : Answer → ℕ → Type 0
+blocker-gives a n = Gives blocker.Post (λ κ. (a, tt)) (λ κ. n)
+
+pub blocker-said : (a : Answer) (n : ℕ) → blocker-gives a n → n ≡ blockerOf a
+blocker-said a n c = c .2
 
 -- ---- logs
 

@@ -7,6 +7,7 @@
 -- Beside this file: Outcomes, that each public function has one outcome; StandIns and Counts, in which functions that 01 does not want are shut
 -- out; and rules/proofs/Cases, the (P) cases of 01 in one table under one theorem. The requests of 02 have a file each:
 -- PlainEngine, 1/12: the engine on lists of pairs gives what the engine on sets gives.
+-- Blocker, 2/12: 10 carries the smallest activity that blocks, every other number 255.
 use mathlib.Core.Path.{_≡_, refl, sym, ap, subst, _∙_}
 use mathlib.Core.Bool.{Bool, true, false}
 use mathlib.Core.Logic.{_⊎_}
@@ -15,7 +16,8 @@ use Prim.Native.Nat.{ℕ, _+_, _≤_, _<_}
 use lib.Dec.{eqb, ltb}
 use lib.ListN.{length, take, drop}
 use Rattle.sets.specs.Tests.{_and_, when_then_else_}
-use Rattle.sets.specs.Answers.{numberOf, isDone, thenAsk}
+use Rattle.sets.specs.Answers.{numberOf, blockerOf, isDone, thenAsk}
+use Rattle.sets.specs.declared.activity.Activity.{Activity}
 use Rattle.sets.specs.declared.answer.Answer.{Answer}
 use Rattle.sets.specs.declared.answer.Answer.the-variants.{Done, TooShort, WrongLetters, AboveLimit, WrongOffset, Outside, BadRow, BufferTooSmall, NoEvent, NotIncluded, Waiting, NoTrace}
 use Rattle.sets.proofs.Members.{mem-those}
@@ -53,7 +55,7 @@ use Rattle.rules.proofs.FromFile.{file-accepted}
 use Rattle.miner.specs.declared.mining.Mined.{Mined}
 use Rattle.promises.specs.Promised.{traceOf, judgedCopy, graphBack, fileBack, fileCopied}
 use Rattle.promises.specs.Demanded.{Refused, PairForPair, Stepping, InTurn, StopsAt, GoesThrough, Settles}
-use Rattle.promises.proofs.Contracts.{number-gives, number-said, judge-log-gives, judge-log-said, mine-gives, mine-said, find-trace-gives, find-trace-said, ask-gives, ask-said, enabled-gives, enabled-said, step-gives, step-said, execute-gives, execute-said, accepting-gives, accepting-said, replay-gives, replay-said, write-gives, write-said, read-gives, read-said, graph-back-gives, graph-back-said, file-back-gives, file-back-said, replay-own-gives, replay-own-said, replay-none-gives, replay-none-said}
+use Rattle.promises.proofs.Contracts.{number-gives, number-said, blocker-gives, blocker-said, judge-log-gives, judge-log-said, mine-gives, mine-said, find-trace-gives, find-trace-said, ask-gives, ask-said, enabled-gives, enabled-said, step-gives, step-said, execute-gives, execute-said, accepting-gives, accepting-said, replay-gives, replay-said, write-gives, write-said, read-gives, read-said, graph-back-gives, graph-back-said, file-back-gives, file-back-said, replay-own-gives, replay-own-said, replay-none-gives, replay-none-said}
 use Rattle.promises.proofs.Own.{mined-answer, mined-graph, mined-nothing, mined-judged, own-through, none-through, finds}
 use Rattle.promises.proofs.Pairs.{pairs}
 use Rattle.promises.proofs.StepForStep.{stops-at, goes-through}
@@ -61,16 +63,27 @@ use Rattle.promises.proofs.Early.{replay-runs, early-nothing}
 
 -- ================ THE NUMBERS
 
--- 01's table, "Numbers given back": the cases of an answer, and the number of each
-pub numbers :
-    map numberOf
-    (Done ∷ TooShort ∷ WrongLetters ∷ AboveLimit ∷ WrongOffset ∷ Outside ∷ BadRow ∷ BufferTooSmall ∷ NoEvent ∷ NotIncluded ∷ Waiting ∷ NoTrace ∷ [])
-    ≡ 0 ∷ 1 ∷ 2 ∷ 3 ∷ 4 ∷ 5 ∷ 6 ∷ 7 ∷ 8 ∷ 9 ∷ 10 ∷ 11 ∷ []
-numbers = refl
+-- the cases of an answer; one of them carries an activity
+abbrev cases : Activity → List Answer
+cases b =
+    Done ∷ TooShort ∷ WrongLetters ∷ AboveLimit ∷ WrongOffset ∷ Outside ∷ BadRow ∷ BufferTooSmall ∷ NoEvent ∷ NotIncluded ∷ Waiting b ∷ NoTrace ∷ []
+
+-- 01's table, "Numbers given back": the number of each
+pub numbers : (b : Activity) → map numberOf (cases b) ≡ 0 ∷ 1 ∷ 2 ∷ 3 ∷ 4 ∷ 5 ∷ 6 ∷ 7 ∷ 8 ∷ 9 ∷ 10 ∷ 11 ∷ []
+numbers b = refl
+
+-- 02, 2/12: the blocker beside each
+pub blockers : (b : Activity)
+    → map blockerOf (cases b) ≡ 255 ∷ 255 ∷ 255 ∷ 255 ∷ 255 ∷ 255 ∷ 255 ∷ 255 ∷ 255 ∷ 255 ∷ b .0 ∷ 255 ∷ []
+blockers b = refl
 
 -- that is the number which the function `number` gives
 pub number-given : (a : Answer) (n : ℕ) → number-gives a n → n ≡ numberOf a
 number-given = number-said
+
+-- and that the blocker which the function `blocker` gives
+pub blocker-given : (a : Answer) (n : ℕ) → blocker-gives a n → n ≡ blockerOf a
+blocker-given = blocker-said
 
 -- 0 is the number of done alone
 done-by : (a : Answer) → numberOf a ≡ 0 → a ≡ Done

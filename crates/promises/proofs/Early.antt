@@ -10,13 +10,14 @@ use Rattle.sets.specs.Tests.{_or_, non, when_then_else_}
 use Rattle.sets.specs.Members.{mem}
 use Rattle.sets.specs.Answers.{numberOf, isDone}
 use Rattle.sets.specs.declared.set.Set.{Set}
+use Rattle.sets.specs.declared.activity.Activity.{Activity}
 use Rattle.sets.specs.declared.answer.Answer.{Answer}
 use Rattle.sets.specs.declared.answer.Answer.the-variants.{Done, NoEvent, NotIncluded, Waiting}
 use Rattle.sets.proofs.Tests.{T→true, F→false, split, either, true→T, false→F}
 use Rattle.sets.proofs.Asking.{done-is}
 use Rattle.engine.specs.Markings.{emptyMarking}
 use Rattle.engine.specs.Relations.{Relations, relationsOf}
-use Rattle.engine.specs.Steps.{waits, enabled}
+use Rattle.engine.specs.Steps.{waits, blocker, enabled}
 use Rattle.engine.specs.Judged.{judgedFor}
 use Rattle.engine.specs.Replay.{ending, replayFrom, replayOf}
 use Rattle.engine.specs.declared.marking.Marking.{Marking}
@@ -31,13 +32,13 @@ early a = eqb (numberOf a) 3 or eqb (numberOf a) 5
 
 enabled-late : (events : Set) (r : Relations) (m : Marking) (e : ℕ) → early (enabled events r m e) ≡ false
 unfolding enabled early _or_
-enabled-late events r m e = by (non (mem events e)) (non (mem (m .included) e)) (waits r m e)
+enabled-late events r m e = by (non (mem events e)) (non (mem (m .included) e)) (waits r m e) (blocker r m e)
   where
-    by : (a b c : Bool) → early (when a then NoEvent else when b then NotIncluded else when c then Waiting else Done) ≡ false
-    by true b c = refl
-    by false true c = refl
-    by false false true = refl
-    by false false false = refl
+    by : (a b c : Bool) (s : Activity) → early (when a then NoEvent else when b then NotIncluded else when c then Waiting s else Done) ≡ false
+    by true b c s = refl
+    by false true c s = refl
+    by false false true s = refl
+    by false false false s = refl
 
 module _ (g : Graph) (σ : List ℕ) (r : Replayed) (h : r ≡ replayOf g σ) where
   -- a graph that is not refused is replayed

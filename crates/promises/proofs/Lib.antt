@@ -11,3 +11,4 @@ pub mod Demands
 pub mod StandIns
 pub mod Counts
 pub mod PlainEngine
+pub mod Blocker

@@ -7,6 +7,7 @@ use mathlib.Core.Path.{_≡_, sym, ap, _∙_}
 use denote.Ref.{now}
 use Rattle.sets.specs.declared.activity.Activity.{Activity}
 use Rattle.sets.proofs.answer.Answer.number.Reads as Answer-number
+use Rattle.sets.proofs.answer.Answer.blocker.Reads as Answer-blocker
 use Rattle.sets.proofs.answer.Answer.is_done.Reads as Answer-is-done
 use Rattle.sets.proofs.set.Set.one.Reads as Set-one
 use Rattle.sets.proofs.set.Set.below.Reads as Set-below
@@ -48,6 +49,7 @@ use Rattle.engine.proofs.step.accepting.Reads as accepting
 use Rattle.engine.proofs.replay.run.Reads as run
 use Rattle.engine.proofs.replay.replay.Reads as replay
 use Rattle.engine.proofs.judge.head_within.Reads as head-within
+use Rattle.plain.proofs.judge.judge_for.Reads as plain-judge-for
 use Rattle.plain.proofs.step.enabled.Reads as plain-enabled
 use Rattle.plain.proofs.step.step.Reads as plain-step
 use Rattle.plain.proofs.step.accepting.Reads as plain-accepting
@@ -59,6 +61,7 @@ use Rattle.calllog.proofs.trace.find_trace.Reads as find-trace
 use Rattle.calllog.proofs.trace.ask.Reads as log-ask
 use Rattle.graphfile.proofs.reader.read.Reads as read
 use Rattle.graphfile.proofs.writer.write.Reads as write
+use Rattle.graphfile.proofs.head.read_head.Reads as read-head
 use Rattle.graphfile.proofs.marking.read_marking.Reads as read-marking
 use Rattle.graphfile.proofs.marking.write_marking.Reads as write-marking
 use Rattle.steps.proofs.relations.unbroken.Reads as unbroken
@@ -77,6 +80,10 @@ use Rattle.port.proofs.skelfora_listing.Reads as skelfora-listing
 use Rattle.port.proofs.skelfora_rewrite.Reads as skelfora-rewrite
 use Rattle.port.proofs.skelfora_replay.Reads as skelfora-replay
 use Rattle.port.proofs.skelfora_step.Reads as skelfora-step
+use Rattle.port.proofs.classroom.skelfora_plain_step.Reads as skelfora-plain-step
+use Rattle.port.proofs.classroom.skelfora_plain_accepting.Reads as skelfora-plain-accepting
+use Rattle.port.proofs.classroom.skelfora_plain_replay.Reads as skelfora-plain-replay
+use Rattle.port.proofs.classroom.skelfora_fill.Reads as skelfora-fill
 use Rattle.promises.proofs.replayed.replay_own.Reads as replay-own
 use Rattle.promises.proofs.replayed.replay_none.Reads as replay-none
 use Rattle.promises.proofs.returned.graph_back.Reads as graph-back
@@ -101,6 +108,9 @@ module _ {K : Type 0} {A : K → Type 0} {R : K → Type 0} {E : K → Type 0} (
 
 pub Answer-number-once : Once Answer-number.Post
 Answer-number-once κ a r r′ s s′ h h′ = h ∙ sym h′
+
+pub Answer-blocker-once : Once Answer-blocker.Post
+Answer-blocker-once κ a r r′ s s′ h h′ = h ∙ sym h′
 
 pub Answer-is-done-once : Once Answer-is-done.Post
 Answer-is-done-once κ a r r′ s s′ h h′ = h ∙ sym h′
@@ -244,6 +254,9 @@ replay-once κ a r r′ s s′ h h′ = h ∙ sym h′
 
 -- ---- plain
 
+pub plain-judge-for-once : Once plain-judge-for.Post
+plain-judge-for-once κ a r r′ s s′ h h′ = h ∙ sym h′
+
 pub plain-enabled-once : Once plain-enabled.Post
 plain-enabled-once κ a r r′ s s′ h h′ = h ∙ sym h′
 
@@ -298,6 +311,9 @@ read-once κ a r r′ s s′ h h′ = h ∙ sym h′
 
 pub write-once : OnceLent write.Post (λ κ s. now (s .1 .0))
 write-once κ a r r′ s s′ h h′ = (h .0 ∙ sym (h′ .0), h .1 ∙ sym (h′ .1))
+
+pub read-head-once : Once read-head.Post
+read-head-once κ a r r′ s s′ h h′ = h ∙ sym h′
 
 pub read-marking-once : Once read-marking.Post
 read-marking-once κ a r r′ s s′ h h′ = h ∙ sym h′
@@ -362,6 +378,18 @@ skelfora-replay-once κ a r r′ s s′ h h′ = h ∙ sym h′
 
 pub skelfora-step-once : OnceLent skelfora-step.Post (λ κ s. now (s .1 .0))
 skelfora-step-once κ a r r′ s s′ h h′ = (h .0 ∙ sym (h′ .0), h .1 ∙ sym (h′ .1))
+
+pub skelfora-plain-step-once : OnceLent skelfora-plain-step.Post (λ κ s. now (s .1 .1 .1 .1 .1 .0))
+skelfora-plain-step-once κ a r r′ s s′ h h′ = (h .0 ∙ sym (h′ .0), h .1 ∙ sym (h′ .1))
+
+pub skelfora-plain-accepting-once : Once skelfora-plain-accepting.Post
+skelfora-plain-accepting-once κ a r r′ s s′ h h′ = h ∙ sym h′
+
+pub skelfora-plain-replay-once : Once skelfora-plain-replay.Post
+skelfora-plain-replay-once κ a r r′ s s′ h h′ = h ∙ sym h′
+
+pub skelfora-fill-once : OnceLent skelfora-fill.Post (λ κ s. now (s .1 .1 .0))
+skelfora-fill-once κ a r r′ s s′ h h′ = (h .0 ∙ sym (h′ .0), h .1 ∙ sym (h′ .1))
 
 -- ---- promises; of replay_own's five equations the first fixes the result
 

@@ -7,7 +7,7 @@ use lib.Dec.{eqb}
 use lib.ListN.{length, getD, take}
 use Rattle.sets.specs.Tests.{_and_, _or_, non}
 use Rattle.sets.specs.Members.{width, mem}
-use Rattle.sets.specs.Answers.{numberOf, isDone}
+use Rattle.sets.specs.Answers.{numberOf, blockerOf, isDone}
 use Rattle.sets.specs.declared.set.Set.{Set}
 use Rattle.sets.specs.declared.answer.Answer.{Answer}
 use Rattle.sets.specs.declared.answer.Answer.the-variants.{Done}
@@ -42,6 +42,18 @@ pub record Stepping (r : Relations) (m : Marking) (e : ℕ) (n : Marking) : Type
   pub executed : (a : ℕ) → a < width → mem (n .executed) a ≡ (mem (m .executed) a or eqb a e)
   pub pending : (a : ℕ) → a < width → mem (n .pending) a ≡ (mem (m .pending) a and non (eqb a e) or r .responses e a)
   pub included : (a : ℕ) → a < width → mem (n .included) a ≡ (mem (m .included) a and non (r .excludes e a) or r .includes e a)
+
+-- 02, 2/12, b blocks e: it is a condition source of e, included and not executed, and no smaller activity is all three
+pub record Blocks (r : Relations) (m : Marking) (e b : ℕ) : Type 0 where
+  pub source : r .conditions b e ≡ true
+  pub included : mem (m .included) b ≡ true
+  pub not-executed : mem (m .executed) b ≡ false
+  pub smallest : (a : ℕ) → a < b → r .conditions a e ≡ true → mem (m .included) a ≡ true → mem (m .executed) a ≡ false → ⊥
+
+-- an answer to e that carries its blocker beside 10, and 255 beside every other number
+pub record Carries (r : Relations) (m : Marking) (e : ℕ) (a : Answer) : Type 0 where
+  pub beside-10 : numberOf a ≡ 10 → Blocks r m e (blockerOf a)
+  pub beside-others : (numberOf a ≡ 10 → ⊥) → blockerOf a ≡ 255
 
 -- a replay of a trace, from the opening marking of a graph that is not refused
 module _ (events : Set) (r : Relations) (opening : Marking) (trace : List ℕ) where

@@ -1,4 +1,4 @@
--- The cases of 01, "Calls to try", that are marked (P): one table, computed by antt.
+-- The cases of 01, "Calls to try", that are marked (P), with the blockers of 02, 2/12: one table, computed by antt.
 use lib.Dec.{ltb, lit≤}
 use mathlib.Core.Path.{ap}
 use Prim.Native.Nat.{_≤_}
@@ -14,12 +14,12 @@ use mathlib.Core.Bool.{true, false}
 use mathlib.Core.List.{List, [], _∷_, _++_, map}
 use Prim.Native.Nat.{ℕ}
 use Rattle.sets.specs.Tests.{_and_, _or_, non}
-use Rattle.sets.specs.Members.{bit, bitsOf, someBelow, everyBelow, isEmpty, within, mem, those}
+use Rattle.sets.specs.Members.{bit, bitsOf, someBelow, leastBelow, everyBelow, isEmpty, within, mem, those}
 use Rattle.sets.specs.Rows.{rowAt, inRow, listFrom, rowsOf}
 use Rattle.sets.specs.Tables.{tableAt, withRowIn, tablesOf}
 use Rattle.engine.specs.declared.graph.Graph.{Graph}
 use Rattle.engine.specs.Markings.{openingOf}
-use Rattle.engine.specs.Steps.{waits, enabled, after, accepting}
+use Rattle.engine.specs.Steps.{waits, blocker, enabled, after, accepting}
 use Rattle.engine.specs.Judged.{markingWithin, rowWithin, rowsWithin, relationsWithin, graphWithin, judgedFor, judgedWith}
 use Rattle.engine.specs.Replay.{enabledOf, steppedOf, replayFrom, replayOf}
 use Rattle.engine.proofs.Examples.{table3, table3-before, table3-after}
@@ -72,18 +72,18 @@ part2 =
 
 part3 : List Case
 part3 =
-    replaying G (0 ∷ 1 ∷ 2 ∷ []) gives ended 0 3 true
-    ∷ replaying G (0 ∷ 2 ∷ []) gives ended 0 2 true
-    ∷ replaying G [] gives ended 0 0 true
-    ∷ replaying G (0 ∷ []) gives ended 0 1 false
+    replaying G (0 ∷ 1 ∷ 2 ∷ []) gives ended 0 255 3 true
+    ∷ replaying G (0 ∷ 2 ∷ []) gives ended 0 255 2 true
+    ∷ replaying G [] gives ended 0 255 0 true
+    ∷ replaying G (0 ∷ []) gives ended 0 255 1 false
     ∷ []
 
 part4 : List Case
 part4 =
-    replaying G (2 ∷ []) gives ended 10 0 false
-    ∷ replaying G (0 ∷ 0 ∷ []) gives ended 9 1 false
-    ∷ replaying G (0 ∷ 2 ∷ 1 ∷ []) gives ended 9 2 false
-    ∷ replaying G (3 ∷ []) gives ended 8 0 false
+    replaying G (2 ∷ []) gives ended 10 0 0 false
+    ∷ replaying G (0 ∷ 0 ∷ []) gives ended 9 255 1 false
+    ∷ replaying G (0 ∷ 2 ∷ 1 ∷ []) gives ended 9 255 2 false
+    ∷ replaying G (3 ∷ []) gives ended 8 255 0 false
     ∷ []
 
 part5 : List Case
@@ -103,7 +103,7 @@ part7 =
 
 part8 : List Case
 part8 =
-    stepping table3 table3-before 4 gives stepped 0 table3-after
+    stepping table3 table3-before 4 gives stepped 0 255 table3-after
     ∷ []
 
 pub table : List Case
@@ -111,8 +111,8 @@ table = part0 ++ part1 ++ part2 ++ part3 ++ part4 ++ part5 ++ part6 ++ part7 ++ 
 
 same0 : map asked part0 ≡ map wanted part0
 unfolding part0 file L listing G
-    _and_ _or_ non bit mem those bitsOf someBelow everyBelow isEmpty within rowAt tableAt withRowIn inRow listFrom rowsOf tablesOf
-    waits enabled after accepting markingWithin rowWithin rowsWithin relationsWithin graphWithin judgedFor judgedWith enabledOf steppedOf replayFrom replayOf
+    _and_ _or_ non bit mem those bitsOf someBelow leastBelow everyBelow isEmpty within rowAt tableAt withRowIn inRow listFrom rowsOf tablesOf
+    waits blocker enabled after accepting markingWithin rowWithin rowsWithin relationsWithin graphWithin judgedFor judgedWith enabledOf steppedOf replayFrom replayOf
     opensWith valueOf numberAt activitiesIn tracesIn offsetAt lengthAt bodiesStart eventsBefore
     firstRefusal allBelow judgedHead judgedEntry judgedBodies judgedContents judgedLog tracesFrom logOf
     _has_ _beginsWith_ atEachFrom atSomeFrom everyTrace someTrace
@@ -123,8 +123,8 @@ same0 = refl
 
 same1 : map asked part1 ≡ map wanted part1
 unfolding part1 file L listing G
-    _and_ _or_ non bit mem those bitsOf someBelow everyBelow isEmpty within rowAt tableAt withRowIn inRow listFrom rowsOf tablesOf
-    waits enabled after accepting markingWithin rowWithin rowsWithin relationsWithin graphWithin judgedFor judgedWith enabledOf steppedOf replayFrom replayOf
+    _and_ _or_ non bit mem those bitsOf someBelow leastBelow everyBelow isEmpty within rowAt tableAt withRowIn inRow listFrom rowsOf tablesOf
+    waits blocker enabled after accepting markingWithin rowWithin rowsWithin relationsWithin graphWithin judgedFor judgedWith enabledOf steppedOf replayFrom replayOf
     opensWith valueOf numberAt activitiesIn tracesIn offsetAt lengthAt bodiesStart eventsBefore
     firstRefusal allBelow judgedHead judgedEntry judgedBodies judgedContents judgedLog tracesFrom logOf
     _has_ _beginsWith_ atEachFrom atSomeFrom everyTrace someTrace
@@ -135,8 +135,8 @@ same1 = refl
 
 same2 : map asked part2 ≡ map wanted part2
 unfolding part2 file L listing G
-    _and_ _or_ non bit mem those bitsOf someBelow everyBelow isEmpty within rowAt tableAt withRowIn inRow listFrom rowsOf tablesOf
-    waits enabled after accepting markingWithin rowWithin rowsWithin relationsWithin graphWithin judgedFor judgedWith enabledOf steppedOf replayFrom replayOf
+    _and_ _or_ non bit mem those bitsOf someBelow leastBelow everyBelow isEmpty within rowAt tableAt withRowIn inRow listFrom rowsOf tablesOf
+    waits blocker enabled after accepting markingWithin rowWithin rowsWithin relationsWithin graphWithin judgedFor judgedWith enabledOf steppedOf replayFrom replayOf
     opensWith valueOf numberAt activitiesIn tracesIn offsetAt lengthAt bodiesStart eventsBefore
     firstRefusal allBelow judgedHead judgedEntry judgedBodies judgedContents judgedLog tracesFrom logOf
     _has_ _beginsWith_ atEachFrom atSomeFrom everyTrace someTrace
@@ -153,17 +153,17 @@ on-G : (σ : List ℕ) → length σ ≤ longestTrace → end (replayOf G σ) �
 on-G σ l = ap end (replay-judged G judged-G σ l)
 
 same3 : map asked part3 ≡ map wanted part3
-unfolding part3 replayFrom enabled waits after accepting someBelow bitsOf bit mem those _and_ _or_ non rowAt tableAt withRowIn inRow G listFrom
+unfolding part3 replayFrom enabled waits blocker after accepting someBelow leastBelow bitsOf bit mem those _and_ _or_ non rowAt tableAt withRowIn inRow G listFrom
 same3 = λ i. on-G (0 ∷ 1 ∷ 2 ∷ []) (lit≤ tt) i ∷ on-G (0 ∷ 2 ∷ []) (lit≤ tt) i ∷ on-G [] (lit≤ tt) i ∷ on-G (0 ∷ []) (lit≤ tt) i ∷ []
 
 same4 : map asked part4 ≡ map wanted part4
-unfolding part4 replayFrom enabled waits after accepting someBelow bitsOf bit mem those _and_ _or_ non rowAt tableAt withRowIn inRow G listFrom
+unfolding part4 replayFrom enabled waits blocker after accepting someBelow leastBelow bitsOf bit mem those _and_ _or_ non rowAt tableAt withRowIn inRow G listFrom
 same4 = λ i. on-G (2 ∷ []) (lit≤ tt) i ∷ on-G (0 ∷ 0 ∷ []) (lit≤ tt) i ∷ on-G (0 ∷ 2 ∷ 1 ∷ []) (lit≤ tt) i ∷ on-G (3 ∷ []) (lit≤ tt) i ∷ []
 
 same5 : map asked part5 ≡ map wanted part5
 unfolding part5 file L listing G
-    _and_ _or_ non bit mem those bitsOf someBelow everyBelow isEmpty within rowAt tableAt withRowIn inRow listFrom rowsOf tablesOf
-    waits enabled after accepting markingWithin rowWithin rowsWithin relationsWithin graphWithin judgedFor judgedWith enabledOf steppedOf replayFrom replayOf
+    _and_ _or_ non bit mem those bitsOf someBelow leastBelow everyBelow isEmpty within rowAt tableAt withRowIn inRow listFrom rowsOf tablesOf
+    waits blocker enabled after accepting markingWithin rowWithin rowsWithin relationsWithin graphWithin judgedFor judgedWith enabledOf steppedOf replayFrom replayOf
     opensWith valueOf numberAt activitiesIn tracesIn offsetAt lengthAt bodiesStart eventsBefore
     firstRefusal allBelow judgedHead judgedEntry judgedBodies judgedContents judgedLog tracesFrom logOf
     _has_ _beginsWith_ atEachFrom atSomeFrom everyTrace someTrace
@@ -174,8 +174,8 @@ same5 = refl
 
 same6 : map asked part6 ≡ map wanted part6
 unfolding part6 file L listing G
-    _and_ _or_ non bit mem those bitsOf someBelow everyBelow isEmpty within rowAt tableAt withRowIn inRow listFrom rowsOf tablesOf
-    waits enabled after accepting markingWithin rowWithin rowsWithin relationsWithin graphWithin judgedFor judgedWith enabledOf steppedOf replayFrom replayOf
+    _and_ _or_ non bit mem those bitsOf someBelow leastBelow everyBelow isEmpty within rowAt tableAt withRowIn inRow listFrom rowsOf tablesOf
+    waits blocker enabled after accepting markingWithin rowWithin rowsWithin relationsWithin graphWithin judgedFor judgedWith enabledOf steppedOf replayFrom replayOf
     opensWith valueOf numberAt activitiesIn tracesIn offsetAt lengthAt bodiesStart eventsBefore
     firstRefusal allBelow judgedHead judgedEntry judgedBodies judgedContents judgedLog tracesFrom logOf
     _has_ _beginsWith_ atEachFrom atSomeFrom everyTrace someTrace
@@ -186,8 +186,8 @@ same6 = refl
 
 same7 : map asked part7 ≡ map wanted part7
 unfolding part7 file L listing G
-    _and_ _or_ non bit mem those bitsOf someBelow everyBelow isEmpty within rowAt tableAt withRowIn inRow listFrom rowsOf tablesOf
-    waits enabled after accepting markingWithin rowWithin rowsWithin relationsWithin graphWithin judgedFor judgedWith enabledOf steppedOf replayFrom replayOf
+    _and_ _or_ non bit mem those bitsOf someBelow leastBelow everyBelow isEmpty within rowAt tableAt withRowIn inRow listFrom rowsOf tablesOf
+    waits blocker enabled after accepting markingWithin rowWithin rowsWithin relationsWithin graphWithin judgedFor judgedWith enabledOf steppedOf replayFrom replayOf
     opensWith valueOf numberAt activitiesIn tracesIn offsetAt lengthAt bodiesStart eventsBefore
     firstRefusal allBelow judgedHead judgedEntry judgedBodies judgedContents judgedLog tracesFrom logOf
     _has_ _beginsWith_ atEachFrom atSomeFrom everyTrace someTrace
@@ -197,7 +197,7 @@ unfolding part7 file L listing G
 same7 = refl
 
 same8 : map asked part8 ≡ map wanted part8
-unfolding part8 replayFrom enabled waits after accepting someBelow bitsOf bit mem those _and_ _or_ non rowAt tableAt withRowIn inRow G listFrom
+unfolding part8 replayFrom enabled waits blocker after accepting someBelow leastBelow bitsOf bit mem those _and_ _or_ non rowAt tableAt withRowIn inRow G listFrom
 same8 = λ i. step (stepped-judged table3 table-judged table3-before (opening-inside table3 (judged-within table3 0 table-judged)) 4 i) ∷ []
 
 -- THE THEOREM

@@ -7,7 +7,7 @@ use lib.ListN.{getD, replicate}
 use Rattle.sets.specs.Tests.{_and_, _or_, when_then_else_}
 use Rattle.sets.specs.Members.{width, those}
 use Rattle.sets.specs.Rows.{Relation, listFrom}
-use Rattle.sets.specs.Answers.{numberOf}
+use Rattle.sets.specs.Answers.{numberOf, blockerOf}
 use Rattle.sets.specs.declared.set.Set.{Set}
 use Rattle.engine.specs.declared.marking.Marking.{Marking}
 use Rattle.engine.specs.declared.graph.Graph.{Graph}
@@ -58,16 +58,16 @@ pub data Given : Type 0 where
   -- the number, A, and the traces
   log : ℕ → ℕ → Traces → Given
   graph : Graph → Given
-  -- the number, the place, and accepting
-  ended : ℕ → ℕ → Bool → Given
-  -- the number, and the marking
-  stepped : ℕ → Marking → Given
+  -- the number, the blocker, the place, and accepting
+  ended : ℕ → ℕ → ℕ → Bool → Given
+  -- the number, the blocker, and the marking
+  stepped : ℕ → ℕ → Marking → Given
 
 abbrev pub end : Replayed → Given
-end r = ended (numberOf (r .answer)) (r .place .0) (r .accepting)
+end r = ended (numberOf (r .answer)) (blockerOf (r .answer)) (r .place .0) (r .accepting)
 
 abbrev pub step : Stepped → Given
-step r = stepped (numberOf (r .answer)) (r .marking)
+step r = stepped (numberOf (r .answer)) (blockerOf (r .answer)) (r .marking)
 
 abbrev pub answered : Asked → Given
 answered (reading bytes) = log (numberOf (logOf bytes .answer)) (logOf bytes .activities) (logOf bytes .traces)

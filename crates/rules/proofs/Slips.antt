@@ -6,11 +6,11 @@ use mathlib.Core.List.{List, [], _∷_, map}
 use Prim.Native.Nat.{ℕ}
 use lib.Dec.{eqb}
 use Rattle.sets.specs.Tests.{_and_, _or_, non, when_then_else_}
-use Rattle.sets.specs.Members.{bit, bitsOf, someBelow, those, mem}
+use Rattle.sets.specs.Members.{bit, bitsOf, someBelow, leastBelow, those, mem}
 use Rattle.sets.specs.Rows.{Relation, listFrom}
 use Rattle.engine.specs.Markings.{openingOf}
 use Rattle.engine.specs.Relations.{Relations}
-use Rattle.engine.specs.Steps.{waits, enabled, after, accepting}
+use Rattle.engine.specs.Steps.{waits, blocker, enabled, after, accepting}
 use Rattle.engine.specs.Replay.{replayFrom}
 use Rattle.rules.specs.Traces.{Traces, _has_, _beginsWith_, atEachFrom, atEach, atSomeFrom, everyTrace, someTrace}
 use Rattle.rules.specs.Mining.{noPair, noRelations, smallestSource, _without_, event, someEvent, _with_, atMostOnce, precedes, answers, chained, together, before, followed, between, alternates, beforeFirst, step1, step2, directlyBefore, step3, neverTogether, step4, closes, step5, step6, step7, reduced, step8, includedAfter, neverMissed, step9, step10, afterFive, afterSeven, afterEight, mined}
@@ -81,14 +81,14 @@ slips =
     ∷ pairs 4 (inTurn line (2 to 3 ∷ 1 to 2 ∷ 1 to 3 ∷ 0 to 1 ∷ 0 to 2 ∷ 0 to 3 ∷ []) responsesOf) are (0 to 1 ∷ 0 to 3 ∷ 1 to 2 ∷ 2 to 3 ∷ [])
     ∷ []
 
--- each of the two conditions refuses a trace of its own log, with 10 at place 1
+-- each of the two conditions refuses a trace of its own log, with 10 at place 1: 2 is blocked by 1, and 1 by 2
 pub refusals : List Given
 refusals = replayBy L (printed33 L) (0 ∷ 2 ∷ []) ∷ replayBy again (excludedEarlier again) (0 ∷ 1 ∷ []) ∷ []
 
 -- THE THEOREM
-pub slipped : (map found slips ≡ map meant slips) × (refusals ≡ ended 10 1 false ∷ ended 10 1 false ∷ [])
+pub slipped : (map found slips ≡ map meant slips) × (refusals ≡ ended 10 1 1 false ∷ ended 10 2 1 false ∷ [])
 unfolding slips refusals L again line printed33 excludedEarlier minedBy replayBy inTurn
-    _and_ _or_ non bit mem those bitsOf someBelow listFrom waits enabled after accepting replayFrom
+    _and_ _or_ non bit mem those bitsOf someBelow leastBelow listFrom waits blocker enabled after accepting replayFrom
     _has_ _beginsWith_ atEachFrom atSomeFrom everyTrace someTrace
     noPair noRelations smallestSource _without_ event someEvent _with_ atMostOnce precedes answers chained together before followed between alternates beforeFirst
     step1 step2 directlyBefore step3 neverTogether step4 closes step5 step6 step7 reduced step8 includedAfter neverMissed step9 step10

@@ -1,25 +1,22 @@
-use Rattle.port.proofs.Packing.{replaying, replay-accepting, replay-other}
+use Rattle.port.proofs.Packing.{replaying, replay-run}
 use borrow.Author.Needs.{needs}
 use Rattle.port.proofs.skelfora_replay.Statement.{statement}
 use Rattle.port.proofs.skelfora_replay.Tie as tie
 
 returns-3 : tie.Need-returns-3
 returns-3 c =
-    let run = c .before .before in
+    let run = c .before in
     let short = run .before .before .before .before in
     let left = short .before in
     let read = left .before .before in
-    replay-accepting _ _ _ (read .read .ensures) _ (left .before .is-done .ensures) (left .if1 .left)
-    (λ k. read .before .before .shared-slice-known .given k .fits) (short .if2 .left) _ (run .run .ensures) _ (c .before .packed3 .ensures .0) (c .if3 .taken)
+    replay-run _ _ _ (read .read .ensures) _ (left .before .is-done .ensures) _ (left .if1 .left)
+    (λ k. read .before .before .shared-slice-known .given k .fits) (short .if2 .left) _ (run .run .ensures) (c .packed-blocker3 .ensures)
 
-returns-4 : tie.Need-returns-4
-returns-4 c =
-    let run = c .before .before in
-    let short = run .before .before .before .before in
-    let left = short .before in
-    let read = left .before .before in
-    replay-other _ _ _ (read .read .ensures) _ (left .before .is-done .ensures) (left .if1 .left)
-    (λ k. read .before .before .shared-slice-known .given k .fits) (short .if2 .left) _ (run .run .ensures) _ (c .before .packed3 .ensures .0) (c .if3 .left)
+returns : tie.Need-returns
+returns c = search (replaying, needs)
+
+returns-2 : tie.Need-returns-2
+returns-2 c = search (replaying, needs)
 
 pub skelfora-replay-spec : {M : Type 1} → statement M
 skelfora-replay-spec =
@@ -28,11 +25,9 @@ skelfora-replay-spec =
     (λ c κs. search needs)
     (λ c κs. search needs)
     (λ c κs. search needs)
-    (λ c. search (replaying, needs))
+    returns
     (λ c κs. search needs)
-    (λ c. search (replaying, needs))
+    returns-2
     (λ c κs. search needs)
     (λ c κs. search needs)
-    (λ c. search needs)
-    returns-3
-    returns-4)
+    returns-3)

@@ -1,0 +1,116 @@
+//! Which plain graphs are tried: the borders once, then seeded ones; and the graphs of files,
+//! handed to the plain engine by `fill`.
+use super::Comparison;
+use crate::door::MOST_PAIRS;
+use crate::judge;
+use crate::seeds::{graphs, plain, Prng};
+use crate::value::PlainGraph;
+
+/// How many sound plain graphs a round has, and how many damaged ones are made of each.
+const GRAPHS: usize = 3;
+const DAMAGES: usize = 3;
+
+pub fn once(comparison: &mut Comparison, prng: &mut Prng) {
+    for (number, graph) in plain::borders() {
+        comparison.input("plain: border");
+        let judged = comparison.plain_accepting(&graph, &[0; 24]) as u8;
+        if judged != number {
+            comparison.differ("plain border", "02", || {
+                format!("wanted {number}, judge {judged}, {graph:?}")
+            });
+        }
+        for trace in [&[][..], &[1, 2, 1], &[2; 512], &[2; 513]] {
+            comparison.plain_replay(&graph, trace);
+        }
+        for length in [0, 8, 23, 24, 25] {
+            let mut marking = vec![0; length];
+            marking[length.min(16)..].fill(7);
+            comparison.plain_accepting(&graph, &marking);
+            comparison.plain_step(&graph, &marking, 1);
+        }
+    }
+    every_activity(comparison, prng);
+}
+
+/// All 256 numbers on a graph of few and one of many pairs, also where the marking is outside.
+fn every_activity(comparison: &mut Comparison, prng: &mut Prng) {
+    for a in [3, 64] {
+        let value = graphs::value_of_size(prng, a);
+        let mut graph = plain::of(&value);
+        plain::reordered(prng, &mut graph);
+        for activity in 0..=255 {
+            let marking = plain::marking(prng, value.events);
+            comparison.plain_step(&graph, &marking, activity);
+            comparison.plain_replay(&graph, &[activity]);
+        }
+    }
+}
+
+pub fn round(comparison: &mut Comparison, prng: &mut Prng) {
+    for _ in 0..GRAPHS {
+        let value = graphs::value(prng);
+        let mut graph = plain::of(&value);
+        plain::reordered(prng, &mut graph);
+        let length = prng.one_of(&[2, 5, 9, 30, 60, 512]);
+        let walk = plain::walk(prng, &value, length);
+        on_plain(comparison, prng, "plain: sound", &graph, &walk);
+        for _ in 0..DAMAGES {
+            let mut damaged = graph.clone();
+            plain::damage(prng, &mut damaged);
+            on_plain(comparison, prng, "plain: damaged", &damaged, &walk);
+        }
+    }
+}
+
+fn on_plain(
+    comparison: &mut Comparison,
+    prng: &mut Prng,
+    kind: &'static str,
+    graph: &PlainGraph,
+    walk: &[u8],
+) {
+    comparison.input(kind);
+    let a = graph.head.first().copied().unwrap_or(0);
+    let events = plain::events_of(graph);
+    let changed = graphs::changed_trace(prng, walk, a);
+    for trace in [walk, &changed, &graphs::trace(prng, a)] {
+        comparison.plain_replay(graph, trace);
+    }
+    for _ in 0..3 {
+        let marking = plain::marking(prng, events);
+        let activity = graphs::activity(prng, a);
+        comparison.plain_step(graph, &marking, activity);
+        comparison.plain_accepting(graph, &marking);
+    }
+}
+
+/// A relation of any file into memory with and without room; a trace on both engines.
+pub fn on_graph_file(comparison: &mut Comparison, prng: &mut Prng, file: &[u8], trace: Vec<u8>) {
+    let kind = prng.one_of(&plain::KINDS);
+    let (result, _) = comparison.fill(file, kind, MOST_PAIRS);
+    let room = plain::room(prng, (result / 256) as usize);
+    comparison.fill(file, kind, room);
+    if judge::graph_file::read(file).is_ok() {
+        on_traces(comparison, prng, file, &[trace]);
+    }
+}
+
+/// Every fifth accepted file on both engines. Recorded traces go far; with a change they go
+/// wrong late.
+pub fn on_traces(comparison: &mut Comparison, prng: &mut Prng, file: &[u8], traces: &[Vec<u8>]) {
+    if !prng.percent(20) {
+        return;
+    }
+    let mut graph = comparison.lists_of(file);
+    if prng.percent(50) {
+        plain::reordered(prng, &mut graph);
+    }
+    for trace in traces.iter().take(2) {
+        let changed = graphs::changed_trace(prng, trace, file[3]);
+        for trace in [trace, &changed] {
+            let marking = plain::marking(prng, plain::events_of(&graph));
+            let activity = graphs::activity(prng, file[3]);
+            comparison.on_both(file, &graph, trace, &marking, activity);
+        }
+    }
+}
