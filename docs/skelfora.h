@@ -23,7 +23,10 @@ enum {
     SKELFORA_NO_EVENT = 8,
     SKELFORA_NOT_INCLUDED = 9,
     SKELFORA_WAITING = 10,
-    SKELFORA_NO_TRACE = 11
+    SKELFORA_NO_TRACE = 11,
+    SKELFORA_NO_PLACE_FREE = 13,
+    SKELFORA_NOT_OPEN = 14,
+    SKELFORA_NOT_ACCEPTING = 15
 };
 
 /* What skelfora_blocker gives beside every number but SKELFORA_WAITING. */

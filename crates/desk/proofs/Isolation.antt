@@ -29,7 +29,7 @@ use Rattle.engine.specs.declared.graph.Graph.{Graph}
 use Rattle.graphfile.proofs.LoneMarkings.{WholeMarking}
 use Rattle.desk.specs.Places.{placeCount, tableLength, isOpen, markingAtPlace, withMarking, withPlace, lowestFree}
 use Rattle.desk.specs.Desk.{onTable, opening, openAnswer, tableOpened, stepAnswer, tableStepped, closing, closeAnswer, tableClosed}
-use Rattle.desk.specs.Histories.{Request, Open, Step, Close, Call, none, since, isTaken, tableServed, tableAfter, markingAfter}
+use Rattle.desk.specs.Histories.{Request, Open, Step, Close, Fresh, Call, none, since, isTaken, tableServed, tableAfter, markingAfter}
 use Rattle.desk.specs.Histories.{stepBy, closeBy, withStep, stepped, closed, callAt}
 use Rattle.desk.proofs.Placing.{open-below, open-kept, marking-kept, marking-same, length-marked, length-placed}
 use Rattle.desk.proofs.Placing.{placed-open, placed-marking, else-open, else-marking}
@@ -223,11 +223,6 @@ module _ (g : Graph) where
   served-length table (Close p) = kept-length (isDone (closeAnswer g table p)) table _ (length-placed table p 0 emptyMarking)
 
   -- ---- a history
-
-  -- a fresh desk: a table on which no place is open
-  pub record Fresh (table : List ℕ) : Type 0 where
-    pub long : tableLength ≤ length table
-    pub free : (p : ℕ) → isOpen table p ≡ false
 
   module _ (whole : WholeMarking (g .head .opening)) (table : List ℕ) (fresh : Fresh table) where
     longer : (t : List ℕ) (r : Request) → tableLength ≤ length t → tableLength ≤ length (tableServed g t r)

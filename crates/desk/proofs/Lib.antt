@@ -2,3 +2,4 @@
 pub mod Placing
 pub mod Serving
 pub mod Isolation
+pub mod OnePlace

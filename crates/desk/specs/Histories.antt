@@ -1,9 +1,11 @@
 -- Histories of requests, and the call at each place (02, 5/12: "What step and close answer at a place depends only on the graph, on that
 -- place's own opening and the steps taken there since"). No bytes here: a call is known by its own steps.
+use mathlib.Core.Path.{_≡_}
 use mathlib.Core.Bool.{Bool, true, false}
 use mathlib.Core.List.{List, [], _∷_}
-use Prim.Native.Nat.{ℕ}
+use Prim.Native.Nat.{ℕ, _≤_}
 use lib.Dec.{eqb}
+use lib.ListN.{length}
 use Rattle.sets.specs.Tests.{_and_, when_then_else_}
 use Rattle.sets.specs.Answers.{isDone}
 use Rattle.sets.specs.declared.answer.Answer.{Answer}
@@ -13,7 +15,7 @@ use Rattle.engine.specs.Steps.{after}
 use Rattle.engine.specs.Replay.{enabledOf}
 use Rattle.engine.specs.declared.marking.Marking.{Marking}
 use Rattle.engine.specs.declared.graph.Graph.{Graph}
-use Rattle.desk.specs.Places.{lowestFree}
+use Rattle.desk.specs.Places.{tableLength, isOpen, lowestFree}
 use Rattle.desk.specs.Desk.{opening, closing, tableOpened, tableStepped, tableClosed}
 
 -- a step names a place and an activity, a close a place
@@ -31,6 +33,11 @@ tableServed g table (Close p) = tableClosed g table p
 unfoldable pub tableAfter : Graph → List ℕ → List Request → List ℕ
 tableAfter g table [] = table
 tableAfter g table (r ∷ history) = tableServed g (tableAfter g table history) r
+
+-- a fresh desk: a table on which no place is open
+pub record Fresh (table : List ℕ) : Type 0 where
+  pub long : tableLength ≤ length table
+  pub free : (p : ℕ) → isOpen table p ≡ false
 
 -- a place has no call, or one with the steps taken there since its opening, the latest first
 pub data Call : Type 0 where
