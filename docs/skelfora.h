@@ -24,7 +24,10 @@ enum {
     SKELFORA_NOT_INCLUDED = 9,
     SKELFORA_WAITING = 10,
     SKELFORA_NO_TRACE = 11,
-    SKELFORA_WRONG_ARGUMENT = 12
+    SKELFORA_WRONG_ARGUMENT = 12,
+    SKELFORA_NO_PLACE_FREE = 13,
+    SKELFORA_NOT_OPEN = 14,
+    SKELFORA_NOT_ACCEPTING = 15
 };
 
 /* The profiles; any other number is refused with 12, before the log is read. */
