@@ -4,5 +4,6 @@ pub mod table;
 
 pub use requests::Opened;
 pub use requests::close;
+pub use requests::judge_place;
 pub use requests::open;
 pub use requests::step;

@@ -10,6 +10,7 @@ ghost use Rattle.report.specs.Listing.{listingAfter};
 ghost use Rattle.report.specs.Summary.{summaryAfter};
 
 pub mod classroom;
+pub mod desk;
 
 use engine::Graph;
 use engine::Marking;
