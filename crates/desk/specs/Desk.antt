@@ -49,11 +49,6 @@ unfoldable pub tableOpened : Graph → List ℕ → List ℕ
 tableOpened g table =
     when isDone (openAnswer g table) then withPlace table (lowestFree (isOpen table)) 1 (g .head .opening) else table
 
--- ---- what step and close ask of the table alone: 7, then 14 where the place is above 31 or not open
-
-unfoldable pub placeAnswer : List ℕ → ℕ → Answer
-placeAnswer table p = onTable table (when non (isOpen table p) then NotOpen else Done)
-
 -- ---- step: 14, then as the engine's enabled has it at the place's own marking: 3, 5, 8, 9, and 10 with the blocker
 
 unfoldable pub stepAnswer : Graph → List ℕ → ℕ → ℕ → Answer

@@ -4,6 +4,5 @@ pub mod table;
 
 pub use requests::Opened;
 pub use requests::close;
-pub use requests::judge_place;
 pub use requests::open;
 pub use requests::step;

@@ -1,8 +1,7 @@
 // What is asked of the desk (02, 5/12): open, step, close. Each is judged first, with nothing changed, and served then.
 ghost use mathlib.Core.Path.{_≡_};
 ghost use Rattle.engine.specs.Relations.{graphOf};
-ghost use Rattle.desk.specs.Desk.{openAnswer, openedOf, tableOpened, placeAnswer, stepAnswer, tableStepped};
-ghost use Rattle.desk.specs.Desk.{closing, closeAnswer, tableClosed};
+ghost use Rattle.desk.specs.Desk.{openAnswer, openedOf, tableOpened, stepAnswer, tableStepped, closing, closeAnswer, tableClosed};
 use crate::table;
 use engine::Head;
 use engine::Marking;
@@ -53,19 +52,6 @@ pub fn open(head: Head, relations: &Relations, table: &mut [u8]) -> Opened
     let place = table::lowest_free(table);
     table::put_place(table, place, table::TAKEN, head.opening);
     Opened { answer, place }
-}
-
-// What step and close ask before the graph has a say, and so who gets it from a file before reading that: 7, then 14.
-pub fn judge_place(table: &[u8], place: usize) -> Answer
-    ensures { λ r. ⌜ r ≡ placeAnswer (now (table .entry)) place ⌝ }
-{
-    if table.len() < table::LENGTH {
-        return Answer::BufferTooSmall;
-    }
-    if !table::is_open(table, place) {
-        return Answer::NotOpen;
-    }
-    Answer::Done
 }
 
 // 7 and 14, then 3, 5, 8, 9, 10 at the place's own marking.

@@ -1,25 +1,58 @@
 -- What the calls of the desk's functions ensure, put together. Assumes nothing.
-use mathlib.Core.Path.{_≡_, refl, sym, ap, _∙_}
+use mathlib.Core.Path.{_≡_, refl, sym, ap, ap₂, _∙_}
 use mathlib.Core.Bool.{Bool, true, false, not}
 use mathlib.Core.List.{List}
 use Prim.Native.Nat.{ℕ, _≤_, _<_}
-use borrow.Author.Tests.{not-true, not-false, lt-ltb, le-ltb}
-use lib.Dec.{ltb}
-use lib.ListN.{length}
-use Rattle.sets.specs.Tests.{when_then_else_}
+use borrow.Author.Tests.{not-true, not-false, eq-eqb, ne-eqb, lt-ltb, le-ltb}
+use lib.Dec.{eqb, ltb}
+use lib.ListN.{length, getD}
+use Rattle.sets.specs.Tests.{non, when_then_else_}
 use Rattle.sets.specs.Answers.{isDone, thenAsk}
 use Rattle.sets.specs.declared.answer.Answer.{Answer}
-use Rattle.sets.specs.declared.answer.Answer.the-variants.{BufferTooSmall}
+use Rattle.sets.specs.declared.answer.Answer.the-variants.{Done, BufferTooSmall, NotOpen}
 use Rattle.sets.proofs.Asking.{ask-on, ask-stop, done-is}
 use Rattle.sets.proofs.Ways.{taken, passed-by}
 use Rattle.engine.specs.declared.graph.Graph.{Graph}
 use Rattle.graphfile.specs.Held.{readOf}
 use Rattle.graphfile.specs.declared.reader.Reading.{Reading}
-use Rattle.desk.specs.Places.{tableLength}
-use Rattle.desk.specs.Desk.{onTable, noPlace, openedOf, tableOpened, placeAnswer, stepAnswer, tableStepped, closeAnswer, tableClosed}
+use Rattle.desk.specs.Places.{placeCount, tableLength, placeStart, isOpen}
+use Rattle.desk.proofs.Placing.{open-above, open-byte}
+use Rattle.desk.specs.Desk.{onTable, noPlace, openedOf, tableOpened, stepAnswer, tableStepped, closeAnswer, tableClosed}
 use Rattle.desk.specs.declared.requests.Opened.{Opened}
 use Rattle.port.specs.Port.{packedOf, blockedOf}
-use Rattle.port.specs.Desk.{beforeOpen, beforePlace, refusedOpen, deskOpenedOf, deskOpenNumber, deskOpenTable, deskStepNumber, deskStepTable, deskCloseNumber, deskCloseTable}
+use Rattle.port.specs.Desk.{placeAnswer, beforeOpen, beforePlace, refusedOpen, deskOpenedOf, deskOpenNumber, deskOpenTable, deskStepNumber, deskStepTable, deskCloseNumber, deskCloseTable}
+
+-- ---- a place, by its first byte
+
+module _ (table : List ℕ) (p : ℕ) where
+  abbrev chosen : Bool → Bool → Answer
+  chosen short open = when short then BufferTooSmall else when non open then NotOpen else Done
+
+  by-tests : (short open : Bool) → ltb (length table) tableLength ≡ short → isOpen table p ≡ open → chosen short open ≡ placeAnswer table p
+  unfolding placeAnswer
+  by-tests short open s o = sym (ap₂ chosen s o)
+
+  pub place-short : length table < tableLength → BufferTooSmall ≡ placeAnswer table p
+  place-short l = by-tests true (isOpen table p) (lt-ltb (length table) tableLength l) refl
+
+  module _ (long : tableLength ≤ length table) where
+    pub place-above : placeCount ≤ p → NotOpen ≡ placeAnswer table p
+    unfolding non
+    place-above u = by-tests false false (le-ltb (length table) tableLength long) (sym (open-above table p u))
+
+    pub place-free : p < placeCount → getD table (placeStart p) 0 ≡ 0 → NotOpen ≡ placeAnswer table p
+    unfolding non
+    place-free l z =
+        by-tests false false (le-ltb (length table) tableLength long)
+        (sym (open-byte table p l) ∙ ap not (eq-eqb (getD table (placeStart p) 0) 0 z))
+
+    pub place-open : p < placeCount → (getD table (placeStart p) 0 ≡ 0 → ⊥) → Done ≡ placeAnswer table p
+    unfolding non
+    place-open l z =
+        by-tests false true (le-ltb (length table) tableLength long)
+        (sym (open-byte table p l) ∙ ap not (ne-eqb (getD table (placeStart p) 0) 0 z))
+
+pub ruleset placed = (place-short, place-above, place-free, place-open)
 
 -- ---- x is what is asked before there is a graph: refused with a, or done
 

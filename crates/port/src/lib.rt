@@ -10,7 +10,7 @@ ghost use Rattle.report.specs.Listing.{listingAfter};
 ghost use Rattle.report.specs.Summary.{summaryAfter};
 
 pub mod classroom;
-pub mod desk;
+pub mod call_desk;
 
 use engine::Graph;
 use engine::Marking;

@@ -1,6 +1,7 @@
 // The call desk's functions (02, 5/12), on the graph of a file and a table of 800 lent bytes. The file is judged where the desk judges its graph:
 // after the table, and after the place of step and close.
 ghost use mathlib.Core.Path.{_≡_};
+ghost use Rattle.port.specs.Desk.{placeAnswer};
 ghost use Rattle.port.specs.Desk.{deskOpenNumber, deskOpenTable, deskStepNumber, deskStepTable, deskCloseNumber, deskCloseTable};
 use crate::packed;
 use crate::packed_blocker;
@@ -27,6 +28,22 @@ pub extern "C" fn skelfora_desk_open(file: &[u8], table: &mut [u8]) -> u64
     packed(a, opened.place)
 }
 
+// What step and close ask of the table alone: 7, then 14.
+fn judge_place(table: &[u8], place: usize) -> Answer
+    ensures { λ r. ⌜ r ≡ placeAnswer (now (table .entry)) place ⌝ }
+{
+    if table.len() < desk::table::LENGTH {
+        return Answer::BufferTooSmall;
+    }
+    if desk::table::PLACES <= place {
+        return Answer::NotOpen;
+    }
+    if table[desk::table::PLACE * place] == desk::table::FREE {
+        return Answer::NotOpen;
+    }
+    Answer::Done
+}
+
 // One activity at one place: the number, and the blocker.
 #[no_mangle]
 pub extern "C" fn skelfora_desk_step(
@@ -38,7 +55,7 @@ pub extern "C" fn skelfora_desk_step(
     ensures { λ r. ⌜ r ≡ deskStepNumber (now (file .entry)) (now (table .entry)) place activity ⌝ }
     ensures { λ _. ⌜ now (table .exit) ≡ deskStepTable (now (file .entry)) (now (table .entry)) place activity ⌝ }
 {
-    let asked = desk::judge_place(table, place);
+    let asked = judge_place(table, place);
     if !asked.is_done() {
         return packed_blocker(asked, 0, false);
     }
@@ -58,7 +75,7 @@ pub extern "C" fn skelfora_desk_close(file: &[u8], table: &mut [u8], place: usiz
     ensures { λ r. ⌜ r ≡ deskCloseNumber (now (file .entry)) (now (table .entry)) place ⌝ }
     ensures { λ _. ⌜ now (table .exit) ≡ deskCloseTable (now (file .entry)) (now (table .entry)) place ⌝ }
 {
-    let asked = desk::judge_place(table, place);
+    let asked = judge_place(table, place);
     if !asked.is_done() {
         return packed(asked, 0);
     }
