@@ -33,11 +33,11 @@ use Rattle.engine.specs.declared.marking.Marking.{Marking}
 use Rattle.engine.specs.declared.graph.Graph.{Graph}
 use Rattle.graphfile.proofs.LoneMarkings.{WholeMarking}
 use Rattle.desk.specs.declared.requests.Opened.{Opened}
-use Rattle.desk.specs.Places.{placeCount, tableLength, isOpen, markingAtPlace, lowestFree}
+use Rattle.desk.specs.Places.{placeCount, tableLength, isOpen, markingAtPlace, SameAt, lowestFree}
 use Rattle.desk.specs.Desk.{opening, openAnswer, noPlace, openedOf, tableOpened, stepAnswer, tableStepped, closeAnswer, tableClosed}
 use Rattle.desk.specs.Histories.{Request, Open, Step, Close, Fresh, Call, isTaken, tableServed, tableAfter, stepBy, closeBy, callAt}
 use Rattle.desk.proofs.Isolation.{step-own, close-own, open-own, lowest-own}
-use Rattle.desk.proofs.OnePlace.{SameAt, step-same, close-same, opened-elsewhere, stepped-elsewhere, closed-elsewhere}
+use Rattle.desk.proofs.OnePlace.{step-same, close-same, opened-elsewhere, stepped-elsewhere, closed-elsewhere}
 use Rattle.desk.proofs.OnePlace.{lowest-free, lower-taken, opened-place, opened-marking, closed-place, closed-marking, full-13, 13-full, opened-ext}
 use Rattle.desk.proofs.Serving.{open-done}
 use Rattle.desk.proofs.requests.open.Reads as opens
@@ -106,7 +106,7 @@ module _ (g : Graph) (before after : List ℕ) where
       let m : numberOf (openAnswer g before) ≢ 0 = λ e. n (ap (λ (x : Opened). numberOf (x .answer)) (s .0) ∙ e) in (
         s .1 ∙ kept (openAnswer g before) _ before m,
         ap (λ (x : Opened). x .place) (s .0)
-        ∙ ap (λ (t : Bool). when t then lowestFree (isOpen before) else noPlace) (refused-by (openAnswer g before) m),
+            ∙ ap (λ (t : Bool). when t then lowestFree (isOpen before) else noPlace) (refused-by (openAnswer g before) m),
       )
 
   pub step-refused : (p a : ℕ) (x : Answer) → step-gives g before p a x after → numberOf x ≢ 0 → after ≡ before
@@ -190,10 +190,10 @@ module _ (g : Graph) (whole : WholeMarking (g .head .opening)) where
       let answered : r .answer ≡ openAnswer g table = ap (λ (x : Opened). x .answer) (s .0) in (
         answered ∙ ap (openAnswer g) (f .2) ∙ open-own g whole (f .0) (f .1) history,
         λ n.
-        ap (λ (x : Opened). x .place) (s .0)
-        ∙ ap (λ (t : Bool). when t then lowestFree (isOpen table) else noPlace) (ap isDone (sym answered ∙ done-by (r .answer) n))
-        ∙ ap (λ (t : List ℕ). lowestFree (isOpen t)) (f .2)
-        ∙ lowest-own g whole (f .0) (f .1) history,
+            ap (λ (x : Opened). x .place) (s .0)
+            ∙ ap (λ (t : Bool). when t then lowestFree (isOpen table) else noPlace) (ap isDone (sym answered ∙ done-by (r .answer) n))
+            ∙ ap (λ (t : List ℕ). lowestFree (isOpen t)) (f .2)
+            ∙ lowest-own g whole (f .0) (f .1) history,
       )
 
 -- ---- a request at another place never shows, on any table
