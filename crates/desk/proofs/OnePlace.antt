@@ -24,7 +24,7 @@ use Rattle.engine.specs.Replay.{enabledOf}
 use Rattle.engine.specs.declared.marking.Marking.{Marking}
 use Rattle.engine.specs.declared.graph.Graph.{Graph}
 use Rattle.graphfile.proofs.LoneMarkings.{WholeMarking}
-use Rattle.desk.specs.Places.{placeCount, placeStart, tableLength, isOpen, markingAtPlace, withMarking, withPlace, lowestFree}
+use Rattle.desk.specs.Places.{placeCount, placeStart, tableLength, isOpen, markingAtPlace, SameAt, withMarking, withPlace, lowestFree}
 use Rattle.desk.specs.Desk.{onTable, opening, openAnswer, noPlace, openedOf, tableOpened, stepAnswer, tableStepped, closing, closeAnswer, tableClosed}
 use Rattle.desk.specs.Histories.{Fresh}
 use Rattle.desk.proofs.Placing.{open-below, open-kept, marking-kept, length-marked, length-placed, placed-open, placed-marking, else-open, else-marking}
@@ -44,12 +44,6 @@ fresh-zeros n l = record { long = subst (λ (k : ℕ). tableLength ≤ k) (sym (
         ap (λ (x : ℕ). non (eqb x 0)) (getD-replicate n (placeStart p) 0 0 (omega arith))
 
 -- ---- elsewhere
-
--- two tables that are the same at a place
-pub record SameAt (p : ℕ) (table table′ : List ℕ) : Type 0 where
-  pub long : length table′ ≡ length table
-  pub opens : isOpen table′ p ≡ isOpen table p
-  pub marking : markingAtPlace table′ p ≡ markingAtPlace table p
 
 module _ (g : Graph) where
   module _ (p : ℕ) (table table′ : List ℕ) (same : SameAt p table table′) where
@@ -159,7 +153,7 @@ module _ (g : Graph) where
     full-13 long accepted all =
         ap (λ (t : Bool). when t then BufferTooSmall else opening g (isOpen table)) (le-ltb (length table) tableLength long)
         ∙ ask-on (judged g) (when everyBelow placeCount (isOpen table) then NoPlaceFree else Done) accepted
-        ∙ ap (λ (t : Bool). when t then NoPlaceFree else Done) (T→true _ (every-i placeCount (isOpen table) (λ p l. true→T (all p l))))
+        ∙ ap (λ (t : Bool). when t then NoPlaceFree else Done) (T→true (everyBelow placeCount (isOpen table)) (every-i placeCount (isOpen table) (λ p l. true→T (all p l))))
 
     judged-not : numberOf (judged g) ≡ 13 → T false
     unfolding judgedFor
@@ -171,14 +165,14 @@ module _ (g : Graph) where
         by false true h = true→T (ap (λ (n : ℕ). eqb n 13) h)
         by false false h = true→T (ap (λ (n : ℕ). eqb n 13) h)
 
+    abbrev Full : Type 0
+    Full = (p : ℕ) → p < placeCount → isOpen table p ≡ true
+
     pub 13-full : openAnswer g table ≡ NoPlaceFree
         → (tableLength ≤ length table) × (judged g ≡ Done) × ((p : ℕ) → p < placeCount → isOpen table p ≡ true)
     unfolding openAnswer opening
     13-full h = long (ltb (length table) tableLength) refl h
       where
-        abbrev Full : Type 0
-        Full = (p : ℕ) → p < placeCount → isOpen table p ≡ true
-
         all : (t : Bool) → everyBelow placeCount (isOpen table) ≡ t → (when t then NoPlaceFree else Done) ≡ NoPlaceFree → Full
         all true e h p l = T→true _ (every-e placeCount (isOpen table) (true→T e) p l)
         all false e h p l = absurd (true→T (ap (λ (a : Answer). eqb (numberOf a) 13) h))

@@ -1,9 +1,10 @@
 -- The table of places (02, 5/12: "a table of 32 places for vessels in port"), as bytes.
+use mathlib.Core.Path.{_≡_}
 use mathlib.Core.Bool.{Bool}
 use mathlib.Core.List.{List}
 use Prim.Native.Nat.{ℕ, _+_, _*_}
 use lib.Dec.{eqb, ltb}
-use lib.ListN.{getD, set}
+use lib.ListN.{length, getD, set}
 use lib.Seq.{sets}
 use Rattle.sets.specs.Tests.{_and_, non}
 use Rattle.sets.specs.Members.{leastBelow}
@@ -32,6 +33,12 @@ isOpen table p = ltb p placeCount and non (eqb (getD table (placeStart p) 0) 0)
 
 unfoldable pub markingAtPlace : List ℕ → ℕ → Marking
 markingAtPlace table p = markingAt table (placeStart p + 1)
+
+-- a table and a later one, of as many bytes, are the same at a place
+pub record SameAt (p : ℕ) (table table′ : List ℕ) : Type 0 where
+  pub long : length table′ ≡ length table
+  pub opens : isOpen table′ p ≡ isOpen table p
+  pub marking : markingAtPlace table′ p ≡ markingAtPlace table p
 
 -- the table with a marking stored at a place
 unfoldable pub withMarking : List ℕ → ℕ → Marking → List ℕ

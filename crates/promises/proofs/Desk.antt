@@ -33,11 +33,11 @@ use Rattle.engine.specs.declared.marking.Marking.{Marking}
 use Rattle.engine.specs.declared.graph.Graph.{Graph}
 use Rattle.graphfile.proofs.LoneMarkings.{WholeMarking}
 use Rattle.desk.specs.declared.requests.Opened.{Opened}
-use Rattle.desk.specs.Places.{placeCount, tableLength, isOpen, markingAtPlace, lowestFree}
+use Rattle.desk.specs.Places.{placeCount, tableLength, isOpen, markingAtPlace, SameAt, lowestFree}
 use Rattle.desk.specs.Desk.{opening, openAnswer, noPlace, openedOf, tableOpened, stepAnswer, tableStepped, closeAnswer, tableClosed}
 use Rattle.desk.specs.Histories.{Request, Open, Step, Close, Fresh, Call, isTaken, tableServed, tableAfter, stepBy, closeBy, callAt}
 use Rattle.desk.proofs.Isolation.{step-own, close-own, open-own, lowest-own}
-use Rattle.desk.proofs.OnePlace.{SameAt, step-same, close-same, opened-elsewhere, stepped-elsewhere, closed-elsewhere}
+use Rattle.desk.proofs.OnePlace.{step-same, close-same, opened-elsewhere, stepped-elsewhere, closed-elsewhere}
 use Rattle.desk.proofs.OnePlace.{lowest-free, lower-taken, opened-place, opened-marking, closed-place, closed-marking, full-13, 13-full, opened-ext}
 use Rattle.desk.proofs.Serving.{open-done}
 use Rattle.desk.proofs.requests.open.Reads as opens

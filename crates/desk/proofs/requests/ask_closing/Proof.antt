@@ -8,4 +8,6 @@ use Rattle.desk.proofs.requests.ask_closing.Tie as tie
 pub ask-closing-spec : {M : Type 1} → statement M
 ask-closing-spec =
     tie.close
-    (tie.spec (λ c κs. search needs) (λ c κs. search needs) (λ c. unfold closing in search (ask-stops, needs)) (λ c κs. search needs) (λ c. unfold closing in search (ask-goes, choice, needs)) (λ c. unfold closing in search (ask-goes, choice, needs)))
+    (tie.spec (λ c κs. search needs) (λ c κs. search needs) (λ c. unfold closing in search (ask-stops, needs))
+    (λ c κs. search needs) (λ c. unfold closing in search (ask-goes, choice, needs))
+    (λ c. unfold closing in search (ask-goes, choice, needs)))

@@ -7,4 +7,6 @@ use Rattle.desk.proofs.requests.close.Tie as tie
 pub close-spec : {M : Type 1} → statement M
 close-spec =
     tie.close
-    (tie.spec (λ c κs. search needs) (λ c κs. search needs) (λ c. search needs) (λ c. unfold tableClosed in search (serving, needs)) (λ c κs. search (ready, needs)) (λ c. search needs) (λ c. unfold tableClosed in search (serving, needs)))
+    (tie.spec (λ c κs. search needs) (λ c κs. search needs) (λ c. search needs)
+    (λ c. unfold tableClosed in search (serving, needs)) (λ c κs. search (ready, needs)) (λ c. search needs)
+    (λ c. unfold tableClosed in search (serving, needs)))

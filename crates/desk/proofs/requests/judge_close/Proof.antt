@@ -8,4 +8,6 @@ use Rattle.desk.proofs.requests.judge_close.Tie as tie
 pub judge-close-spec : {M : Type 1} → statement M
 judge-close-spec =
     tie.close
-    (tie.spec (λ c. unfold closeAnswer in search (choice, needs)) (λ c κs. search needs) (λ c. unfold closeAnswer in search (choice, needs)) (λ c κs. search (judging, needs)) (λ c κs. search needs) (λ c. unfold closeAnswer in search (choice, judging, needs)))
+    (tie.spec (λ c. unfold closeAnswer in search (choice, needs)) (λ c κs. search needs)
+    (λ c. unfold closeAnswer in search (choice, needs)) (λ c κs. search (judging, needs)) (λ c κs. search needs)
+    (λ c. unfold closeAnswer in search (choice, judging, needs)))

@@ -9,4 +9,7 @@ use Rattle.desk.proofs.requests.judge_open.Tie as tie
 pub judge-open-spec : {M : Type 1} → statement M
 judge-open-spec =
     tie.close
-    (tie.spec (λ c. unfold openAnswer in search (choice, needs)) (λ c κs. search needs) (λ c κs. search needs) (λ c. unfold openAnswer opening in search (choice, ask-stops, needs)) (λ c κs. search needs) (λ c. unfold openAnswer opening in search (choice, ask-goes, judging, needs)) (λ c. unfold openAnswer opening in search (choice, ask-goes, judging, needs)))
+    (tie.spec (λ c. unfold openAnswer in search (choice, needs)) (λ c κs. search needs) (λ c κs. search needs)
+    (λ c. unfold openAnswer opening in search (choice, ask-stops, needs)) (λ c κs. search needs)
+    (λ c. unfold openAnswer opening in search (choice, ask-goes, judging, needs))
+    (λ c. unfold openAnswer opening in search (choice, ask-goes, judging, needs)))

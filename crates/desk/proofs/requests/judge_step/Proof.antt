@@ -8,4 +8,6 @@ use Rattle.desk.proofs.requests.judge_step.Tie as tie
 pub judge-step-spec : {M : Type 1} → statement M
 judge-step-spec =
     tie.close
-    (tie.spec (λ c. unfold stepAnswer in search (choice, needs)) (λ c κs. search needs) (λ c. unfold stepAnswer in search (choice, needs)) (λ c κs. search (judging, needs)) (λ c κs. search needs) (λ c. unfold stepAnswer in search (choice, judging, needs)))
+    (tie.spec (λ c. unfold stepAnswer in search (choice, needs)) (λ c κs. search needs)
+    (λ c. unfold stepAnswer in search (choice, needs)) (λ c κs. search (judging, needs)) (λ c κs. search needs)
+    (λ c. unfold stepAnswer in search (choice, judging, needs)))

@@ -7,4 +7,6 @@ use Rattle.desk.proofs.requests.open.Tie as tie
 pub open-spec : {M : Type 1} → statement M
 open-spec =
     tie.close
-    (tie.spec (λ c κs. search needs) (λ c κs. search needs) (λ c. search needs) (λ c. unfold openedOf tableOpened in search (serving, needs)) (λ c κs. search (ready, needs)) (λ c κs. search (ready, needs)) (λ c. search needs) (λ c. unfold openedOf tableOpened in search (serving, needs)))
+    (tie.spec (λ c κs. search needs) (λ c κs. search needs) (λ c. search needs)
+    (λ c. unfold openedOf tableOpened in search (serving, needs)) (λ c κs. search (ready, needs)) (λ c κs. search (ready, needs))
+    (λ c. search needs) (λ c. unfold openedOf tableOpened in search (serving, needs)))

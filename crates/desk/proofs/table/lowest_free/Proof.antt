@@ -16,4 +16,5 @@ abbrev μ-loop : tie.MeasureT-loop
 pub lowest-free-spec : {M : Type 1} → statement M
 lowest-free-spec =
     tie.close
-    (tie.spec Inv-loop μ-loop (λ c. search (below-none, needs)) (λ c κs. search needs) (λ c. search (lowest, needs)) (λ c. search needs) (λ c. search needs) (λ c. search (every-more, needs)) (λ c. search (lowest, needs)))
+    (tie.spec Inv-loop μ-loop (λ c. search (below-none, needs)) (λ c κs. search needs) (λ c. search (lowest, needs))
+    (λ c. search needs) (λ c. search needs) (λ c. search (every-more, needs)) (λ c. search (lowest, needs)))
