@@ -53,7 +53,8 @@ pub fn step(file: &[u8], table: &mut [u8], place: usize, e: u8) -> Result<(), An
 }
 
 pub fn close(file: &[u8], table: &mut [u8], place: usize) -> Result<(), u8> {
-    let m = call_at(file, table, place, &mut GraphValue::EMPTY)?;
+    let mut graph = GraphValue::EMPTY;
+    let m = call_at(file, table, place, &mut graph)?;
     if m.pending & m.included != 0 {
         return Err(15);
     }

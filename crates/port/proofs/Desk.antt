@@ -26,11 +26,11 @@ use Rattle.port.specs.Desk.{placeAnswer, beforeOpen, beforePlace, refuse
 
 module _ (table : List ℕ) (p : ℕ) where
   abbrev chosen : Bool → Bool → Answer
-  chosen short open = when short then BufferTooSmall else when non open then NotOpen else Done
+  chosen short there = when short then BufferTooSmall else when non there then NotOpen else Done
 
-  by-tests : (short open : Bool) → ltb (length table) tableLength ≡ short → isOpen table p ≡ open → chosen short open ≡ placeAnswer table p
+  by-tests : (short there : Bool) → ltb (length table) tableLength ≡ short → isOpen table p ≡ there → chosen short there ≡ placeAnswer table p
   unfolding placeAnswer
-  by-tests short open s o = sym (ap₂ chosen s o)
+  by-tests short there s o = sym (ap₂ chosen s o)
 
   pub place-short : length table < tableLength → BufferTooSmall ≡ placeAnswer table p
   place-short l = by-tests true (isOpen table p) (lt-ltb (length table) tableLength l) refl

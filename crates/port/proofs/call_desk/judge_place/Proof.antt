@@ -7,4 +7,9 @@ pub judge-place-spec : {M : Type 1} → statement M
 judge-place-spec =
     tie.close
     (tie.spec
+    (λ c. search (placed, needs))
+    (λ c. search (placed, needs))
+    (λ c. search needs)
+    (λ c. search needs)
+    (λ c. search (placed, needs))
     (λ c. search (placed, needs)))
