@@ -43,11 +43,7 @@ pub fn step(
 }
 
 /// Frees a place whose call is accepting; 15 where it is not, after 3 and 5.
-pub fn close(
-    graph: &Result<Graph, u8>,
-    places: &mut [Place],
-    place: usize,
-) -> Result<(), u8> {
+pub fn close(graph: &Result<Graph, u8>, places: &mut [Place], place: usize) -> Result<(), u8> {
     let marking = call_at(places, place)?;
     let graph = graph.as_ref().map_err(|&number| number)?;
     if !accepting(graph, marking)? {

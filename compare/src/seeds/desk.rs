@@ -4,20 +4,7 @@ use crate::door::{PLACE, PLACES, TABLE_ROOM};
 use crate::value::Request;
 
 /// Places that a caller may name, whatever is open.
-pub const ANY_PLACE: [usize; 12] = [
-    0,
-    1,
-    15,
-    30,
-    31,
-    32,
-    33,
-    64,
-    255,
-    256,
-    65536,
-    usize::MAX,
-];
+pub const ANY_PLACE: [usize; 12] = [0, 1, 15, 30, 31, 32, 33, 64, 255, 256, 65536, usize::MAX];
 
 /// Mostly small graphs: with few activities the steps of a history get far. Every fourth file is
 /// damaged. Gives the events of the sound one too.

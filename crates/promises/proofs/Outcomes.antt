@@ -94,6 +94,9 @@ use Rattle.port.proofs.classroom.skelfora_plain_step.Reads as skelfora-plain-st
 use Rattle.port.proofs.classroom.skelfora_plain_accepting.Reads as skelfora-plain-accepting
 use Rattle.port.proofs.classroom.skelfora_plain_replay.Reads as skelfora-plain-replay
 use Rattle.port.proofs.classroom.skelfora_fill.Reads as skelfora-fill
+use Rattle.port.proofs.call_desk.skelfora_desk_open.Reads as skelfora-desk-open
+use Rattle.port.proofs.call_desk.skelfora_desk_step.Reads as skelfora-desk-step
+use Rattle.port.proofs.call_desk.skelfora_desk_close.Reads as skelfora-desk-close
 use Rattle.promises.proofs.replayed.replay_own.Reads as replay-own
 use Rattle.promises.proofs.replayed.replay_none.Reads as replay-none
 use Rattle.promises.proofs.returned.graph_back.Reads as graph-back
@@ -432,6 +435,15 @@ skelfora-plain-replay-once κ a r r′ s s′ h h′ = h ∙ sym h′
 
 pub skelfora-fill-once : OnceLent skelfora-fill.Post (λ κ s. now (s .1 .1 .0))
 skelfora-fill-once κ a r r′ s s′ h h′ = (h .0 ∙ sym (h′ .0), h .1 ∙ sym (h′ .1))
+
+pub skelfora-desk-open-once : OnceLent skelfora-desk-open.Post (λ κ s. now (s .1 .0))
+skelfora-desk-open-once κ a r r′ s s′ h h′ = (h .0 ∙ sym (h′ .0), h .1 ∙ sym (h′ .1))
+
+pub skelfora-desk-step-once : OnceLent skelfora-desk-step.Post (λ κ s. now (s .1 .0))
+skelfora-desk-step-once κ a r r′ s s′ h h′ = (h .0 ∙ sym (h′ .0), h .1 ∙ sym (h′ .1))
+
+pub skelfora-desk-close-once : OnceLent skelfora-desk-close.Post (λ κ s. now (s .1 .0))
+skelfora-desk-close-once κ a r r′ s s′ h h′ = (h .0 ∙ sym (h′ .0), h .1 ∙ sym (h′ .1))
 
 -- ---- promises; of replay_own's five equations the first fixes the result
 
