@@ -108,12 +108,12 @@ def rows_of(crate, functions, names):
 
 def called(crate, symbol):
     """What a function's theorem is called after: calllog's `ask` is not the engine's, a table's `row` is not that of rows, and the plain
-    engine has a `step` of its own."""
+    engine and the desk have a `step` of their own."""
     parts = symbol.split("::")
     both = parts[-2][0].isupper() or parts[-2] in ("tables", "log")
     name = "-".join(parts[-2:] if both else parts[-1:]).replace("_", "-")
-    if crate == "plain":
-        return f"plain-{name}"
+    if crate in ("plain", "desk"):
+        return f"{crate}-{name}"
     return "log-ask" if symbol == "calllog::trace::ask" else name
 
 

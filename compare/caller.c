@@ -8,11 +8,11 @@ int printf(const char *format, ...);
 long read(int file, void *bytes, size_t count);
 void *memset(void *bytes, int value, size_t count);
 
-enum { MINE, LISTING, REWRITE, REPLAY, STEP, PLAIN_STEP, PLAIN_ACCEPTING, PLAIN_REPLAY, FILL, SUMMARY, FUNCTIONS, END = 255 };
+enum { MINE, LISTING, REWRITE, REPLAY, STEP, PLAIN_STEP, PLAIN_ACCEPTING, PLAIN_REPLAY, FILL, SUMMARY, DESK_OPEN, DESK_STEP, DESK_CLOSE, FUNCTIONS, END = 255 };
 enum { ROOM = 1 << 18, PAST = 64, UNTOUCHED = 165 };
 
-static const char *const names[FUNCTIONS] = {"mine",       "listing",         "rewrite",      "replay", "step",
-                                             "plain step", "plain accepting", "plain replay", "fill",   "summary"};
+static const char *const names[FUNCTIONS] = {"mine",         "listing", "rewrite", "replay",    "step",      "plain step", "plain accepting",
+                                             "plain replay", "fill",    "summary", "desk open", "desk step", "desk close"};
 static uint8_t input[ROOM], beside[ROOM];
 static uint16_t memory[(ROOM + PAST) / 2], lists[4][ROOM / 2];
 static uint8_t *const lent = (uint8_t *)memory;
@@ -74,13 +74,19 @@ static int take_lists(void) {
     return 1;
 }
 
+/* What is lent has contents: a marking, or a desk's table. */
+static int is_altered(int function) { return function == STEP || function == PLAIN_STEP || (function >= DESK_OPEN && function <= DESK_CLOSE); }
+
 static int is_plain(int function) { return function >= PLAIN_STEP && function <= PLAIN_REPLAY; }
 
 #define PLAIN input, n, lists[0], pairs[0], lists[1], pairs[1], lists[2], pairs[2], lists[3], pairs[3]
 
 /* `activity` is that of a step, the relation to fill from, or the number of the profile. */
-static uint64_t call(int function, size_t n, size_t m, size_t room, uint8_t activity) {
+static uint64_t call(int function, size_t n, size_t m, size_t room, uint8_t activity, size_t place) {
     switch (function) {
+    case DESK_OPEN: return skelfora_desk_open(input, n, lent, room);
+    case DESK_STEP: return skelfora_desk_step(input, n, lent, room, place, activity);
+    case DESK_CLOSE: return skelfora_desk_close(input, n, lent, room, place);
     case PLAIN_STEP: return skelfora_plain_step(PLAIN, lent, room, activity);
     case PLAIN_ACCEPTING: return skelfora_plain_accepting(PLAIN, beside, m);
     case PLAIN_REPLAY: return skelfora_plain_replay(PLAIN, beside, m);
@@ -101,6 +107,7 @@ static int blocker_in_place(int function, uint64_t given) {
     case REPLAY:
     case STEP:
     case PLAIN_STEP:
+    case DESK_STEP:
     case PLAIN_REPLAY: return waits == (skelfora_blocker(given) != SKELFORA_NO_BLOCKER);
     default: return skelfora_blocker(given) == 0;
     }
@@ -119,7 +126,7 @@ int main(void) {
     uint8_t function = 0;
     while (take(&function, 1) == 1 && function != END) {
         uint8_t activity = (uint8_t)number(1);
-        size_t room = number(4), n = part(input), m = part(beside);
+        size_t place = number(8), room = number(4), n = part(input), m = part(beside);
         int whole = function < FUNCTIONS && room <= ROOM && n <= ROOM && m <= ROOM && (!is_plain(function) || take_lists());
         uint64_t wanted = number(8), after = number(8);
         if (!whole) {
@@ -127,8 +134,8 @@ int main(void) {
             return 2;
         }
         memset(lent, UNTOUCHED, room + PAST);
-        for (size_t i = 0; (function == STEP || function == PLAIN_STEP) && i < m; i++) lent[i] = beside[i];
-        uint64_t given = call(function, n, m, room, activity);
+        for (size_t i = 0; is_altered(function) && i < m; i++) lent[i] = beside[i];
+        uint64_t given = call(function, n, m, room, activity, place);
         calls[function]++;
         all++;
         if (given != wanted || hash(lent, room) != after || touched(lent + room) || !blocker_in_place(function, given)) different++;

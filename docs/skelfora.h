@@ -24,12 +24,18 @@ enum {
     SKELFORA_NOT_INCLUDED = 9,
     SKELFORA_WAITING = 10,
     SKELFORA_NO_TRACE = 11,
-    SKELFORA_WRONG_ARGUMENT = 12
+    SKELFORA_WRONG_ARGUMENT = 12,
+    SKELFORA_NO_PLACE_FREE = 13,
+    SKELFORA_NOT_OPEN = 14,
+    SKELFORA_NOT_ACCEPTING = 15
 };
 
 /* The profiles; any other number is refused with 12, before the log is read. */
 #define SKELFORA_FULL 0  /* all ten steps of mining */
 #define SKELFORA_LIGHT 1 /* all but the sixth */
+
+/* What skelfora_place gives where skelfora_desk_open is refused. */
+#define SKELFORA_NO_PLACE 255
 
 /* What skelfora_blocker gives beside every number but SKELFORA_WAITING. */
 #define SKELFORA_NO_BLOCKER 255
@@ -42,6 +48,9 @@ enum {
 #define SKELFORA_MARKING_SIZE 24     /* a marking: executed, pending, included, 8 bytes each */
 #define SKELFORA_HEAD_AT 3           /* where the head of a graph stands in its file */
 #define SKELFORA_HEAD_SIZE 33        /* a head: A, then events, executed, pending, included, 8 bytes each */
+#define SKELFORA_PLACES 32           /* the places of a desk, from 0 */
+#define SKELFORA_PLACE_SIZE 25       /* a place: one byte, 0 where it is free, then its marking */
+#define SKELFORA_TABLE_ROOM 800      /* a desk's table; all zeros is a fresh desk, and more bytes are not looked at */
 #define SKELFORA_PAIRS_ROOM 4096     /* the pairs of a relation, as 16-bit numbers; a longer list is refused */
 
 /* Mines a log in a profile and writes its graph file into the first bytes of file.
@@ -92,6 +101,19 @@ uint64_t skelfora_plain_replay(const uint8_t *head, size_t head_len, const uint1
 /* Relation kind of a graph file (0 conditions, 1 responses, 2 includes, 3 excludes; any other has no pair) into the first numbers of memory.
  * Gives number + 256 * how many pairs. */
 uint64_t skelfora_fill(const uint8_t *file, size_t file_len, uint8_t kind, uint16_t *memory, size_t room);
+
+/* The call desk: the graph of a file, and a table of 32 places in the first 800 lent bytes. Fewer bytes give 7, before all else. Of step and
+ * close 14 comes next (the place is above 31 or not open), then the file's refusals. A refusal leaves the whole table as it was. */
+
+/* Gives the lowest free place a call at the graph's opening marking.
+ * Gives number + 256 * place; the place is SKELFORA_NO_PLACE where refused. */
+uint64_t skelfora_desk_open(const uint8_t *file, size_t file_len, uint8_t *table, size_t table_len);
+
+/* One step of an activity at a place. Gives number + 2^40 * blocker. */
+uint64_t skelfora_desk_step(const uint8_t *file, size_t file_len, uint8_t *table, size_t table_len, size_t place, uint8_t activity);
+
+/* Frees a place whose call is accepting; it then holds zeros. Gives the number. */
+uint64_t skelfora_desk_close(const uint8_t *file, size_t file_len, uint8_t *table, size_t table_len, size_t place);
 
 /* The parts of what they give. Only a step and a replay have a blocker: beside SKELFORA_WAITING the smallest activity that the step
  * waits for, SKELFORA_NO_BLOCKER beside every other number, SKELFORA_DONE too. So ask for the number of a step that was done. */

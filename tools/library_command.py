@@ -29,10 +29,14 @@ def share():
         raise Fault(f"cc could not make {SHARED}") from error
 
 
-def main(words):
-    Parser(prog="./library", description=ABOUT).parse_args(words)
+def build():
     program.made("the library", ARCHIVE, [os.path.join(program.ROOT, "compare", "staticlib")])
     share()
+
+
+def main(words):
+    Parser(prog="./library", description=ABOUT).parse_args(words)
+    build()
     write(f"{ARCHIVE}\n{SHARED}\n".encode())
     return 0
 

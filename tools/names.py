@@ -69,8 +69,8 @@ def extended(names, calls):
     return list(known)
 
 
-def enough(names, activities, path):
+def enough(names, activities, path, what="log"):
     """The names, if each activity has one."""
     if len(names) < activities:
-        raise Fault(f"{path} has {len(names)} names, and the log has {activities} activities")
+        raise Fault(f"{path} has {len(names)} names, and the {what} has {activities} activities")
     return names

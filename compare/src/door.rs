@@ -1,6 +1,6 @@
-//! The ten functions of the proved library `port`, as every implementation offers them.
+//! The thirteen functions of the proved library `port`, as every implementation offers them.
 //! Numbers and bytes only, so that results can be compared to the byte.
-use crate::value::{Answer, PlainGraph};
+use crate::value::{Answer, PlainGraph, Request};
 
 /// number + 256 x length; the lent buffer receives the file.
 pub type Fill = fn(&[u8], &mut [u8]) -> u64;
@@ -39,6 +39,12 @@ pub struct Door {
     pub plain_replay: OnPlain,
     /// graph file, relation, memory -> number + 256 x pairs
     pub fill: fn(&[u8], u8, &mut [u16]) -> u64,
+    /// graph file, table of places -> number + 256 x place, 255 where refused
+    pub desk_open: Fill,
+    /// graph file, table, place, activity -> number + 2^40 x blocker
+    pub desk_step: fn(&[u8], &mut [u8], usize, u8) -> u64,
+    /// graph file, table, place -> number
+    pub desk_close: fn(&[u8], &mut [u8], usize) -> u64,
 }
 
 /// No listing is longer: four relations of 4,096 lines of 8 bytes, 1,024 lines of at
@@ -55,6 +61,14 @@ pub const GRAPH_ROOM: usize = 52 + 4 * 64 * 9;
 /// A plain graph's head: A, events, executed, pending, included.
 pub const HEAD: usize = 33;
 
+/// A desk's places; of each a byte, 0 where it is free, then its marking; and the whole table.
+pub const PLACES: usize = 32;
+pub const PLACE: usize = 25;
+pub const TABLE_ROOM: usize = PLACES * PLACE;
+
+/// Stands in a place's stead where open is refused.
+pub const NO_PLACE: usize = 255;
+
 /// No relation has more pairs, and no list may.
 pub const MOST_PAIRS: usize = 4096;
 
@@ -67,6 +81,14 @@ pub fn written(outcome: Result<usize, u8>) -> u64 {
     match outcome {
         Ok(length) => filled(0, length),
         Err(number) => filled(number, 0),
+    }
+}
+
+/// The place that was opened, or the number of a refusal.
+pub fn opened(outcome: Result<usize, u8>) -> u64 {
+    match outcome {
+        Ok(place) => filled(0, place),
+        Err(number) => filled(number, NO_PLACE),
     }
 }
 
@@ -86,4 +108,13 @@ pub fn replayed(answer: impl Into<Answer>, place: usize, accepting: bool) -> u64
 
 pub fn stepped(outcome: Result<(), Answer>) -> u64 {
     replayed(outcome.err().unwrap_or(Answer::from(0)), 0, false)
+}
+
+/// A request made of one implementation's desk.
+pub fn asked(door: &Door, file: &[u8], table: &mut [u8], request: Request) -> u64 {
+    match request {
+        Request::Open => (door.desk_open)(file, table),
+        Request::Step(place, e) => (door.desk_step)(file, table, place, e),
+        Request::Close(place) => (door.desk_close)(file, table, place),
+    }
 }

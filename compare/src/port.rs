@@ -92,6 +92,27 @@ mod sys {
             memory: *mut u16,
             room: usize,
         ) -> u64;
+        pub fn skelfora_desk_open(
+            file: *const u8,
+            file_len: usize,
+            table: *mut u8,
+            table_len: usize,
+        ) -> u64;
+        pub fn skelfora_desk_step(
+            file: *const u8,
+            file_len: usize,
+            table: *mut u8,
+            table_len: usize,
+            place: usize,
+            activity: u8,
+        ) -> u64;
+        pub fn skelfora_desk_close(
+            file: *const u8,
+            file_len: usize,
+            table: *mut u8,
+            table_len: usize,
+            place: usize,
+        ) -> u64;
     }
 }
 
@@ -183,6 +204,21 @@ mod calls {
         let (lent, room) = (memory.as_mut_ptr(), memory.len());
         unsafe { sys::skelfora_fill(file.as_ptr(), file.len(), kind, lent, room) }
     }
+
+    pub fn desk_open(file: &[u8], table: &mut [u8]) -> u64 {
+        let (lent, room) = (table.as_mut_ptr(), table.len());
+        unsafe { sys::skelfora_desk_open(file.as_ptr(), file.len(), lent, room) }
+    }
+
+    pub fn desk_step(file: &[u8], table: &mut [u8], place: usize, e: u8) -> u64 {
+        let (lent, room) = (table.as_mut_ptr(), table.len());
+        unsafe { sys::skelfora_desk_step(file.as_ptr(), file.len(), lent, room, place, e) }
+    }
+
+    pub fn desk_close(file: &[u8], table: &mut [u8], place: usize) -> u64 {
+        let (lent, room) = (table.as_mut_ptr(), table.len());
+        unsafe { sys::skelfora_desk_close(file.as_ptr(), file.len(), lent, room, place) }
+    }
 }
 
 #[cfg(port)]
@@ -199,6 +235,9 @@ pub fn door() -> Option<Door> {
         plain_accepting: calls::plain_accepting,
         plain_replay: calls::plain_replay,
         fill: calls::fill,
+        desk_open: calls::desk_open,
+        desk_step: calls::desk_step,
+        desk_close: calls::desk_close,
     })
 }
 

@@ -67,6 +67,15 @@ impl From<u8> for Answer {
     }
 }
 
+/// What is asked of the call desk (02, 5/12): a step names a place and an activity. Any place is
+/// a number.
+#[derive(Clone, Copy, PartialEq, Eq, Debug)]
+pub enum Request {
+    Open,
+    Step(usize, u8),
+    Close(usize),
+}
+
 /// What replay returns.
 #[derive(Clone, Copy, PartialEq, Eq, Debug)]
 pub struct Replayed {

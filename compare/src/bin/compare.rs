@@ -1,6 +1,6 @@
 //! The comparison: `compare [ROUNDS] [--need-port] [--record=FILE]`.
 //! Fails on a difference, on a number that was never seen, and, with `--need-port`, where
-//! the proved code is not linked. FILE gets the calls of the ten functions on the fixed
+//! the proved code is not linked. FILE gets the calls of the functions of `port` on the fixed
 //! inputs and in the first rounds, with the judge's results.
 use compare::comparison::record::Record;
 use compare::comparison::{rounds, Comparison};

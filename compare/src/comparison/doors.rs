@@ -58,6 +58,7 @@ impl Comparison {
             beside: &[],
             room,
             activity: filling.profile,
+            place: 0,
             result: wanted,
             after: &lent,
         });
@@ -128,6 +129,7 @@ impl Comparison {
             beside: trace,
             room: 0,
             activity: 0,
+            place: 0,
             result: wanted,
             after: &[],
         });
@@ -153,6 +155,7 @@ impl Comparison {
             beside: marking,
             room: marking.len(),
             activity,
+            place: 0,
             result: wanted,
             after: &after,
         });

@@ -3,6 +3,7 @@ use crate::door::Door;
 use record::Record;
 use std::collections::BTreeMap;
 
+pub mod desk;
 pub mod doors;
 pub mod plain;
 pub mod plain_rounds;
@@ -14,8 +15,8 @@ pub mod values;
 /// them is not taken for a full one.
 type Expected = (&'static str, &'static [u8]);
 
-/// The ten functions of `port`, three of them in each profile: here the proved code takes part.
-const WITH_PORT: [Expected; 13] = [
+/// The thirteen functions of `port`, three of them in each profile: here the proved code takes part.
+const WITH_PORT: [Expected; 16] = [
     ("mine", &[0, 1, 2, 3, 4, 5, 7]),
     ("mine, light", &[0, 1, 2, 3, 4, 5, 7]),
     ("listing", &[0, 1, 2, 3, 4, 5]),
@@ -29,6 +30,9 @@ const WITH_PORT: [Expected; 13] = [
     ("plain accepting", &[0, 3, 5, 7]),
     ("plain replay", &[0, 3, 5, 7, 8, 9, 10]),
     ("fill", &[0, 1, 2, 3, 4, 5, 6, 7]),
+    ("desk open", &[0, 1, 2, 3, 4, 5, 6, 7, 13]),
+    ("desk step", &[0, 1, 2, 3, 4, 5, 6, 7, 8, 9, 10, 14]),
+    ("desk close", &[0, 1, 2, 3, 4, 5, 6, 7, 14, 15]),
 ];
 
 /// What those do not show: judge and yardstick, both Rust. These say nothing of the proved code.
@@ -42,8 +46,8 @@ const RUST_ALONE: [Expected; 7] = [
     ("reader", &[0, 1, 2, 3, 4, 5, 11]),
 ];
 
-/// 0 to 12.
-const NUMBERS: usize = 13;
+/// 0 to 15.
+const NUMBERS: usize = 16;
 
 pub struct Comparison {
     /// everything but the judge

@@ -35,6 +35,7 @@ impl Comparison {
             beside: marking,
             room: marking.len(),
             activity,
+            place: 0,
             result: wanted,
             after: &after,
         });
@@ -89,6 +90,7 @@ impl Comparison {
             beside,
             room: 0,
             activity: 0,
+            place: 0,
             result: wanted,
             after: &[],
         });
@@ -116,6 +118,7 @@ impl Comparison {
             beside: &[],
             room: 2 * room,
             activity: kind,
+            place: 0,
             result: wanted,
             after: &bytes_of(&memory),
         });

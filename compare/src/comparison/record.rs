@@ -1,4 +1,4 @@
-//! Calls of the ten functions with the judge's results, in a file, for a caller that is
+//! Calls of the functions of `port` with the judge's results, in a file, for a caller that is
 //! not linked here: `caller.c` makes them again.
 use std::fs::File;
 use std::io::{BufWriter, Write};
@@ -15,6 +15,9 @@ pub enum Function {
     PlainReplay,
     Fill,
     Summary,
+    DeskOpen,
+    DeskStep,
+    DeskClose,
 }
 
 pub struct Call<'a> {
@@ -23,12 +26,14 @@ pub struct Call<'a> {
     pub input: &'a [u8],
     /// a plain graph's lists
     pub lists: Option<&'a [Vec<u16>; 4]>,
-    /// the trace, or the marking before the step
+    /// the trace, or the marking or table before the call
     pub beside: &'a [u8],
     /// in bytes
     pub room: usize,
     /// the activity, the relation to fill from, or the number of the profile
     pub activity: u8,
+    /// the desk's place
+    pub place: usize,
     pub result: u64,
     /// what was lent, after the call
     pub after: &'a [u8],
@@ -66,6 +71,7 @@ impl Record {
         };
         self.calls += 1;
         let mut bytes = vec![call.function as u8, call.activity];
+        bytes.extend((call.place as u64).to_le_bytes());
         bytes.extend((call.room as u32).to_le_bytes());
         for part in [call.input, call.beside] {
             bytes.extend((part.len() as u32).to_le_bytes());

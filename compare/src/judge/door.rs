@@ -1,11 +1,12 @@
-//! The judge behind the ten functions of `port`.
+//! The judge behind the functions of `port`.
 use super::engine::{accepting, execute, replay as replay_graph};
-use super::graph::Graph;
+use super::graph::{Graph, Marking};
 use super::graph_file::{self, read_marking, set_bytes};
 use super::listing::listing as list;
 use super::miner::{mine as mine_log, Profile};
-use super::{log, plain, summary};
-use crate::door::{filled, replayed, stepped, verdict, written, Door, SUMMARY_ROOM};
+use super::{desk, log, plain, summary};
+use crate::door::{filled, opened, replayed, stepped, verdict, written, Door};
+use crate::door::{PLACE, PLACES, SUMMARY_ROOM, TABLE_ROOM};
 use crate::value::{Answer, PlainGraph};
 
 pub const DOOR: Door = Door {
@@ -20,6 +21,9 @@ pub const DOOR: Door = Door {
     plain_accepting,
     plain_replay,
     fill,
+    desk_open,
+    desk_step,
+    desk_close,
 };
 
 /// A profile that there is not is refused before the log is read.
@@ -115,8 +119,65 @@ fn step_on(graph: Result<Graph, u8>, lent: &mut [u8], activity: u8) -> Result<()
     }
     let mut marking = read_marking(lent);
     execute(&graph, &mut marking, activity)?;
+    write_marking(&marking, lent);
+    Ok(())
+}
+
+fn write_marking(marking: &Marking, lent: &mut [u8]) {
     lent[0..8].copy_from_slice(&set_bytes(&marking.executed));
     lent[8..16].copy_from_slice(&set_bytes(&marking.pending));
     lent[16..24].copy_from_slice(&set_bytes(&marking.included));
-    Ok(())
+}
+
+fn desk_open(file: &[u8], table: &mut [u8]) -> u64 {
+    opened(at_desk(table, |places| {
+        desk::open(&graph_file::read(file), places)
+    }))
+}
+
+fn desk_step(file: &[u8], table: &mut [u8], place: usize, activity: u8) -> u64 {
+    stepped(at_desk(table, |places| {
+        desk::step(&graph_file::read(file), places, place, activity)
+    }))
+}
+
+fn desk_close(file: &[u8], table: &mut [u8], place: usize) -> u64 {
+    written(at_desk(table, |places| {
+        desk::close(&graph_file::read(file), places, place).map(|()| 0)
+    }))
+}
+
+/// A request to the desk of a table, 7 where that is too short. Only a place that the request
+/// changed is written: a byte that is not 0 where it is open, then its marking.
+fn at_desk<T, E: From<u8>>(
+    table: &mut [u8],
+    request: impl FnOnce(&mut [desk::Place]) -> Result<T, E>,
+) -> Result<T, E> {
+    if table.len() < TABLE_ROOM {
+        return Err(7.into());
+    }
+    let before: Vec<desk::Place> = (0..PLACES)
+        .map(|place| {
+            let bytes = &table[PLACE * place..PLACE * (place + 1)];
+            (bytes[0] != 0).then(|| read_marking(&bytes[1..]))
+        })
+        .collect();
+    let mut after = before.clone();
+    let outcome = request(&mut after)?;
+    for place in 0..PLACES {
+        if before[place] == after[place] {
+            continue;
+        }
+        let bytes = &mut table[PLACE * place..PLACE * (place + 1)];
+        match &after[place] {
+            None => bytes.fill(0),
+            Some(marking) => {
+                if bytes[0] == 0 {
+                    bytes[0] = 1;
+                }
+                write_marking(marking, &mut bytes[1..]);
+            }
+        }
+    }
+    Ok(outcome)
 }

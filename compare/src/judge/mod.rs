@@ -3,6 +3,7 @@
 //! yardstick.
 use std::collections::BTreeSet;
 
+pub mod desk;
 pub mod door;
 pub mod engine;
 pub mod facts;

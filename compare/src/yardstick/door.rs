@@ -1,8 +1,9 @@
-//! The yardstick behind the ten functions of `port`.
+//! The yardstick behind the functions of `port`.
 use super::graph_file::{marking_at, read_into, write_judged};
 use super::rows::transposed;
-use super::{engine, listing as lister, log, miner, plain};
-use crate::door::{filled, replayed, stepped, verdict, written, Door, LIGHT, SUMMARY_ROOM};
+use super::{desk, engine, listing as lister, log, miner, plain};
+use crate::door::{filled, opened, replayed, stepped, verdict, written};
+use crate::door::{Door, LIGHT, SUMMARY_ROOM};
 use crate::value::{Answer, GraphValue, MarkingValue, PlainGraph};
 
 pub const DOOR: Door = Door {
@@ -17,6 +18,9 @@ pub const DOOR: Door = Door {
     plain_accepting,
     plain_replay,
     fill,
+    desk_open: |file, table| opened(desk::open(file, table)),
+    desk_step: |file, table, place, e| stepped(desk::step(file, table, place, e)),
+    desk_close: |file, table, place| written(desk::close(file, table, place).map(|()| 0)),
 };
 
 fn mine(bytes: &[u8], profile: u8, file: &mut [u8]) -> u64 {

@@ -84,7 +84,7 @@ pub fn is_accepting(m: Marking) -> bool
 }
 
 // A graph, with a marking beside it: 3 and 5, then 8, 9, 10.
-fn ask_judged(head: Head, relations: &Relations, m: Marking, a: Activity) -> Answer
+pub fn ask_judged(head: Head, relations: &Relations, m: Marking, a: Activity) -> Answer
     ensures { λ r. ⌜ r ≡ enabledOf (graphOf head (now (relations .entry))) m (a .0) ⌝ }
 {
     let answer = judge::judge_beside(head, relations, m);

@@ -1,18 +1,30 @@
 -- A marking by itself, as 24 bytes: executed, pending, included.
-use mathlib.Core.List.{List, _++_}
-use Prim.Native.Nat.{ℕ}
+use mathlib.Core.List.{List}
+use Prim.Native.Nat.{ℕ, _+_}
 use lib.Dec.{ltb}
-use lib.ListN.{length, drop}
+use lib.ListN.{length}
+use lib.Seq.{sets}
 use Rattle.sets.specs.Tests.{when_then_else_}
 use Rattle.engine.specs.Markings.{emptyMarking}
 use Rattle.engine.specs.declared.marking.Marking.{Marking}
 use Rattle.graphfile.specs.Layout.{markingAt}
 use Rattle.graphfile.specs.Writing.{markingBytes}
 
--- the marking in the first bytes; the empty one where there are too few
-unfoldable pub markingFrom : List ℕ → Marking
-markingFrom bytes = when ltb (length bytes) 24 then emptyMarking else markingAt bytes 0
+-- how many bytes a marking has
+abbrev pub markingLength : ℕ
+markingLength = 24
 
--- the bytes with a marking in front; as they were where there are too few
-unfoldable pub markingInto : Marking → List ℕ → List ℕ
-markingInto m bytes = when ltb (length bytes) 24 then bytes else markingBytes m ++ drop 24 bytes
+-- the marking in the bytes from a place on; the empty one where there are too few
+unfoldable pub markingHeld : List ℕ → ℕ → Marking
+markingHeld bytes at = when ltb (length bytes) (at + markingLength) then emptyMarking else markingAt bytes at
+
+-- the bytes with a marking stored from a place on; as they were where there are too few
+unfoldable pub markingPut : Marking → List ℕ → ℕ → List ℕ
+markingPut m bytes at = when ltb (length bytes) (at + markingLength) then bytes else sets bytes at (markingBytes m)
+
+-- both from the first byte on
+abbrev pub markingFrom : List ℕ → Marking
+markingFrom bytes = markingHeld bytes 0
+
+abbrev pub markingInto : Marking → List ℕ → List ℕ
+markingInto m bytes = markingPut m bytes 0

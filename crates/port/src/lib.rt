@@ -9,6 +9,7 @@ ghost use Rattle.port.specs.Port.{summaryNumber, stepOf, stepBytes};
 ghost use Rattle.report.specs.Listing.{listingAfter};
 ghost use Rattle.report.specs.Summary.{summaryAfter};
 
+pub mod call_desk;
 pub mod classroom;
 
 use engine::Graph;

@@ -13,3 +13,4 @@ pub mod Counts
 pub mod PlainEngine
 pub mod Blocker
 pub mod Light
+pub mod Desk

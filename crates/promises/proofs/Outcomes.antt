@@ -43,6 +43,7 @@ use Rattle.engine.proofs.judge.judge_beside.Reads as judge-beside
 use Rattle.engine.proofs.step.ask.Reads as ask
 use Rattle.engine.proofs.step.next.Reads as next
 use Rattle.engine.proofs.step.is_accepting.Reads as is-accepting
+use Rattle.engine.proofs.step.ask_judged.Reads as ask-judged
 use Rattle.engine.proofs.step.enabled.Reads as enabled
 use Rattle.engine.proofs.step.step.Reads as step
 use Rattle.engine.proofs.step.accepting.Reads as accepting
@@ -62,8 +63,13 @@ use Rattle.calllog.proofs.trace.ask.Reads as log-ask
 use Rattle.graphfile.proofs.reader.read.Reads as read
 use Rattle.graphfile.proofs.writer.write.Reads as write
 use Rattle.graphfile.proofs.head.read_head.Reads as read-head
+use Rattle.graphfile.proofs.marking.read_marking_at.Reads as read-marking-at
+use Rattle.graphfile.proofs.marking.write_marking_at.Reads as write-marking-at
 use Rattle.graphfile.proofs.marking.read_marking.Reads as read-marking
 use Rattle.graphfile.proofs.marking.write_marking.Reads as write-marking
+use Rattle.desk.proofs.requests.open.Reads as desk-open
+use Rattle.desk.proofs.requests.step.Reads as desk-step
+use Rattle.desk.proofs.requests.close.Reads as desk-close
 use Rattle.steps.proofs.relations.unbroken.Reads as unbroken
 use Rattle.steps.proofs.relations.excluded_by.Reads as excluded-by
 use Rattle.steps.proofs.relations.absent.Reads as absent
@@ -88,6 +94,9 @@ use Rattle.port.proofs.classroom.skelfora_plain_step.Reads as skelfora-plain-st
 use Rattle.port.proofs.classroom.skelfora_plain_accepting.Reads as skelfora-plain-accepting
 use Rattle.port.proofs.classroom.skelfora_plain_replay.Reads as skelfora-plain-replay
 use Rattle.port.proofs.classroom.skelfora_fill.Reads as skelfora-fill
+use Rattle.port.proofs.call_desk.skelfora_desk_open.Reads as skelfora-desk-open
+use Rattle.port.proofs.call_desk.skelfora_desk_step.Reads as skelfora-desk-step
+use Rattle.port.proofs.call_desk.skelfora_desk_close.Reads as skelfora-desk-close
 use Rattle.promises.proofs.replayed.replay_own.Reads as replay-own
 use Rattle.promises.proofs.replayed.replay_none.Reads as replay-none
 use Rattle.promises.proofs.returned.graph_back.Reads as graph-back
@@ -235,6 +244,9 @@ next-once κ a r r′ s s′ h h′ = h ∙ sym h′
 pub is-accepting-once : Once is-accepting.Post
 is-accepting-once κ a r r′ s s′ h h′ = h ∙ sym h′
 
+pub ask-judged-once : Once ask-judged.Post
+ask-judged-once κ a r r′ s s′ h h′ = h ∙ sym h′
+
 pub enabled-once : Once enabled.Post
 enabled-once κ a r r′ s s′ h h′ = h ∙ sym h′
 
@@ -319,11 +331,28 @@ write-once κ a r r′ s s′ h h′ = (h .0 ∙ sym (h′ .0), h .1 ∙ sym (h�
 pub read-head-once : Once read-head.Post
 read-head-once κ a r r′ s s′ h h′ = h ∙ sym h′
 
+pub read-marking-at-once : Once read-marking-at.Post
+read-marking-at-once κ a r r′ s s′ h h′ = h ∙ sym h′
+
+pub write-marking-at-once : OnceLeft write-marking-at.Post (λ κ s. now (s .1 .0))
+write-marking-at-once κ a r r′ s s′ h h′ = h ∙ sym h′
+
 pub read-marking-once : Once read-marking.Post
 read-marking-once κ a r r′ s s′ h h′ = h ∙ sym h′
 
 pub write-marking-once : OnceLeft write-marking.Post (λ κ s. now (s .1 .0))
 write-marking-once κ a r r′ s s′ h h′ = h ∙ sym h′
+
+-- ---- desk
+
+pub desk-open-once : OnceLent desk-open.Post (λ κ s. now (s .1 .1 .0))
+desk-open-once κ a r r′ s s′ h h′ = (h .0 ∙ sym (h′ .0), h .1 ∙ sym (h′ .1))
+
+pub desk-step-once : OnceLent desk-step.Post (λ κ s. now (s .1 .1 .0))
+desk-step-once κ a r r′ s s′ h h′ = (h .0 ∙ sym (h′ .0), h .1 ∙ sym (h′ .1))
+
+pub desk-close-once : OnceLent desk-close.Post (λ κ s. now (s .1 .1 .0))
+desk-close-once κ a r r′ s s′ h h′ = (h .0 ∙ sym (h′ .0), h .1 ∙ sym (h′ .1))
 
 -- ---- steps
 
@@ -406,6 +435,15 @@ skelfora-plain-replay-once κ a r r′ s s′ h h′ = h ∙ sym h′
 
 pub skelfora-fill-once : OnceLent skelfora-fill.Post (λ κ s. now (s .1 .1 .0))
 skelfora-fill-once κ a r r′ s s′ h h′ = (h .0 ∙ sym (h′ .0), h .1 ∙ sym (h′ .1))
+
+pub skelfora-desk-open-once : OnceLent skelfora-desk-open.Post (λ κ s. now (s .1 .0))
+skelfora-desk-open-once κ a r r′ s s′ h h′ = (h .0 ∙ sym (h′ .0), h .1 ∙ sym (h′ .1))
+
+pub skelfora-desk-step-once : OnceLent skelfora-desk-step.Post (λ κ s. now (s .1 .0))
+skelfora-desk-step-once κ a r r′ s s′ h h′ = (h .0 ∙ sym (h′ .0), h .1 ∙ sym (h′ .1))
+
+pub skelfora-desk-close-once : OnceLent skelfora-desk-close.Post (λ κ s. now (s .1 .0))
+skelfora-desk-close-once κ a r r′ s s′ h h′ = (h .0 ∙ sym (h′ .0), h .1 ∙ sym (h′ .1))
 
 -- ---- promises; of replay_own's five equations the first fixes the result
 

@@ -1,0 +1,89 @@
+//! The call desk: histories of requests, each made of every implementation on the same table.
+use super::record::{Call, Function};
+use super::{decimal, Comparison};
+use crate::door::asked;
+use crate::judge::door::DOOR as JUDGE;
+use crate::seeds::{desk, graphs, Prng};
+use crate::value::Request;
+
+/// How many histories a round has, and how many requests a history.
+const HISTORIES: usize = 2;
+const REQUESTS: usize = 40;
+
+pub fn round(comparison: &mut Comparison, prng: &mut Prng) {
+    for _ in 0..HISTORIES {
+        let (file, events) = desk::file(prng);
+        let mut table = desk::table(prng, events);
+        comparison.input("desk: history");
+        for _ in 0..REQUESTS {
+            let a = file.get(3).copied().unwrap_or(0);
+            let request = desk::request(prng, &table, a);
+            table = comparison.desk(&file, &table, request);
+        }
+    }
+}
+
+/// Every place that a caller may name, on tables of every length near the right one, none and all
+/// of their places taken, with a file that is sound and one that is none; and all activities.
+pub fn once(comparison: &mut Comparison, prng: &mut Prng) {
+    let value = graphs::value_of_size(prng, 5);
+    let sound = graphs::file(&value);
+    for file in [&sound[..], &sound[..51]] {
+        for length in [0, 799, 800, 801] {
+            for first in [0, 1, 255] {
+                let mut table = vec![0; length];
+                table.iter_mut().step_by(25).for_each(|byte| *byte = first);
+                comparison.input("desk: border");
+                comparison.desk(file, &table, Request::Open);
+                for place in desk::ANY_PLACE {
+                    comparison.desk(file, &table, Request::Step(place, 0));
+                    comparison.desk(file, &table, Request::Close(place));
+                }
+            }
+        }
+    }
+    let opened = comparison.desk(&sound, &[0; 800], Request::Open);
+    for activity in 0..=255 {
+        comparison.desk(&sound, &opened, Request::Step(0, activity));
+    }
+}
+
+impl Comparison {
+    /// The judge's table after the request, once the others were held to it.
+    fn desk(&mut self, file: &[u8], table: &[u8], request: Request) -> Vec<u8> {
+        let (named, function, place, activity) = match request {
+            Request::Open => ("desk open", Function::DeskOpen, 0, 0),
+            Request::Step(place, e) => ("desk step", Function::DeskStep, place, e),
+            Request::Close(place) => ("desk close", Function::DeskClose, place, 0),
+        };
+        let mut after = table.to_vec();
+        let wanted = asked(&JUDGE, file, &mut after, request);
+        self.saw(named, wanted as u8);
+        self.record.keep(&Call {
+            function,
+            input: file,
+            lists: None,
+            beside: table,
+            room: table.len(),
+            activity,
+            place,
+            result: wanted,
+            after: &after,
+        });
+        for other in self.others.clone() {
+            let mut lent = table.to_vec();
+            let result = asked(&other, file, &mut lent, request);
+            if result != wanted || lent != after {
+                self.differ(named, other.name, || {
+                    let (file, from) = (decimal(file), decimal(table));
+                    let (judge, theirs) = (decimal(&after), decimal(&lent));
+                    format!(
+                        "file {file}\ntable {from}\n{request:?}\n\
+                         judge {wanted}, table {judge}\nother {result}, table {theirs}"
+                    )
+                });
+            }
+        }
+        after
+    }
+}

@@ -1,0 +1,315 @@
+//! Wrong desks. Each asks the judge and spoils one thing, on the histories of the comparison.
+use super::{all_found, SEEDS};
+use compare::door::{asked, opened, stepped, PLACE, PLACES, TABLE_ROOM};
+use compare::judge::door::DOOR as JUDGE;
+use compare::judge::graph_file::{read, read_marking};
+use compare::seeds::{desk, Prng};
+use compare::value::Request::{self, Close, Open, Step};
+
+/// file, table, request
+type Desk = fn(&[u8], &mut [u8], Request) -> u64;
+
+fn right(file: &[u8], table: &mut [u8], request: Request) -> u64 {
+    asked(&JUDGE, file, table, request)
+}
+
+/// How soon histories like those of the comparison tell a desk from the judge.
+fn found(mutant: Desk) -> Option<u64> {
+    for seed in 0..SEEDS {
+        let mut prng = Prng::new(seed);
+        let (file, events) = desk::file(&mut prng);
+        let mut table = desk::table(&mut prng, events);
+        for _ in 0..40 {
+            let a = file.get(3).copied().unwrap_or(0);
+            let request = desk::request(&mut prng, &table, a);
+            let mut lent = table.clone();
+            let given = mutant(&file, &mut lent, request);
+            if given != right(&file, &mut table, request) || lent != table {
+                return Some(seed);
+            }
+        }
+    }
+    None
+}
+
+const MUTANTS: [(&str, Desk); 21] = [
+    ("a step touches the next place", touches_the_next),
+    ("a close keeps the marking", close_keeps_the_marking),
+    ("a close keeps the place", close_keeps_the_place),
+    ("a close frees whatever is owed", closes_whatever_is_owed),
+    ("the highest free place", highest_free),
+    ("the place after the highest taken", after_the_highest),
+    (
+        "open keeps the marking that was there",
+        open_keeps_the_marking,
+    ),
+    ("open takes the empty marking for free", empty_is_free),
+    ("a place is open where its byte is 1", open_is_one),
+    ("a step puts 1 into the first byte", step_puts_one),
+    ("15 before 5", fifteen_before_five),
+    ("13 before the graph", thirteen_first),
+    ("7 after the file", seven_after_the_file),
+    ("14 after the file", fourteen_after_the_file),
+    ("a refused step changes the table", refused_step_changes),
+    ("a step that waits is taken", waiting_is_taken),
+    (
+        "every marking judged by step and close",
+        every_marking_judged,
+    ),
+    ("every marking judged by open", open_judges_all),
+    ("place modulo 32", place_modulo(32)),
+    ("place modulo 256", place_modulo(256)),
+    ("place 0 where open is refused", |file, table, request| {
+        let given = right(file, table, request);
+        if request == Open && given % 256 != 0 {
+            return given % 256;
+        }
+        given
+    }),
+];
+
+#[test]
+fn found_by_histories() {
+    all_found(
+        MUTANTS
+            .iter()
+            .map(|&(name, mutant)| (name, found(mutant)))
+            .collect(),
+    );
+}
+
+#[test]
+fn a_right_desk_is_not_told_apart() {
+    assert_eq!(found(right), None);
+}
+
+fn is_open(table: &[u8], place: usize) -> bool {
+    place < PLACES && table.len() >= TABLE_ROOM && table[PLACE * place] != 0
+}
+
+fn marking(table: &mut [u8], place: usize) -> &mut [u8] {
+    &mut table[PLACE * place + 1..PLACE * (place + 1)]
+}
+
+fn done(given: u64) -> bool {
+    given % 256 == 0
+}
+
+fn touches_the_next(file: &[u8], table: &mut [u8], request: Request) -> u64 {
+    let given = right(file, table, request);
+    if let Step(place, _) = request {
+        if done(given) && place + 1 < PLACES {
+            let own = marking(table, place).to_vec();
+            marking(table, place + 1).copy_from_slice(&own);
+        }
+    }
+    given
+}
+
+fn close_keeps_the_marking(file: &[u8], table: &mut [u8], request: Request) -> u64 {
+    let before = table.to_vec();
+    let given = right(file, table, request);
+    if let (Close(place), true) = (request, done(given)) {
+        let at = PLACE * place + 1;
+        marking(table, place).copy_from_slice(&before[at..at + PLACE - 1]);
+    }
+    given
+}
+
+fn close_keeps_the_place(file: &[u8], table: &mut [u8], request: Request) -> u64 {
+    let given = right(file, table, request);
+    if let (Close(place), true) = (request, done(given)) {
+        table[PLACE * place] = 1;
+    }
+    given
+}
+
+fn closes_whatever_is_owed(file: &[u8], table: &mut [u8], request: Request) -> u64 {
+    let given = right(file, table, request);
+    if let (Close(place), 15) = (request, given) {
+        table[PLACE * place..PLACE * (place + 1)].fill(0);
+        return 0;
+    }
+    given
+}
+
+/// Opens another place than the lowest: what the judge did there is undone.
+fn opened_at(
+    file: &[u8],
+    table: &mut [u8],
+    request: Request,
+    choose: fn(&[u8]) -> Option<usize>,
+) -> u64 {
+    let before = table.to_vec();
+    let given = right(file, table, request);
+    if request != Open || !done(given) {
+        return given;
+    }
+    let lowest = (given / 256) as usize;
+    let bytes = table[PLACE * lowest..PLACE * (lowest + 1)].to_vec();
+    table.copy_from_slice(&before);
+    match choose(&before) {
+        None => opened(Err(13)),
+        Some(place) => {
+            table[PLACE * place..PLACE * (place + 1)].copy_from_slice(&bytes);
+            opened(Ok(place))
+        }
+    }
+}
+
+fn highest_free(file: &[u8], table: &mut [u8], request: Request) -> u64 {
+    opened_at(file, table, request, |table| {
+        (0..PLACES).rev().find(|&place| !is_open(table, place))
+    })
+}
+
+fn after_the_highest(file: &[u8], table: &mut [u8], request: Request) -> u64 {
+    opened_at(file, table, request, |table| {
+        let highest = (0..PLACES).rev().find(|&place| is_open(table, place));
+        let next = highest.map_or(0, |place| place + 1);
+        (next < PLACES).then_some(next)
+    })
+}
+
+fn empty_is_free(file: &[u8], table: &mut [u8], request: Request) -> u64 {
+    opened_at(file, table, request, |table| {
+        (0..PLACES).find(|&place| table[PLACE * place + 1..][..PLACE - 1] == [0; PLACE - 1])
+    })
+}
+
+fn open_keeps_the_marking(file: &[u8], table: &mut [u8], request: Request) -> u64 {
+    let before = table.to_vec();
+    let given = right(file, table, request);
+    if request == Open && done(given) {
+        let place = (given / 256) as usize;
+        let at = PLACE * place + 1;
+        marking(table, place).copy_from_slice(&before[at..at + PLACE - 1]);
+    }
+    given
+}
+
+fn open_is_one(file: &[u8], table: &mut [u8], request: Request) -> u64 {
+    let before = table.to_vec();
+    for first in table.iter_mut().step_by(PLACE).filter(|first| **first > 1) {
+        *first = 0;
+    }
+    let changed = table.to_vec();
+    let given = right(file, table, request);
+    for place in (0..table.len()).step_by(PLACE) {
+        if table[place] == changed[place] {
+            table[place] = before[place];
+        }
+    }
+    given
+}
+
+fn step_puts_one(file: &[u8], table: &mut [u8], request: Request) -> u64 {
+    let given = right(file, table, request);
+    if let (Step(place, _), true) = (request, done(given)) {
+        table[PLACE * place] = 1;
+    }
+    given
+}
+
+fn fifteen_before_five(file: &[u8], table: &mut [u8], request: Request) -> u64 {
+    let given = right(file, table, request);
+    if let (Close(place), 5) = (request, given) {
+        let m = read_marking(marking(table, place));
+        if !m.pending.is_disjoint(&m.included) {
+            return 15;
+        }
+    }
+    given
+}
+
+fn thirteen_first(file: &[u8], table: &mut [u8], request: Request) -> u64 {
+    if request == Open && (0..PLACES).all(|place| is_open(table, place)) {
+        return opened(Err(13));
+    }
+    right(file, table, request)
+}
+
+/// The file's number in the place of this one, whatever the request.
+fn file_before(number: u64, file: &[u8], table: &mut [u8], request: Request) -> u64 {
+    let given = right(file, table, request);
+    match (read(file), request) {
+        (Err(of_file), _) if given % 256 == number => given - number + u64::from(of_file),
+        _ => given,
+    }
+}
+
+fn seven_after_the_file(file: &[u8], table: &mut [u8], request: Request) -> u64 {
+    file_before(7, file, table, request)
+}
+
+fn fourteen_after_the_file(file: &[u8], table: &mut [u8], request: Request) -> u64 {
+    file_before(14, file, table, request)
+}
+
+fn refused_step_changes(file: &[u8], table: &mut [u8], request: Request) -> u64 {
+    let given = right(file, table, request);
+    if let (Step(place, e), 9 | 10) = (request, given % 256) {
+        marking(table, place)[usize::from(e) / 8] |= 1 << (e % 8);
+    }
+    given
+}
+
+/// Conditions are not looked at.
+fn waiting_is_taken(file: &[u8], table: &mut [u8], request: Request) -> u64 {
+    let given = right(file, table, request);
+    if given % 256 == 10 {
+        return stepped(Ok(()));
+    }
+    given
+}
+
+/// Whether some open place has a marking outside the events of a file that is sound.
+fn some_outside(file: &[u8], table: &[u8]) -> bool {
+    let Ok(graph) = read(file) else {
+        return false;
+    };
+    (0..PLACES).any(|place| {
+        let outside = || {
+            let m = read_marking(&table[PLACE * place + 1..]);
+            let sets = [&m.executed, &m.pending, &m.included];
+            sets.iter().any(|set| !set.is_subset(&graph.events))
+        };
+        is_open(table, place) && outside()
+    })
+}
+
+fn every_marking_judged(file: &[u8], table: &mut [u8], request: Request) -> u64 {
+    let before = table.to_vec();
+    let given = right(file, table, request);
+    if request == Open || matches!(given % 256, 7 | 14) || !some_outside(file, &before) {
+        return given;
+    }
+    table.copy_from_slice(&before);
+    match request {
+        Step(..) => stepped(Err(5.into())),
+        _ => 5,
+    }
+}
+
+fn open_judges_all(file: &[u8], table: &mut [u8], request: Request) -> u64 {
+    if request == Open && some_outside(file, table) {
+        return opened(Err(5));
+    }
+    right(file, table, request)
+}
+
+/// A place that is cut down to a byte, or to a place that there is.
+const fn place_modulo(most: usize) -> Desk {
+    match most {
+        32 => |file, table, request| right(file, table, cut(request, 32)),
+        _ => |file, table, request| right(file, table, cut(request, 256)),
+    }
+}
+
+fn cut(request: Request, most: usize) -> Request {
+    match request {
+        Open => Open,
+        Step(place, e) => Step(place % most, e),
+        Close(place) => Close(place % most),
+    }
+}

@@ -1,0 +1,5 @@
+-- The modules of `proofs/` that belong to no one function.
+pub mod Placing
+pub mod Serving
+pub mod Isolation
+pub mod OnePlace

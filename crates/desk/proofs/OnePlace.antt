@@ -1,0 +1,190 @@
+-- One request on any table: what shows at its own place, and that nothing shows at another. Assumes nothing.
+use mathlib.Core.Path.{_≡_, refl, sym, ap, subst, _∙_}
+use mathlib.Core.Bool.{Bool, true, false}
+use mathlib.Core.Logic.{_≢_}
+use mathlib.Core.List.{List}
+use Prim.Native.Nat.{ℕ, _+_, _*_, _≤_, _<_}
+use native.Mathlib.Omega.{arith}
+use borrow.Author.Tests.{le-ltb, ltb-true, ltb-false}
+use lib.Dec.{T, eqb, ltb}
+use lib.ListN.{length, getD, replicate, length-replicate, getD-replicate}
+use Rattle.sets.specs.Tests.{_and_, non, when_then_else_}
+use Rattle.sets.specs.Members.{everyBelow, leastBelow}
+use Rattle.sets.specs.Answers.{numberOf, isDone, thenAsk}
+use Rattle.sets.specs.declared.answer.Answer.{Answer}
+use Rattle.sets.specs.declared.answer.Answer.the-variants.{Done, AboveLimit, Outside, BufferTooSmall, NoPlaceFree, NotOpen}
+use Rattle.sets.proofs.Tests.{T→true, true→T, F→false, false→F, non-e, non-false, split, either, and-false}
+use Rattle.sets.proofs.Below.{every-i, every-e, least-is, least-before}
+use Rattle.sets.proofs.Asking.{done-is, ask-on, ask-stop}
+use Rattle.engine.specs.Markings.{emptyMarking}
+use Rattle.engine.specs.Relations.{relationsOf}
+use Rattle.engine.specs.Steps.{after}
+use Rattle.engine.specs.Judged.{graphWithin, judgedFor, judged}
+use Rattle.engine.specs.Replay.{enabledOf}
+use Rattle.engine.specs.declared.marking.Marking.{Marking}
+use Rattle.engine.specs.declared.graph.Graph.{Graph}
+use Rattle.graphfile.proofs.LoneMarkings.{WholeMarking}
+use Rattle.desk.specs.Places.{placeCount, placeStart, tableLength, isOpen, markingAtPlace, SameAt, withMarking, withPlace, lowestFree}
+use Rattle.desk.specs.Desk.{onTable, opening, openAnswer, noPlace, openedOf, tableOpened, stepAnswer, tableStepped, closing, closeAnswer, tableClosed}
+use Rattle.desk.specs.Histories.{Fresh}
+use Rattle.desk.proofs.Placing.{open-below, open-kept, marking-kept, length-marked, length-placed, placed-open, placed-marking, else-open, else-marking}
+use Rattle.desk.proofs.Serving.{open-done, step-done, close-done}
+use Rattle.desk.proofs.Isolation.{whole-empty, opening-ext, lowest-ext}
+
+-- ---- a table of zeros is fresh
+
+pub fresh-zeros : (n : ℕ) → tableLength ≤ n → Fresh (replicate n 0)
+unfolding isOpen _and_ non
+fresh-zeros n l = record { long = subst (λ (k : ℕ). tableLength ≤ k) (sym (length-replicate n 0)) l; free = λ p. by p (ltb p placeCount) refl }
+  where
+    by : (p : ℕ) (t : Bool) → ltb p placeCount ≡ t → (t and non (eqb (getD (replicate n 0) (placeStart p) 0) 0)) ≡ false
+    by p false e = refl
+    by p true e =
+        let low = ltb-true p placeCount e in
+        ap (λ (x : ℕ). non (eqb x 0)) (getD-replicate n (placeStart p) 0 0 (omega arith))
+
+-- ---- elsewhere
+
+module _ (g : Graph) where
+  module _ (p : ℕ) (table table′ : List ℕ) (same : SameAt p table table′) where
+    pub step-same : (a : ℕ) → stepAnswer g table′ p a ≡ stepAnswer g table p a
+    unfolding stepAnswer
+    step-same a i =
+        when ltb (same .long i) tableLength then BufferTooSmall
+        else when non (same .opens i) then NotOpen
+        else enabledOf g (same .marking i) a
+
+    pub close-same : closeAnswer g table′ p ≡ closeAnswer g table p
+    unfolding closeAnswer
+    close-same i =
+        when ltb (same .long i) tableLength then BufferTooSmall else when non (same .opens i) then NotOpen else closing g (same .marking i)
+
+  module _ (table : List ℕ) (p : ℕ) where
+    same-or : (done : Bool) (new : List ℕ) → SameAt p table new → SameAt p table (when done then new else table)
+    same-or true new s = s
+    same-or false new s = record { long = refl; opens = refl; marking = refl }
+
+    else-placed : (q b : ℕ) (m : Marking) → q ≢ p → SameAt p table (withPlace table q b m)
+    else-placed q b m n =
+        record { long = length-placed table q b m; opens = else-open table q b m p n; marking = else-marking table q b m p n }
+
+    pub opened-elsewhere : openedOf g table .place ≢ p → SameAt p table (tableOpened g table)
+    unfolding openedOf tableOpened
+    opened-elsewhere = by (isDone (openAnswer g table))
+      where
+        by : (done : Bool) → (when done then lowestFree (isOpen table) else noPlace) ≢ p
+            → SameAt p table (when done then withPlace table (lowestFree (isOpen table)) 1 (g .head .opening) else table)
+        by true n = else-placed (lowestFree (isOpen table)) 1 (g .head .opening) n
+        by false n = record { long = refl; opens = refl; marking = refl }
+
+    pub stepped-elsewhere : (q a : ℕ) → q ≢ p → SameAt p table (tableStepped g table q a)
+    unfolding tableStepped
+    stepped-elsewhere q a n =
+        let new = after (relationsOf g) (markingAtPlace table q) a in
+        same-or (isDone (stepAnswer g table q a)) (withMarking table q new)
+        (record { long = length-marked table q new; opens = open-kept table q p new; marking = marking-kept table q p new n })
+
+    pub closed-elsewhere : (q : ℕ) → q ≢ p → SameAt p table (tableClosed g table q)
+    unfolding tableClosed
+    closed-elsewhere q n = same-or (isDone (closeAnswer g table q)) (withPlace table q 0 emptyMarking) (else-placed q 0 emptyMarking n)
+
+  -- ---- open
+
+  -- on tables with the same open places it gives the same
+  pub opened-ext : (table table′ : List ℕ) → tableLength ≤ length table → tableLength ≤ length table′
+      → ((p : ℕ) → isOpen table p ≡ isOpen table′ p) → openedOf g table ≡ openedOf g table′
+  unfolding openedOf openAnswer
+  opened-ext table table′ long long′ same i =
+      record { answer = answers i; place = when isDone (answers i) then lowest-ext (isOpen table) (isOpen table′) same i else noPlace }
+    where
+      answers : openAnswer g table ≡ openAnswer g table′
+      answers =
+          ap (λ (t : Bool). when t then BufferTooSmall else opening g (isOpen table)) (le-ltb (length table) tableLength long)
+          ∙ opening-ext g (isOpen table) (isOpen table′) same
+          ∙ sym (ap (λ (t : Bool). when t then BufferTooSmall else opening g (isOpen table′)) (le-ltb (length table′) tableLength long′))
+
+  module _ (table : List ℕ) where
+    abbrev lowest : ℕ
+    lowest = lowestFree (isOpen table)
+
+    pub lowest-free : openAnswer g table ≡ Done → isOpen table (lowestFree (isOpen table)) ≡ false
+    unfolding lowestFree
+    lowest-free d =
+        F→false _ (non-e _ (least-is placeCount (λ p. non (isOpen table p)) (open-done table g d .1)))
+
+    pub lower-taken : (q : ℕ) → q < lowestFree (isOpen table) → isOpen table q ≡ true
+    unfolding lowestFree
+    lower-taken q l = T→true _ (non-false (isOpen table q) (least-before placeCount (λ p. non (isOpen table p)) q l))
+
+    -- the place is open, at the opening state
+    pub opened-place : openAnswer g table ≡ Done → isOpen (tableOpened g table) (lowestFree (isOpen table)) ≡ true
+    unfolding tableOpened non
+    opened-place d =
+        ap (λ (t : Bool). isOpen (when t then withPlace table lowest 1 (g .head .opening) else table) lowest) (ap isDone d)
+        ∙ (let there = open-done table g d in placed-open table lowest 1 (g .head .opening) (there .0) (there .1))
+
+    pub opened-marking : WholeMarking (g .head .opening) → openAnswer g table ≡ Done
+        → markingAtPlace (tableOpened g table) (lowestFree (isOpen table)) ≡ g .head .opening
+    unfolding tableOpened
+    opened-marking whole d =
+        ap (λ (t : Bool). markingAtPlace (when t then withPlace table lowest 1 (g .head .opening) else table) lowest) (ap isDone d)
+        ∙ (let there = open-done table g d in placed-marking table lowest 1 (g .head .opening) (there .0) (there .1) whole)
+
+    -- ---- close: the place is free, and holds the empty marking
+
+    module _ (p : ℕ) (d : closeAnswer g table p ≡ Done) where
+      pub closed-place : isOpen (tableClosed g table p) p ≡ false
+      unfolding tableClosed non
+      closed-place =
+          ap (λ (t : Bool). isOpen (when t then withPlace table p 0 emptyMarking else table) p) (ap isDone d)
+          ∙ (let there = close-done table g p d in placed-open table p 0 emptyMarking (there .0) (open-below table p (there .1)))
+
+      pub closed-marking : markingAtPlace (tableClosed g table p) p ≡ emptyMarking
+      unfolding tableClosed
+      closed-marking =
+          ap (λ (t : Bool). markingAtPlace (when t then withPlace table p 0 emptyMarking else table) p) (ap isDone d)
+          ∙ (let there = close-done table g p d in placed-marking table p 0 emptyMarking (there .0) (open-below table p (there .1)) whole-empty)
+
+    -- ---- 13, exactly where the graph is accepted and all 32 places are taken
+
+    pub full-13 : tableLength ≤ length table → judged g ≡ Done → ((p : ℕ) → p < placeCount → isOpen table p ≡ true)
+        → openAnswer g table ≡ NoPlaceFree
+    unfolding openAnswer opening
+    full-13 long accepted all =
+        ap (λ (t : Bool). when t then BufferTooSmall else opening g (isOpen table)) (le-ltb (length table) tableLength long)
+        ∙ ask-on (judged g) (when everyBelow placeCount (isOpen table) then NoPlaceFree else Done) accepted
+        ∙ ap (λ (t : Bool). when t then NoPlaceFree else Done) (T→true (everyBelow placeCount (isOpen table)) (every-i placeCount (isOpen table) (λ p l. true→T (all p l))))
+
+    judged-not : numberOf (judged g) ≡ 13 → T false
+    unfolding judgedFor
+    judged-not = by (ltb 64 (g .head .activities)) (non (graphWithin g))
+      where
+        by : (a b : Bool)
+            → numberOf (when a then AboveLimit else when ltb 512 0 then AboveLimit else when b then Outside else Done) ≡ 13 → T false
+        by true b h = true→T (ap (λ (n : ℕ). eqb n 13) h)
+        by false true h = true→T (ap (λ (n : ℕ). eqb n 13) h)
+        by false false h = true→T (ap (λ (n : ℕ). eqb n 13) h)
+
+    abbrev Full : Type 0
+    Full = (p : ℕ) → p < placeCount → isOpen table p ≡ true
+
+    pub 13-full : openAnswer g table ≡ NoPlaceFree
+        → (tableLength ≤ length table) × (judged g ≡ Done) × ((p : ℕ) → p < placeCount → isOpen table p ≡ true)
+    unfolding openAnswer opening
+    13-full h = long (ltb (length table) tableLength) refl h
+      where
+        all : (t : Bool) → everyBelow placeCount (isOpen table) ≡ t → (when t then NoPlaceFree else Done) ≡ NoPlaceFree → Full
+        all true e h p l = T→true _ (every-e placeCount (isOpen table) (true→T e) p l)
+        all false e h p l = absurd (true→T (ap (λ (a : Answer). eqb (numberOf a) 13) h))
+
+        asks : (d : Bool) → isDone (judged g) ≡ d
+            → thenAsk (judged g) (when everyBelow placeCount (isOpen table) then NoPlaceFree else Done) ≡ NoPlaceFree
+            → (judged g ≡ Done) × Full
+        asks true e h = (done-is (judged g) e, all (everyBelow placeCount (isOpen table)) refl (sym (ask-on (judged g) _ (done-is (judged g) e)) ∙ h))
+        asks false e h = absurd (judged-not (ap numberOf (sym (ask-stop (judged g) _ e) ∙ h)))
+
+        long : (t : Bool) → ltb (length table) tableLength ≡ t → (when t then BufferTooSmall else opening g (isOpen table)) ≡ NoPlaceFree
+            → (tableLength ≤ length table) × (judged g ≡ Done) × Full
+        long true e h = absurd (true→T (ap (λ (a : Answer). eqb (numberOf a) 13) h))
+        long false e h =
+            let r = asks (isDone (judged g)) refl h in (ltb-false (length table) tableLength e, r .0, r .1)

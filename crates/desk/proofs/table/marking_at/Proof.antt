@@ -1,0 +1,9 @@
+use borrow.Author.Needs.{needs}
+use Rattle.desk.proofs.Placing.{placing}
+use Rattle.desk.proofs.table.marking_at.Statement.{statement}
+use Rattle.desk.proofs.table.marking_at.Tie as tie
+
+pub marking-at-spec : {M : Type 1} → statement M
+marking-at-spec =
+    tie.close
+    (tie.spec (λ c. search needs) (λ c. search needs) (λ c κs. search needs) (λ c. search (placing, needs)))

@@ -1,0 +1,72 @@
+-- What the desk answers, and its table afterwards, for every graph, table, place and activity (02, 5/12).
+use mathlib.Core.Bool.{Bool}
+use mathlib.Core.List.{List}
+use Prim.Native.Nat.{ℕ}
+use lib.Dec.{ltb}
+use lib.ListN.{length}
+use Rattle.sets.specs.Tests.{non, when_then_else_}
+use Rattle.sets.specs.Members.{everyBelow}
+use Rattle.sets.specs.Answers.{isDone, thenAsk}
+use Rattle.sets.specs.declared.answer.Answer.{Answer}
+use Rattle.sets.specs.declared.answer.Answer.the-variants.{Done, BufferTooSmall, NoPlaceFree, NotOpen, NotAccepting}
+use Rattle.engine.specs.Markings.{emptyMarking}
+use Rattle.engine.specs.Relations.{relationsOf}
+use Rattle.engine.specs.Steps.{after, accepting}
+use Rattle.engine.specs.Judged.{judged, judgedWith}
+use Rattle.engine.specs.Replay.{enabledOf}
+use Rattle.engine.specs.declared.marking.Marking.{Marking}
+use Rattle.engine.specs.declared.graph.Graph.{Graph}
+use Rattle.desk.specs.declared.requests.Opened.{Opened}
+use Rattle.desk.specs.Places.{placeCount, tableLength, isOpen, markingAtPlace, withMarking, withPlace, lowestFree}
+
+-- a table of fewer than 800 bytes is none: 7, before everything else
+abbrev pub onTable : List ℕ → Answer → Answer
+onTable table answer = when ltb (length table) tableLength then BufferTooSmall else answer
+
+-- ---- open
+
+-- 3 and 5 for the graph, then 13 where all 32 places are taken, by a test of those that are
+unfoldable pub opening : Graph → (ℕ → Bool) → Answer
+opening g taken = thenAsk (judged g) (when everyBelow placeCount taken then NoPlaceFree else Done)
+
+unfoldable pub openAnswer : Graph → List ℕ → Answer
+openAnswer g table = onTable table (opening g (isOpen table))
+
+-- what stands in a place's stead where open is refused
+abbrev pub noPlace : ℕ
+noPlace = 255
+
+-- the lowest free place
+unfoldable pub openedOf : Graph → List ℕ → Opened
+openedOf g table =
+    record {
+      answer = openAnswer g table;
+      place = when isDone (openAnswer g table) then lowestFree (isOpen table) else noPlace;
+    }
+
+-- it is open, at the opening marking
+unfoldable pub tableOpened : Graph → List ℕ → List ℕ
+tableOpened g table =
+    when isDone (openAnswer g table) then withPlace table (lowestFree (isOpen table)) 1 (g .head .opening) else table
+
+-- ---- step: 14, then as the engine's enabled has it at the place's own marking: 3, 5, 8, 9, and 10 with the blocker
+
+unfoldable pub stepAnswer : Graph → List ℕ → ℕ → ℕ → Answer
+stepAnswer g table p a = onTable table (when non (isOpen table p) then NotOpen else enabledOf g (markingAtPlace table p) a)
+
+-- the place has the marking after the step
+unfoldable pub tableStepped : Graph → List ℕ → ℕ → ℕ → List ℕ
+tableStepped g table p a =
+    when isDone (stepAnswer g table p a) then withMarking table p (after (relationsOf g) (markingAtPlace table p) a) else table
+
+-- ---- close: 14, then at the place's own marking 3, 5, and 15 where it is not accepting
+
+unfoldable pub closing : Graph → Marking → Answer
+closing g m = thenAsk (judgedWith g m) (when non (accepting m) then NotAccepting else Done)
+
+unfoldable pub closeAnswer : Graph → List ℕ → ℕ → Answer
+closeAnswer g table p = onTable table (when non (isOpen table p) then NotOpen else closing g (markingAtPlace table p))
+
+-- the place is free, and holds the empty marking
+unfoldable pub tableClosed : Graph → List ℕ → ℕ → List ℕ
+tableClosed g table p = when isDone (closeAnswer g table p) then withPlace table p 0 emptyMarking else table

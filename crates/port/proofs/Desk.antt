@@ -1,0 +1,238 @@
+-- What the calls of the desk's functions ensure, put together. Assumes nothing.
+use mathlib.Core.Path.{_≡_, refl, sym, ap, ap₂, _∙_}
+use mathlib.Core.Bool.{Bool, true, false, not}
+use mathlib.Core.List.{List}
+use Prim.Native.Nat.{ℕ, _≤_, _<_}
+use borrow.Author.Tests.{not-true, not-false, eq-eqb, ne-eqb, lt-ltb, le-ltb}
+use lib.Dec.{eqb, ltb}
+use lib.ListN.{length, getD}
+use Rattle.sets.specs.Tests.{non, when_then_else_}
+use Rattle.sets.specs.Answers.{isDone, thenAsk}
+use Rattle.sets.specs.declared.answer.Answer.{Answer}
+use Rattle.sets.specs.declared.answer.Answer.the-variants.{Done, BufferTooSmall, NotOpen}
+use Rattle.sets.proofs.Asking.{ask-on, ask-stop, done-is}
+use Rattle.sets.proofs.Ways.{taken, passed-by}
+use Rattle.engine.specs.declared.graph.Graph.{Graph}
+use Rattle.graphfile.specs.Held.{readOf}
+use Rattle.graphfile.specs.declared.reader.Reading.{Reading}
+use Rattle.desk.specs.Places.{placeCount, tableLength, placeStart, isOpen}
+use Rattle.desk.proofs.Placing.{open-above, open-byte}
+use Rattle.desk.specs.Desk.{onTable, noPlace, openedOf, tableOpened, stepAnswer, tableStepped, closeAnswer, tableClosed}
+use Rattle.desk.specs.declared.requests.Opened.{Opened}
+use Rattle.port.specs.Port.{packedOf, blockedOf}
+use Rattle.port.specs.Desk.{placeAnswer, beforeOpen, beforePlace, refusedOpen, deskOpenedOf, deskOpenNumber, deskOpenTable, deskStepNumber, deskStepTable, deskCloseNumber, deskCloseTable}
+
+-- ---- a place, by its first byte
+
+module _ (table : List ℕ) (p : ℕ) where
+  abbrev chosen : Bool → Bool → Answer
+  chosen short there = when short then BufferTooSmall else when non there then NotOpen else Done
+
+  by-tests : (short there : Bool) → ltb (length table) tableLength ≡ short → isOpen table p ≡ there → chosen short there ≡ placeAnswer table p
+  unfolding placeAnswer
+  by-tests short there s o = sym (ap₂ chosen s o)
+
+  pub place-short : length table < tableLength → BufferTooSmall ≡ placeAnswer table p
+  place-short l = by-tests true (isOpen table p) (lt-ltb (length table) tableLength l) refl
+
+  module _ (long : tableLength ≤ length table) where
+    pub place-above : placeCount ≤ p → NotOpen ≡ placeAnswer table p
+    unfolding non
+    place-above u = by-tests false false (le-ltb (length table) tableLength long) (sym (open-above table p u))
+
+    pub place-free : p < placeCount → getD table (placeStart p) 0 ≡ 0 → NotOpen ≡ placeAnswer table p
+    unfolding non
+    place-free l z =
+        by-tests false false (le-ltb (length table) tableLength long)
+        (sym (open-byte table p l) ∙ ap not (eq-eqb (getD table (placeStart p) 0) 0 z))
+
+    pub place-open : p < placeCount → (getD table (placeStart p) 0 ≡ 0 → ⊥) → Done ≡ placeAnswer table p
+    unfolding non
+    place-open l z =
+        by-tests false true (le-ltb (length table) tableLength long)
+        (sym (open-byte table p l) ∙ ap not (ne-eqb (getD table (placeStart p) 0) 0 z))
+
+pub ruleset placed = (place-short, place-above, place-free, place-open)
+
+-- ---- x is what is asked before there is a graph: refused with a, or done
+
+module _ (x a : Answer) (same : a ≡ x) (no : isDone a ≡ false) where
+  gone : isDone x ≡ false
+  gone = ap isDone (sym same) ∙ no
+
+  kept : (t new : List ℕ) → t ≡ when isDone x then new else t
+  kept t new = passed-by (isDone x) new t t (sym gone) refl
+
+  stays : (y : Answer) → a ≡ thenAsk x y
+  stays y = same ∙ sym (ask-stop x y gone)
+
+  not-opened : (y : Opened) → refusedOpen a ≡ when isDone x then y else refusedOpen x
+  not-opened y = passed-by (isDone x) y (refusedOpen x) (refusedOpen a) (sym gone) (ap refusedOpen same)
+
+module _ (x : Answer) (yes : isDone x ≡ true) where
+  served : {A : Type 0} (y w z : A) → z ≡ y → z ≡ when isDone x then y else w
+  served y w z e = taken (isDone x) y w z (sym yes) e
+
+-- ---- open
+
+module _ (file table : List ℕ) where
+  abbrev shown : Opened → ℕ
+  shown o = packedOf (o .answer) (o .place)
+
+  -- refused before there is a graph
+  module _ (a : Answer) (same : a ≡ beforeOpen file table) (no : isDone a ≡ false) where
+    open-refused-number : (n : ℕ) → n ≡ packedOf a noPlace → n ≡ deskOpenNumber file table
+    unfolding deskOpenedOf
+    open-refused-number n e = e ∙ ap shown (not-opened (beforeOpen file table) a same no (openedOf (readOf file .graph) table))
+
+    open-refused-table : table ≡ deskOpenTable file table
+    unfolding deskOpenTable
+    open-refused-table = kept (beforeOpen file table) a same no table (tableOpened (readOf file .graph) table)
+
+  module _ (short : length table < tableLength) where
+    too-few : BufferTooSmall ≡ beforeOpen file table
+    unfolding beforeOpen
+    too-few = taken (ltb (length table) tableLength) BufferTooSmall (readOf file .answer) BufferTooSmall (sym (lt-ltb (length table) tableLength short)) refl
+
+    pub open-short : (n : ℕ) → n ≡ packedOf BufferTooSmall noPlace → n ≡ deskOpenNumber file table
+    open-short n e = open-refused-number BufferTooSmall too-few refl n e
+
+    pub open-short-table : table ≡ deskOpenTable file table
+    open-short-table = open-refused-table BufferTooSmall too-few refl
+
+  module _ (long : tableLength ≤ length table) (r : Reading) (d : Bool) (hr : r ≡ readOf file) (hd : d ≡ isDone (r .answer)) where
+    the-file : r .answer ≡ beforeOpen file table
+    unfolding beforeOpen
+    the-file =
+        passed-by (ltb (length table) tableLength) BufferTooSmall (readOf file .answer) (r .answer) (sym (le-ltb (length table) tableLength long))
+        (ap (λ (x : Reading). x .answer) hr)
+
+    pub open-no-file : (n : ℕ) → not d ≡ true → n ≡ packedOf (r .answer) noPlace → n ≡ deskOpenNumber file table
+    open-no-file n t e = open-refused-number (r .answer) the-file (sym hd ∙ not-true d t) n e
+
+    pub open-no-file-table : not d ≡ true → table ≡ deskOpenTable file table
+    open-no-file-table t = open-refused-table (r .answer) the-file (sym hd ∙ not-true d t)
+
+    before : not d ≡ false → isDone (beforeOpen file table) ≡ true
+    before t = ap isDone (sym the-file) ∙ sym hd ∙ not-false d t
+
+    pub open-served : (n : ℕ) (o : Opened) → not d ≡ false → o ≡ openedOf (r .graph) table → n ≡ packedOf (o .answer) (o .place)
+        → n ≡ deskOpenNumber file table
+    unfolding deskOpenedOf
+    open-served n o t q e =
+        e
+        ∙ ap shown
+        (served (beforeOpen file table) (before t) (openedOf (readOf file .graph) table) (refusedOpen (beforeOpen file table)) o
+        (q ∙ ap (λ (x : Reading). openedOf (x .graph) table) hr))
+
+    pub open-served-table : (table′ : List ℕ) → not d ≡ false → table′ ≡ tableOpened (r .graph) table → table′ ≡ deskOpenTable file table
+    unfolding deskOpenTable
+    open-served-table table′ t q =
+        served (beforeOpen file table) (before t) (tableOpened (readOf file .graph) table) table table′
+        (q ∙ ap (λ (x : Reading). tableOpened (x .graph) table) hr)
+
+pub ruleset opening = (open-short, open-short-table, open-no-file, open-no-file-table, open-served, open-served-table)
+
+-- ---- step and close
+
+module _ (file table : List ℕ) (p : ℕ) where
+  -- refused before there is a graph
+  module _ (a : Answer) (same : a ≡ beforePlace file table p) (no : isDone a ≡ false) where
+    step-refused-number : (e n : ℕ) → n ≡ blockedOf a 0 false → n ≡ deskStepNumber file table p e
+    unfolding deskStepNumber
+    step-refused-number e n h =
+        h ∙ ap (λ (x : Answer). blockedOf x 0 false) (stays (beforePlace file table p) a same no (stepAnswer (readOf file .graph) table p e))
+
+    step-refused-table : (e : ℕ) → table ≡ deskStepTable file table p e
+    unfolding deskStepTable
+    step-refused-table e = kept (beforePlace file table p) a same no table (tableStepped (readOf file .graph) table p e)
+
+    close-refused-number : (n : ℕ) → n ≡ packedOf a 0 → n ≡ deskCloseNumber file table p
+    unfolding deskCloseNumber
+    close-refused-number n h =
+        h ∙ ap (λ (x : Answer). packedOf x 0) (stays (beforePlace file table p) a same no (closeAnswer (readOf file .graph) table p))
+
+    close-refused-table : table ≡ deskCloseTable file table p
+    unfolding deskCloseTable
+    close-refused-table = kept (beforePlace file table p) a same no table (tableClosed (readOf file .graph) table p)
+
+  module _ (b : Answer) (d : Bool) (hb : b ≡ placeAnswer table p) (hd : d ≡ isDone b) where
+    module _ (t : not d ≡ true) where
+      no-place : isDone b ≡ false
+      no-place = sym hd ∙ not-true d t
+
+      the-place : b ≡ beforePlace file table p
+      unfolding beforePlace
+      the-place = stays (placeAnswer table p) b hb no-place (readOf file .answer)
+
+      pub step-no-place : (e n : ℕ) → n ≡ blockedOf b 0 false → n ≡ deskStepNumber file table p e
+      step-no-place = step-refused-number b the-place no-place
+
+      pub step-no-place-table : (e : ℕ) → table ≡ deskStepTable file table p e
+      step-no-place-table = step-refused-table b the-place no-place
+
+      pub close-no-place : (n : ℕ) → n ≡ packedOf b 0 → n ≡ deskCloseNumber file table p
+      close-no-place = close-refused-number b the-place no-place
+
+      pub close-no-place-table : table ≡ deskCloseTable file table p
+      close-no-place-table = close-refused-table b the-place no-place
+
+    module _ (t : not d ≡ false) (r : Reading) (f : Bool) (hr : r ≡ readOf file) (hf : f ≡ isDone (r .answer)) where
+      the-file-then : r .answer ≡ beforePlace file table p
+      unfolding beforePlace
+      the-file-then =
+          ap (λ (x : Reading). x .answer) hr
+          ∙ sym (ask-on (placeAnswer table p) (readOf file .answer) (sym hb ∙ done-is b (sym hd ∙ not-false d t)))
+
+      module _ (u : not f ≡ true) where
+        no-file : isDone (r .answer) ≡ false
+        no-file = sym hf ∙ not-true f u
+
+        pub step-no-file : (e n : ℕ) → n ≡ blockedOf (r .answer) 0 false → n ≡ deskStepNumber file table p e
+        step-no-file = step-refused-number (r .answer) the-file-then no-file
+
+        pub step-no-file-table : (e : ℕ) → table ≡ deskStepTable file table p e
+        step-no-file-table = step-refused-table (r .answer) the-file-then no-file
+
+        pub close-no-file : (n : ℕ) → n ≡ packedOf (r .answer) 0 → n ≡ deskCloseNumber file table p
+        close-no-file = close-refused-number (r .answer) the-file-then no-file
+
+        pub close-no-file-table : table ≡ deskCloseTable file table p
+        close-no-file-table = close-refused-table (r .answer) the-file-then no-file
+
+      module _ (u : not f ≡ false) where
+        asked : isDone (beforePlace file table p) ≡ true
+        asked = ap isDone (sym the-file-then) ∙ sym hf ∙ not-false f u
+
+        on : (y : Answer) → thenAsk (beforePlace file table p) y ≡ y
+        on y = ask-on (beforePlace file table p) y (done-is (beforePlace file table p) asked)
+
+        pub step-served : (e n : ℕ) (x : Answer) → x ≡ stepAnswer (r .graph) table p e → n ≡ blockedOf x 0 false → n ≡ deskStepNumber file table p e
+        unfolding deskStepNumber
+        step-served e n x q h =
+            h
+            ∙ ap (λ (y : Answer). blockedOf y 0 false)
+            (q ∙ ap (λ (y : Reading). stepAnswer (y .graph) table p e) hr ∙ sym (on (stepAnswer (readOf file .graph) table p e)))
+
+        pub step-served-table : (e : ℕ) (table′ : List ℕ) → table′ ≡ tableStepped (r .graph) table p e → table′ ≡ deskStepTable file table p e
+        unfolding deskStepTable
+        step-served-table e table′ q =
+            served (beforePlace file table p) asked (tableStepped (readOf file .graph) table p e) table table′
+            (q ∙ ap (λ (y : Reading). tableStepped (y .graph) table p e) hr)
+
+        pub close-served : (n : ℕ) (x : Answer) → x ≡ closeAnswer (r .graph) table p → n ≡ packedOf x 0 → n ≡ deskCloseNumber file table p
+        unfolding deskCloseNumber
+        close-served n x q h =
+            h
+            ∙ ap (λ (y : Answer). packedOf y 0)
+            (q ∙ ap (λ (y : Reading). closeAnswer (y .graph) table p) hr ∙ sym (on (closeAnswer (readOf file .graph) table p)))
+
+        pub close-served-table : (table′ : List ℕ) → table′ ≡ tableClosed (r .graph) table p → table′ ≡ deskCloseTable file table p
+        unfolding deskCloseTable
+        close-served-table table′ q =
+            served (beforePlace file table p) asked (tableClosed (readOf file .graph) table p) table table′
+            (q ∙ ap (λ (y : Reading). tableClosed (y .graph) table p) hr)
+
+pub ruleset stepping-there = (step-no-place, step-no-place-table, step-no-file, step-no-file-table, step-served, step-served-table)
+
+pub ruleset closing-there = (close-no-place, close-no-place-table, close-no-file, close-no-file-table, close-served, close-served-table)

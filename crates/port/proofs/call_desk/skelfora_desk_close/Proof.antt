@@ -1,0 +1,32 @@
+use borrow.Author.Needs.{needs}
+use Rattle.port.proofs.Desk.{closing-there}
+use Rattle.port.proofs.call_desk.skelfora_desk_close.Statement.{statement}
+use Rattle.port.proofs.call_desk.skelfora_desk_close.Tie as tie
+
+returns : tie.Need-returns
+returns c = search (closing-there, needs)
+
+returns-2 : tie.Need-returns-2
+returns-2 c = search (closing-there, needs)
+
+returns-3 : tie.Need-returns-3
+returns-3 c = search (closing-there, needs)
+
+pub skelfora-desk-close-spec : {M : Type 1} → statement M
+skelfora-desk-close-spec =
+    tie.close
+    (tie.spec
+    (λ c κs. search needs)
+    (λ c κs. search needs)
+    (λ c κs. search needs)
+    (λ c. search needs)
+    returns
+    (λ c κs. search needs)
+    (λ c κs. search needs)
+    (λ c κs. search needs)
+    (λ c. search needs)
+    returns-2
+    (λ c κs. search needs)
+    (λ c κs. search needs)
+    (λ c. search needs)
+    returns-3)

@@ -1,0 +1,90 @@
+// The call desk's functions (02, 5/12), on the graph of a file and a table of 800 lent bytes. The file is judged where the desk judges its graph:
+// after the table, and after the place of step and close.
+ghost use mathlib.Core.Path.{_≡_};
+ghost use Rattle.port.specs.Desk.{placeAnswer};
+ghost use Rattle.port.specs.Desk.{deskOpenNumber, deskOpenTable, deskStepNumber, deskStepTable, deskCloseNumber, deskCloseTable};
+use crate::packed;
+use crate::packed_blocker;
+use sets::Activity;
+use sets::Answer;
+
+// Opens the lowest free place: the number and the place; 255 where it is refused.
+#[no_mangle]
+pub extern "C" fn skelfora_desk_open(file: &[u8], table: &mut [u8]) -> u64
+    ensures { λ r. ⌜ r ≡ deskOpenNumber (now (file .entry)) (now (table .entry)) ⌝ }
+    ensures { λ _. ⌜ now (table .exit) ≡ deskOpenTable (now (file .entry)) (now (table .entry)) ⌝ }
+{
+    if table.len() < desk::table::LENGTH {
+        return packed(Answer::BufferTooSmall, desk::requests::NO_PLACE);
+    }
+    let r = graphfile::read(file);
+    let answer = r.answer;
+    if !answer.is_done() {
+        return packed(answer, desk::requests::NO_PLACE);
+    }
+    let head = r.graph.head;
+    let opened = desk::open(head, &r.graph.relations, table);
+    let a = opened.answer;
+    packed(a, opened.place)
+}
+
+// What step and close ask of the table alone: 7, then 14.
+fn judge_place(table: &[u8], place: usize) -> Answer
+    ensures { λ r. ⌜ r ≡ placeAnswer (now (table .entry)) place ⌝ }
+{
+    if table.len() < desk::table::LENGTH {
+        return Answer::BufferTooSmall;
+    }
+    if desk::table::PLACES <= place {
+        return Answer::NotOpen;
+    }
+    if table[desk::table::PLACE * place] == desk::table::FREE {
+        return Answer::NotOpen;
+    }
+    Answer::Done
+}
+
+// One activity at one place: the number, and the blocker.
+#[no_mangle]
+pub extern "C" fn skelfora_desk_step(
+    file: &[u8],
+    table: &mut [u8],
+    place: usize,
+    activity: u8,
+) -> u64
+    ensures { λ r. ⌜ r ≡ deskStepNumber (now (file .entry)) (now (table .entry)) place activity ⌝ }
+    ensures { λ _. ⌜ now (table .exit) ≡ deskStepTable (now (file .entry)) (now (table .entry)) place activity ⌝ }
+{
+    let asked = judge_place(table, place);
+    if !asked.is_done() {
+        return packed_blocker(asked, 0, false);
+    }
+    let r = graphfile::read(file);
+    let answer = r.answer;
+    if !answer.is_done() {
+        return packed_blocker(answer, 0, false);
+    }
+    let head = r.graph.head;
+    let given = desk::step(head, &r.graph.relations, table, place, Activity(activity));
+    packed_blocker(given, 0, false)
+}
+
+// Frees a place whose call is accepting: the number.
+#[no_mangle]
+pub extern "C" fn skelfora_desk_close(file: &[u8], table: &mut [u8], place: usize) -> u64
+    ensures { λ r. ⌜ r ≡ deskCloseNumber (now (file .entry)) (now (table .entry)) place ⌝ }
+    ensures { λ _. ⌜ now (table .exit) ≡ deskCloseTable (now (file .entry)) (now (table .entry)) place ⌝ }
+{
+    let asked = judge_place(table, place);
+    if !asked.is_done() {
+        return packed(asked, 0);
+    }
+    let r = graphfile::read(file);
+    let answer = r.answer;
+    if !answer.is_done() {
+        return packed(answer, 0);
+    }
+    let head = r.graph.head;
+    let given = desk::close(head, &r.graph.relations, table, place);
+    packed(given, 0)
+}

@@ -1,0 +1,190 @@
+"""./desk: requests from standard input, one a line, each answered with a line by the proved desk. The table lasts as long as the command."""
+import os
+import sys
+
+import logfile
+import names
+import port
+from command import REFUSED, Command, Fault, Parser, reason, say, write
+
+ABOUT = """\
+The call desk: one graph, and 32 places for vessels in port, each at its own marking. Reads requests from standard input, one a line:
+
+  open        gives the lowest free place a call at the opening state
+  step P A    runs activity A at place P
+  close P     frees place P, where its call may end
+  show        which places are open
+  show P      what is executed, pending and included at place P
+
+The first three are answered by the proved library with one line: number, place, blocker (docs/FORMATS.md has the numbers).
+
+  ./desk port.graph                          on the graph of a file
+  ./desk --mine calls.log                    on the full graph of a log
+  ./desk --names calls.names --mine calls.log   with the steps' names, in requests and answers"""
+
+STATUS = "exit status: 0 all requests answered, 1 the graph or the log is refused, 2 used wrongly, 3 something could not be read or built"
+
+REQUESTS = "open, step P A, close P, show or show P"
+
+
+class NoRequest(Exception):
+    """Why a line is no request."""
+
+
+def parser():
+    words = Parser(prog="./desk", usage="./desk [--names FILE] (GRAPHFILE | --mine LOG)", description=ABOUT, epilog=STATUS)
+    words.add_argument("--mine", metavar="LOG", help="a log (docs/FORMATS.md), of which the full graph is mined")
+    words.add_argument("--names", metavar="FILE", help="line k of FILE, counted from 0, is the name of activity k")
+    words.add_argument("graph", metavar="GRAPHFILE", nargs="?", help="a graph file (docs/FORMATS.md)")
+    return words
+
+
+def meant(words, options):
+    if (options.graph is None) == (options.mine is None):
+        words.error("one graph file is wanted, or --mine and a log")
+    if "-" in (options.graph, options.mine):
+        words.error("standard input has the requests: name a file")
+
+
+def graph_bytes(path):
+    """A graph file, and of a longer one as much as shows that it is."""
+    try:
+        with open(path, "rb") as file:
+            return file.read(port.GRAPH_ROOM + 1)
+    except OSError as error:
+        raise Fault(f"can't read {path}: {reason(error)}") from error
+
+
+def graph_of(library, options):
+    """The number with which log or file is refused, what that means, and the graph file."""
+    lent = port.buffer(port.GRAPH_ROOM)
+    if options.mine is not None:
+        given = library.call("skelfora_mine", logfile.read(options.mine), port.FULL, lent)
+        return port.number(given), logfile.MEANING, lent.raw[: port.place(given)]
+    given = library.call("skelfora_rewrite", graph_bytes(options.graph), lent)
+    return port.number(given), {}, lent.raw[: port.place(given)]
+
+
+class Desk:
+    """The library, the graph's file, the table that is lent to each request, and how steps are called."""
+
+    def __init__(self, library, file, called):
+        self.library, self.file, self.called = library, file, called
+        self.table = port.buffer(port.PLACES * port.PLACE)
+
+    def name(self, step):
+        return self.called[step] if self.called is not None and step < len(self.called) else str(step)
+
+    def number_of(self, word):
+        """The activity that is meant: its name, where names were given, or its number."""
+        if self.called is not None and word in self.called:
+            return self.called.index(word)
+        if not is_number(word):
+            raise NoRequest(f"no step is called {word!r}" if self.called is not None else f"{word!r} is no activity")
+        if int(word) > 255:
+            raise NoRequest("an activity is a number up to 255")
+        return int(word)
+
+    def answer(self, given, place):
+        blocker = port.blocker(given)
+        blocked = port.number(given) == 10
+        return f"{port.number(given)} place {place} blocker {self.name(blocker) if blocked else 'none'}"
+
+    def open(self):
+        given = self.library.call("skelfora_desk_open", self.file, self.table)
+        place = port.place(given)
+        return self.answer(given, "none" if place == port.NO_PLACE else place)
+
+    def step(self, place, word):
+        given = self.library.call("skelfora_desk_step", self.file, self.table, handed(place), self.number_of(word))
+        return self.answer(given, place)
+
+    def close(self, place):
+        return self.answer(self.library.call("skelfora_desk_close", self.file, self.table, handed(place)), place)
+
+    def not_open(self, place):
+        """What a step of no activity is answered there, on a copy of the table: 14 where the place is not open."""
+        copy = port.buffer(len(self.table))
+        copy.raw = self.table.raw
+        given = self.library.call("skelfora_desk_step", self.file, copy, handed(place), 255)
+        return given if port.number(given) == 14 else None
+
+    def places(self):
+        found = [str(place) for place in range(port.PLACES) if self.not_open(place) is None]
+        return "open " + (" ".join(found) or "none")
+
+    def show(self, place):
+        refused = self.not_open(place)
+        if refused is not None:
+            return self.answer(refused, place)
+        at = port.PLACE * place + 1
+        sets = [int.from_bytes(self.table.raw[at + 8 * k : at + 8 * k + 8], "little") for k in range(3)]
+        told = [f"{what} {self.members(bits)}" for what, bits in zip(("executed", "pending", "included"), sets)]
+        return f"place {place} {' '.join(told)}"
+
+    def members(self, bits):
+        separator = ", " if self.called is not None else " "
+        return separator.join(self.name(step) for step in range(64) if bits >> step & 1) or "none"
+
+    def asked(self, line):
+        """The answer to a line."""
+        word, _, rest = names.clean(line).partition(" ")
+        first, _, last = rest.strip().partition(" ")
+        given = [part for part in (first, last.strip()) if part]
+        if (word, len(given)) == ("open", 0):
+            return self.open()
+        if (word, len(given)) == ("step", 2):
+            return self.step(place_in(given[0]), given[1])
+        if (word, len(given)) == ("close", 1):
+            return self.close(place_in(given[0]))
+        if word == "show" and len(given) < 2:
+            return self.show(place_in(given[0])) if given else self.places()
+        raise NoRequest(f"a request is {REQUESTS}")
+
+
+def is_number(word):
+    return word.isascii() and word.isdigit() and len(word) < 25
+
+
+def place_in(word):
+    if not is_number(word):
+        raise NoRequest(f"{word!r} is no place")
+    return int(word)
+
+
+def handed(place):
+    """A place as it is handed over: beyond what fits, the greatest number that does."""
+    return min(place, port.GREATEST)
+
+
+def answered(desk, line):
+    try:
+        return desk.asked(line.decode("utf-8", "replace"))
+    except NoRequest as why:
+        return f"no request: {why}"
+
+
+def main(words):
+    reader = parser()
+    options = reader.parse_args(words)
+    meant(reader, options)
+    if sys.stdin is None:
+        raise Fault("standard input is closed")
+    called = names.read(options.names) if options.names is not None else None
+    library = port.Port()
+    number, meaning, file = graph_of(library, options)
+    if number:
+        write(f"refused {number}\n".encode())
+        say(f"{number}: {meaning.get(number, 'no graph file (docs/FORMATS.md, the numbers)')}")
+        return REFUSED
+    if called is not None:
+        names.enough(called, file[3], options.names, "graph")
+    if os.isatty(0):
+        say(f"requests, one a line: {REQUESTS}")
+    desk = Desk(library, file, called)
+    for line in sys.stdin.buffer:
+        write((answered(desk, line) + "\n").encode())
+    return 0
+
+
+COMMAND = Command("desk", main)

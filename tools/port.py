@@ -1,0 +1,66 @@
+"""The proved library, loaded: the functions of docs/PORT.md that the commands call. It is built first, if anything changed."""
+import ctypes
+import os
+
+import library_command
+import program
+from command import Fault
+
+GRAPH_ROOM = 2356
+PLACES, PLACE = 32, 25
+NO_PLACE = NO_BLOCKER = 255
+FULL = 0
+
+# The greatest number that a function can be handed; all above 31 are alike to the desk.
+GREATEST = 2 ** (8 * ctypes.sizeof(ctypes.c_size_t)) - 1
+
+BYTES = [ctypes.c_char_p, ctypes.c_size_t]
+
+# What each function takes.
+TAKEN = {
+    "skelfora_mine": [*BYTES, ctypes.c_uint8, *BYTES],
+    "skelfora_rewrite": [*BYTES, *BYTES],
+    "skelfora_desk_open": [*BYTES, *BYTES],
+    "skelfora_desk_step": [*BYTES, *BYTES, ctypes.c_size_t, ctypes.c_uint8],
+    "skelfora_desk_close": [*BYTES, *BYTES, ctypes.c_size_t],
+}
+
+
+class Port:
+    """The functions by their names: bytes and buffers each pass with their length."""
+
+    def __init__(self):
+        library_command.build()
+        path = os.path.join(program.ROOT, library_command.SHARED)
+        try:
+            library = ctypes.CDLL(path)
+        except OSError as error:
+            raise Fault(f"can't load {library_command.SHARED}: {error}") from error
+        self.functions = {name: getattr(library, name) for name in TAKEN}
+        for name, function in self.functions.items():
+            function.restype = ctypes.c_uint64
+            function.argtypes = TAKEN[name]
+
+    def call(self, name, *given):
+        words = []
+        for one in given:
+            words += [one] if isinstance(one, int) else [one, len(one)]
+        return self.functions[name](*words)
+
+
+def number(given):
+    return given & 0xFF
+
+
+def place(given):
+    """The place, or the length, beside the number."""
+    return given >> 8 & 0xFFFFFF
+
+
+def blocker(given):
+    return given >> 40 & 0xFF
+
+
+def buffer(room):
+    """Lent memory, all zeros."""
+    return ctypes.create_string_buffer(room)
