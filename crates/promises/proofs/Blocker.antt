@@ -20,6 +20,7 @@ use Rattle.sets.specs.declared.activity.Activity.{Activity}
 use Rattle.sets.specs.declared.set.Set.{Set}
 use Rattle.sets.specs.declared.answer.Answer.{Answer}
 use Rattle.sets.specs.declared.answer.Answer.the-variants.{Done, TooShort, WrongLetters, AboveLimit, WrongOffset, Outside, BadRow, BufferTooSmall, NoEvent, NotIncluded, Waiting, NoTrace}
+use Rattle.sets.specs.declared.answer.Answer.the-variants.{NoWayOut}
 use Rattle.sets.proofs.Tests.{and-l, and-r, and-i, non-i, non-e, T→true, F→false, true→T, false→F, split, either}
 use Rattle.sets.proofs.Below.{least-lt, least-is, least-before}
 use Rattle.sets.proofs.Asking.{done-is, ask-on, ask-stop}
@@ -88,6 +89,7 @@ beside-others NoEvent n = refl
 beside-others NotIncluded n = refl
 beside-others (Waiting b) n = absurd (n refl)
 beside-others NoTrace n = refl
+beside-others NoWayOut n = refl
 
 module _ (r : Relations) (m : Marking) (e : ℕ) where
   -- the least number that blocks is the blocker

@@ -13,7 +13,7 @@ use Rattle.sets.specs.Sizes.{mostTraces}
 use Rattle.sets.specs.Answers.{numberOf, isDone}
 use Rattle.sets.specs.declared.answer.Answer.{Answer}
 use Rattle.sets.specs.declared.answer.Answer.the-variants.{Done, TooShort, WrongLetters, AboveLimit, WrongOffset, Outside, BadRow}
-use Rattle.sets.specs.declared.answer.Answer.the-variants.{BufferTooSmall, NoEvent, NotIncluded, Waiting, NoTrace}
+use Rattle.sets.specs.declared.answer.Answer.the-variants.{BufferTooSmall, NoEvent, NotIncluded, Waiting, NoTrace, NoWayOut}
 use Rattle.sets.proofs.Below.{count-le}
 use Rattle.engine.specs.Relations.{relationsOf}
 use Rattle.engine.specs.Replay.{replayOf}
@@ -94,6 +94,7 @@ number-small NoEvent = omega arith
 number-small NotIncluded = omega arith
 number-small (Waiting b) = omega arith
 number-small NoTrace = omega arith
+number-small NoWayOut = omega arith
 
 digit-small : (b : Bool) → digit b < 10
 digit-small true = omega arith
