@@ -93,7 +93,7 @@ module _ (events : Set) (r : Relations) (m : Marking) where
   -- the search stands at a, which is open: no way begins with a lower one
   pub record Tried (n a : ℕ) : Type 0 where
     pub lower : None (begins events r n m) a
-    pub open : a < width → T (isDone (enabled events r m a))
+    pub may : a < width → T (isDone (enabled events r m a))
 
   shut : (n b : ℕ) → isDone (enabled events r m b) ≡ false → begins events r n m b ≡ false
   unfolding _and_
@@ -106,7 +106,7 @@ module _ (events : Set) (r : Relations) (m : Marking) where
         lower = λ b l. either (split (ltb b i)) (λ t. none b (ltb-true b i (T→true _ t)))
             (λ g. shut n b (sym (from-open i b (ltb-false b i (F→false _ g)))
             ∙ least-before width (openFrom events r m i) b (subst (λ (k : ℕ). b < k) e l)));
-        open = may-step i a e;
+        may = may-step i a e;
       }
 
   pub way-start : (n a : ℕ) → a ≡ leastBelow width (openFrom events r m 0) → Tried n a
@@ -126,7 +126,7 @@ module _ (events : Set) (r : Relations) (m : Marking) where
       goes = sym ends ∙ f
 
       begun : T (begins events r n m a)
-      begun = and-i _ _ (tried .open l) (true→T goes)
+      begun = and-i _ _ (tried .may l) (true→T goes)
 
       least : a ≡ leastBelow width (begins events r n m)
       least = least-here (begins events r n m) a (tried .lower) width l begun

@@ -58,11 +58,14 @@ impl Found {
         ensures { λ r. ⌜ r ≡ aheadOf (a .0) self ⌝ }
     {
         let rest = self.way;
+        let second = rest.first;
+        let third = rest.second;
+        let fourth = rest.third;
         let way = Way {
             first: a,
-            second: rest.first,
-            third: rest.second,
-            fourth: rest.third,
+            second,
+            third,
+            fourth,
         };
         Found { there: true, way }
     }
@@ -84,7 +87,7 @@ fn open_from(events: Set, relations: &Relations, m: Marking, from: u8) -> Activi
 }
 
 // The first way of exactly so many steps.
-fn way(events: Set, relations: &Relations, m: Marking, left: u8) -> Found
+fn first_way(events: Set, relations: &Relations, m: Marking, left: u8) -> Found
     ensures { λ r. ⌜ r ≡ foundOf events (inTables (now (relations .entry))) left m ⌝ }
 {
     if left == 0 {
@@ -96,7 +99,7 @@ fn way(events: Set, relations: &Relations, m: Marking, left: u8) -> Found
     }
     let mut a = open_from(events, relations, m, 0);
     while a.0 < Activity::LIMIT {
-        let rest = way(events, relations, step::next(relations, m, a), left - 1);
+        let rest = first_way(events, relations, step::next(relations, m, a), left - 1);
         if rest.there {
             return rest.ahead(a);
         }
@@ -111,11 +114,12 @@ fn shortest(events: Set, relations: &Relations, m: Marking) -> Finished
 {
     let mut steps: u8 = 0;
     while steps <= Way::LIMIT {
-        let found = way(events, relations, m, steps);
+        let found = first_way(events, relations, m, steps);
         if found.there {
+            let way = found.way;
             return Finished {
                 answer: Answer::Done,
-                way: found.way,
+                way,
             };
         }
         steps += 1;
