@@ -217,5 +217,7 @@ module _ (x a : Answer) (r : Bool) (h : a ≡ x) (k : r ≡ isDone a) where
   finish-done F G t e = taken (isDone x) F _ G (held (isDone x) r (k ∙ ap isDone h) t) e
 
 pub ruleset opening = (open-start, open-found, open-more, open-none)
+
 pub ruleset searching = (way-here, way-start, way-turn, way-found, way-ends, nearer)
+
 pub ruleset shortening = (none-first, shortest-more, shortest-found, shortest-none)
