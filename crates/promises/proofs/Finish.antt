@@ -46,17 +46,19 @@ when-17 false x y p q = q
 graph-17 : (g : Graph) → Not17 (judgedFor g 0)
 unfolding judgedFor
 graph-17 g =
-    when-17 (ltb mostActivities (g .head .activities)) AboveLimit _ (λ h. h)
-    (when-17 (ltb longestTrace 0) AboveLimit _ (λ h. h) (when-17 (non (graphWithin g)) Outside Done (λ h. h) (λ h. h)))
+    let third = when-17 (non (graphWithin g)) Outside Done (λ h. h) (λ h. h) in
+    let second = when-17 (ltb longestTrace 0) AboveLimit (when non (graphWithin g) then Outside else Done) (λ h. h) third in
+    when-17 (ltb mostActivities (g .head .activities)) AboveLimit
+    (when ltb longestTrace 0 then AboveLimit else when non (graphWithin g) then Outside else Done) (λ h. h) second
 
 judged-17 : (g : Graph) (m : Marking) → Not17 (judgedWith g m)
 unfolding judgedWith
 judged-17 g m =
-    when-17 (isDone (judgedFor g 0)) _ (judgedFor g 0)
+    when-17 (isDone (judgedFor g 0)) (when markingWithin (g .head .events) m then Done else Outside) (judgedFor g 0)
     (when-17 (markingWithin (g .head .events) m) Done Outside (λ h. h) (λ h. h)) (graph-17 g)
 
-is-17 : {a : Answer} → numberOf a ≡ 17 → T (eqb (numberOf a) 17)
-is-17 e = true→T (ap (λ (n : ℕ). eqb n 17) e)
+is-17 : (a : Answer) → numberOf a ≡ 17 → T (eqb (numberOf a) 17)
+is-17 a e = true→T (ap (λ (n : ℕ). eqb n 17) e)
 
 module _ (g : Graph) (m : Marking) (f : Finished) (c : finish-gives g m f) where
   abbrev events : Set
@@ -107,14 +109,14 @@ module _ (g : Graph) (m : Marking) (f : Finished) (c : finish-gives g m f) where
       way-out d =
           either found-or-none
           (λ h. (wayOf events r (fewest events r m) m, ap (λ (x : Finished). x .way) (h .1), fewest-way events r w m (h .0)))
-          (λ h. absurd (true→T (ap isDone (sym d ∙ ap (λ (x : Finished). x .answer) (h .1)))))
+          (λ h. absurd (false→F (ap isDone (sym d ∙ ap (λ (x : Finished). x .answer) (h .1))) tt))
 
       -- ================ 3. "17, EXACTLY WHEN NO SUCH SEQUENCE OF 4 OR FEWER STEPS EXISTS"
 
       none-then : NoWay events r m → f ≡ finishedBy NoWayOut []
-      none-then no =
+      none-then away =
           either found-or-none
-          (λ h. let out = fewest-way events r w m (h .0) in absurd (no (wayOf events r (fewest events r m) m) (out .few) (out .finishing)))
+          (λ h. let out = fewest-way events r w m (h .0) in absurd (away (wayOf events r (fewest events r m) m) (out .few) (out .finishing)))
           (λ h. h .1)
 
       then-none : T (eqb (numberOf (f .answer)) 17) → NoWay events r m
@@ -126,11 +128,11 @@ module _ (g : Graph) (m : Marking) (f : Finished) (c : finish-gives g m f) where
   pub given-17 : Whole events → numberOf (f .answer) ≡ 17 → (judgedWith g m ≡ Done) × NoWay events r m
   given-17 w e =
       either (split (isDone (judgedWith g m)))
-      (λ t. let ok = done-is (judgedWith g m) (T→true _ t) in (ok, then-none ok w (is-17 e)))
-      (λ t. absurd (judged-17 g m (subst (λ (x : Finished). T (eqb (numberOf (x .answer)) 17)) (judged-first (F→false _ t)) (is-17 e))))
+      (λ t. let ok = done-is (judgedWith g m) (T→true _ t) in (ok, then-none ok w (is-17 (f .answer) e)))
+      (λ t. absurd (judged-17 g m (subst (λ (x : Finished). T (eqb (numberOf (x .answer)) 17)) (judged-first (F→false _ t)) (is-17 (f .answer) e))))
 
   pub gives-17 : Whole events → judgedWith g m ≡ Done → NoWay events r m → numberOf (f .answer) ≡ 17
-  gives-17 w ok no = ap (λ (x : Finished). numberOf (x .answer)) (none-then ok w no)
+  gives-17 w ok away = ap (λ (x : Finished). numberOf (x .answer)) (none-then ok w away)
 
   -- ================ 4. A REFUSAL RETURNS FOUR 255S
 
