@@ -1,0 +1,5 @@
+// How a half-done call can still finish (02, 8/12).
+pub mod search;
+
+pub use search::Finished;
+pub use search::Way;
