@@ -1,2 +1,3 @@
 pub mod Port
 pub mod Classroom
+pub mod WayOut

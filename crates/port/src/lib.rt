@@ -10,6 +10,7 @@ ghost use Rattle.report.specs.Listing.{listingAfter};
 ghost use Rattle.report.specs.Summary.{summaryAfter};
 
 pub mod classroom;
+pub mod way_out;
 
 use engine::Graph;
 use engine::Marking;
