@@ -29,10 +29,17 @@ def share():
         raise Fault(f"cc could not make {SHARED}") from error
 
 
+def build():
+    """Both of today's sources. What is newer than the archive was made of it."""
+    program.made("the library", ARCHIVE, [os.path.join(program.ROOT, "compare", "staticlib")])
+    archive, shared = (os.path.join(program.ROOT, path) for path in (ARCHIVE, SHARED))
+    if not os.path.exists(shared) or os.path.getmtime(shared) <= os.path.getmtime(archive):
+        share()
+
+
 def main(words):
     Parser(prog="./library", description=ABOUT).parse_args(words)
-    program.made("the library", ARCHIVE, [os.path.join(program.ROOT, "compare", "staticlib")])
-    share()
+    build()
     write(f"{ARCHIVE}\n{SHARED}\n".encode())
     return 0
 
