@@ -15,6 +15,8 @@ pub enum Function {
     PlainReplay,
     Fill,
     Summary,
+    Finish,
+    ShutBy,
 }
 
 pub struct Call<'a> {

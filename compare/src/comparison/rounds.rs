@@ -1,5 +1,5 @@
 //! Which inputs are tried: some sets of logs once, then rounds of seeded ones.
-use super::{plain_rounds, Comparison};
+use super::{finish, plain_rounds, Comparison};
 use crate::door::{FULL, GRAPH_ROOM, LIGHT, SUMMARY_ROOM};
 use crate::seeds::{damage, graphs, logs, shapes, Prng};
 use crate::{judge, seeds};
@@ -34,6 +34,7 @@ pub fn once(comparison: &mut Comparison) {
         );
     }
     plain_rounds::once(comparison, &mut prng);
+    finish::once(comparison, &mut prng);
 }
 
 pub fn round(comparison: &mut Comparison, seed: u64) {
@@ -50,6 +51,7 @@ pub fn round(comparison: &mut Comparison, seed: u64) {
         on_random_graph(comparison, &mut prng);
     }
     plain_rounds::round(comparison, &mut prng);
+    finish::round(comparison, &mut prng);
 }
 
 fn on_log(comparison: &mut Comparison, prng: &mut Prng, kind: &'static str, log: &[u8]) {

@@ -6,6 +6,7 @@ use std::collections::BTreeSet;
 pub mod door;
 pub mod engine;
 pub mod facts;
+pub mod finish;
 pub mod graph;
 pub mod graph_file;
 pub mod listing;

@@ -1,5 +1,6 @@
 //! Inputs from seeds: the same seed gives the same bytes on every machine.
 pub mod damage;
+pub mod finish;
 pub mod graphs;
 pub mod logs;
 pub mod plain;
