@@ -203,7 +203,8 @@ def settled(call, step, given):
     before, opened = call.owed(), call.open()
     call.step(step)
     after = call.owed()
-    parts = [f"settles {given.listed([other for other in before if other not in after])}"]
+    gone = [other for other in before if other not in after]
+    parts = [f"settles {given.listed(gone)}" if gone else "settles nothing yet"]
     freed = [other for other in call.open() if other not in opened and other in after]
     if freed:
         parts.append(f"opens {given.listed(freed)}")

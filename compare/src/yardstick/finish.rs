@@ -85,7 +85,14 @@ fn after(graph: &GraphValue, m: &MarkingValue, e: u8) -> MarkingValue {
 }
 
 /// The first way of so many steps, from place `at` of the four on.
-fn way(graph: &GraphValue, tables: &Tables, m: &MarkingValue, at: usize, end: usize, found: &mut [u8; 4]) -> bool {
+fn way(
+    graph: &GraphValue,
+    tables: &Tables,
+    m: &MarkingValue,
+    at: usize,
+    end: usize,
+    found: &mut [u8; 4],
+) -> bool {
     if at + 1 == end {
         return match last(graph, tables, m) {
             None => false,

@@ -2,6 +2,7 @@
 //! the inputs that the comparison makes: this tries the generators, not the judge.
 mod engine;
 mod files;
+mod finish;
 mod mining;
 mod plain;
 mod wrong_steps;
