@@ -1,5 +1,5 @@
 -- What shut a step out, one event further. Assumes nothing.
-use mathlib.Core.Path.{_≡_, refl, sym, ap, _∙_}
+use mathlib.Core.Path.{_≡_, sym, ap, ap₂, _∙_}
 use mathlib.Core.Bool.{Bool, true, false}
 use mathlib.Core.List.{List}
 use Prim.Native.Nat.{ℕ, suc, _+_, _≤_, _<_}
@@ -16,35 +16,29 @@ use Rattle.finish.specs.Shut.{nothing, shutAfter, shutFrom, shutBy}
 
 -- ---- one event
 
-module _ (tables : List ℕ) (a last e : ℕ) where
+pub pair-of : (tables : List ℕ) (k e a : ℕ) (s : Set) (t : Bool) → s ≡ rowAt (tableAt tables k) e → t ≡ mem s a
+    → t ≡ inRow (tableAt tables k) e a
+unfolding inRow
+pair-of tables k e a s t hs ht = ht ∙ ap (λ (u : Set). mem u a) hs
+
+module _ (tables : List ℕ) (a last e : ℕ) (t : Bool) (lets : t ≡ inRow (tableAt tables 2) e a) where
   abbrev told : Bool → Bool → ℕ
-  told lets shuts = when lets then nothing else when shuts then e else last
+  told l s = when l then nothing else when s then e else last
 
-  module _ (s : Set) (t : Bool) (hs : s ≡ rowAt (tableAt tables 2) e) (ht : t ≡ mem s a) where
-    lets : t ≡ inRow (tableAt tables 2) e a
-    unfolding inRow
-    lets = ht ∙ ap (λ (u : Set). mem u a) hs
+  pub let-in : t ≡ true → nothing ≡ shutAfter (inTables tables) a last e
+  unfolding shutAfter
+  let-in y = ap (λ (b : Bool). told b (inRow (tableAt tables 3) e a)) (sym y ∙ lets)
 
-    pub let-in : t ≡ true → nothing ≡ shutAfter (inTables tables) a last e
+  module _ (v : Bool) (n : t ≡ false) (shuts : v ≡ inRow (tableAt tables 3) e a) where
+    both : (x : Bool) → v ≡ x → told false x ≡ shutAfter (inTables tables) a last e
     unfolding shutAfter
-    let-in y = ap (λ (b : Bool). told b (inRow (tableAt tables 3) e a)) (sym y ∙ lets)
+    both x h = ap₂ told (sym n ∙ lets) (sym h ∙ shuts)
 
-    module _ (u : Set) (v : Bool) (n : t ≡ false) (hu : u ≡ rowAt (tableAt tables 3) e) (hv : v ≡ mem u a) where
-      shuts : v ≡ inRow (tableAt tables 3) e a
-      unfolding inRow
-      shuts = hv ∙ ap (λ (w : Set). mem w a) hu
+    pub shut-out : v ≡ true → e ≡ shutAfter (inTables tables) a last e
+    shut-out y = both true y
 
-      both : (x : Bool) → v ≡ x → told false x ≡ shutAfter (inTables tables) a last e
-      unfolding shutAfter
-      both x h =
-          ap (λ (b : Bool). told b x) (sym n ∙ lets)
-          ∙ ap (λ (b : Bool). told (inRow (tableAt tables 2) e a) b) (sym h ∙ shuts)
-
-      pub shut-out : v ≡ true → e ≡ shutAfter (inTables tables) a last e
-      shut-out y = both true y
-
-      pub as-it-was : v ≡ false → last ≡ shutAfter (inTables tables) a last e
-      as-it-was y = both false y
+    pub as-it-was : v ≡ false → last ≡ shutAfter (inTables tables) a last e
+    as-it-was y = both false y
 
 pub ruleset shutting = (let-in, shut-out, as-it-was)
 

@@ -1,5 +1,7 @@
 // What shut a step out: for a person who asks why it is refused with 9 (02, 8/12).
 ghost use mathlib.Core.Path.{_≡_};
+ghost use Rattle.sets.specs.Rows.{inRow};
+ghost use Rattle.sets.specs.Tables.{tableAt};
 ghost use Rattle.engine.specs.Relations.{inTables};
 ghost use Rattle.finish.specs.Shut.{shutAfter, shutBy};
 use engine::Relations;
@@ -11,14 +13,21 @@ use sets::tables;
 // What stands where nothing did.
 pub const NOTHING: Activity = Activity(255);
 
+// Whether an event has the step in its row of a relation.
+fn has_pair(relations: &Relations, relation: u8, e: Activity, a: Activity) -> bool
+    ensures { λ r. ⌜ r ≡ inRow (tableAt (now (relations .entry)) relation) (e .0) (a .0) ⌝ }
+{
+    tables::row(relations, relation, e).has(a)
+}
+
 // One event more: it lets the step in, shuts it out, or leaves it as it is. An include wins, as in a step.
 fn shut_after(relations: &Relations, last: Activity, e: Activity, a: Activity) -> Activity
     ensures { λ r. ⌜ r .0 ≡ shutAfter (inTables (now (relations .entry))) (a .0) (last .0) (e .0) ⌝ }
 {
-    if tables::row(relations, INCLUDES, e).has(a) {
+    if has_pair(relations, INCLUDES, e, a) {
         return NOTHING;
     }
-    if tables::row(relations, EXCLUDES, e).has(a) {
+    if has_pair(relations, EXCLUDES, e, a) {
         return e;
     }
     last

@@ -6,5 +6,5 @@ use Rattle.finish.proofs.shut.shut_after.Tie as tie
 pub shut-after-spec : {M : Type 1} → statement M
 shut-after-spec =
     tie.close
-    (tie.spec (λ c κs. search needs) (λ c κs. search needs) (λ c. search (shutting, needs)) (λ c κs. search needs) (λ c κs. search needs)
-    (λ c. search (shutting, needs)) (λ c. search (shutting, needs)))
+    (tie.spec (λ c κs. search needs) (λ c. search (shutting, needs)) (λ c κs. search needs) (λ c. search (shutting, needs))
+    (λ c. search (shutting, needs)))
