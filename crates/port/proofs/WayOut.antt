@@ -91,14 +91,14 @@ module _ (file marking way : List ℕ) (f : Finished) (hf : f ≡ finishIn file 
   tested : (t x : Bool) → t ≡ isDone (f .answer) → t ≡ x → isDone (finishIn file marking (length way) .answer) ≡ x
   tested t x ht e = sym (ap (λ (y : Finished). isDone (y .answer)) hf) ∙ sym ht ∙ e
 
-  pub way-given : (t : Bool) (way′ : List ℕ) → t ≡ isDone (f .answer) → t ≡ true → way′ ≡ wayInto (f .way) way
+  pub way-given : (t : Bool) (way′ : List ℕ) → t ≡ isDone (f .answer) → not t ≡ false → way′ ≡ wayInto (f .way) way
       → way′ ≡ finishBytes file marking way
   unfolding finishBytes
-  way-given t way′ ht y e = e ∙ ap (λ (x : Finished). wayInto (x .way) way) hf ∙ sym (ap left (tested t true ht y))
+  way-given t way′ ht y e = e ∙ ap (λ (x : Finished). wayInto (x .way) way) hf ∙ sym (ap left (tested t true ht (not-false t y)))
 
-  pub way-kept : (t : Bool) → t ≡ isDone (f .answer) → t ≡ false → way ≡ finishBytes file marking way
+  pub way-kept : (t : Bool) → t ≡ isDone (f .answer) → not t ≡ true → way ≡ finishBytes file marking way
   unfolding finishBytes
-  way-kept t ht y = sym (ap left (tested t false ht y))
+  way-kept t ht y = sym (ap left (tested t false ht (not-true t y)))
 
 pub ruleset finishing = (finish-number, way-given, way-kept)
 

@@ -57,16 +57,21 @@ fn finished<'a>(file: &'a [u8], marking: &'a [u8], room: usize) -> Finished
 
 // The way out from a marking of 24 bytes into four lent bytes, 255 in those that are not used; they stay as they were where it is refused.
 #[no_mangle]
-pub extern "C" fn skelfora_finish<'a, 'w>(file: &'a [u8], marking: &'a [u8], way: &'w mut [u8]) -> u64
+pub extern "C" fn skelfora_finish<'a, 'w>(
+    file: &'a [u8],
+    marking: &'a [u8],
+    way: &'w mut [u8],
+) -> u64
     ensures { λ r. ⌜ r ≡ finishNumber (now (file .entry)) (now (marking .entry)) (length (now (way .entry))) ⌝ }
     ensures { λ _. ⌜ now (way .exit) ≡ finishBytes (now (file .entry)) (now (marking .entry)) (now (way .entry)) ⌝ }
 {
     let f = finished(file, marking, way.len());
     let answer = f.answer;
-    if answer.is_done() {
-        let steps = f.way;
-        put_way(steps, way);
+    if !answer.is_done() {
+        return answer.number() as u64;
     }
+    let steps = f.way;
+    put_way(steps, way);
     answer.number() as u64
 }
 
