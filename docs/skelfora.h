@@ -23,7 +23,8 @@ enum {
     SKELFORA_NO_EVENT = 8,
     SKELFORA_NOT_INCLUDED = 9,
     SKELFORA_WAITING = 10,
-    SKELFORA_NO_TRACE = 11
+    SKELFORA_NO_TRACE = 11,
+    SKELFORA_NO_WAY_OUT = 17
 };
 
 /* What skelfora_blocker gives beside every number but SKELFORA_WAITING. */

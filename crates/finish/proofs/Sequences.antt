@@ -1,38 +1,27 @@
 -- What the definitions of the search say of finishing sequences: a way of n steps is one, and the first of its length; where a sequence
 -- of n steps finishes, there is a way of n steps. Assumes nothing.
 use mathlib.Core.Path.{_≡_, refl, sym, ap, subst, _∙_}
-use mathlib.Core.Bool.{Bool, true, false}
 use mathlib.Core.List.{List, [], _∷_}
 use Prim.Native.Nat.{ℕ, zero, suc, _≤_, _<_}
 use native.Mathlib.Omega.{arith}
 use borrow.Author.Tests.{ltb-true, ltb-false}
 use lib.Dec.{T, eqb, ltb}
 use lib.ListN.{length}
-use Rattle.sets.specs.Tests.{_and_, _or_, non, when_then_else_}
+use Rattle.sets.specs.Tests.{_and_, _or_}
 use Rattle.sets.specs.Members.{width, mem, someBelow, leastBelow}
 use Rattle.sets.specs.Answers.{isDone}
-use Rattle.sets.specs.declared.activity.Activity.{Activity}
 use Rattle.sets.specs.declared.set.Set.{Set}
-use Rattle.sets.specs.declared.answer.Answer.the-variants.{Done, NoEvent, NotIncluded, Waiting}
-use Rattle.sets.proofs.Tests.{and-l, and-r, and-i, or-l, or-r, T→true, F→false, false→F, non-false, eqb-of, split, either}
+use Rattle.sets.proofs.Tests.{and-l, and-r, and-i, or-l, or-r, T→true, F→false, false→F, eqb-of, split, either}
 use Rattle.sets.proofs.Below.{some-i, least-is, least-lt, least-before}
 use Rattle.sets.proofs.Members.{Whole, whole-low}
 use Rattle.engine.specs.declared.marking.Marking.{Marking}
 use Rattle.engine.specs.Relations.{Relations}
-use Rattle.engine.specs.Steps.{waits, blocker, enabled, after, accepting}
+use Rattle.engine.specs.Steps.{enabled, after}
 use Rattle.finish.specs.Ways.{mostSteps, canFinish, begins, wayOf, fewest}
+use Rattle.finish.proofs.Settling.{enabled-live}
 use Rattle.finish.specs.Sequences.{finishes, noLater, WayOut, NoWay}
 
 module _ (events : Set) (r : Relations) where
-  -- only an event is enabled
-  pub enabled-event : (m : Marking) (a : ℕ) → T (isDone (enabled events r m a)) → T (mem events a)
-  unfolding enabled
-  enabled-event m a t = non-false (mem events a) (by (non (mem events a)) (non (mem (m .included) a)) (waits r m a) (blocker r m a) t)
-    where
-      by : (x y z : Bool) (b : Activity) → T (isDone (when x then NoEvent else when y then NotIncluded else when z then Waiting b else Done)) → x ≡ false
-      by true y z b h = absurd h
-      by false y z b h = refl
-
   -- ---- a way is a finishing sequence
 
   pub way-length : (n : ℕ) (m : Marking) → length (wayOf events r n m) ≡ n
@@ -54,7 +43,7 @@ module _ (events : Set) (r : Relations) where
     unfolding canFinish finishes
     finishes-can [] m t = t
     finishes-can (a ∷ σ) m t =
-        some-i width (begins events r (length σ) m) a (whole-low events w a (enabled-event m a (and-l _ _ t)))
+        some-i width (begins events r (length σ) m) a (whole-low events w a (enabled-live events r m a (and-l _ _ t) .0))
         (and-i _ _ (and-l _ _ t) (finishes-can σ (after r m a) (and-r _ _ t)))
 
     -- the way comes no later than any other of its length

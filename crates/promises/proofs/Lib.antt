@@ -12,3 +12,4 @@ pub mod StandIns
 pub mod Counts
 pub mod PlainEngine
 pub mod Blocker
+pub mod Finish
