@@ -49,10 +49,6 @@ none-first p b l = absurd (not-suc-le-zero l)
 
 -- ---- the least of some that is open
 
-in-rest : (live low : Set) (i : ℕ) (rest : Set) → low ≡ those (λ b. ltb b i) → rest ≡ those (λ b. mem live b and non (mem low b))
-    → (b : ℕ) → b < width → mem rest b ≡ (mem live b and non (ltb b i))
-in-rest live low i rest hl hr = is-those rest _ (less live low rest (mem live) (λ b. ltb b i) (λ b l. refl) (is-those low _ hl) hr)
-
 module _ (events : Set) (r : Relations) (m : Marking) (rest : Set) where
   abbrev opens : ℕ → Bool
   opens b = mem rest b and isDone (enabled events r m b)
@@ -62,6 +58,13 @@ module _ (events : Set) (r : Relations) (m : Marking) (rest : Set) where
     pub lower : None opens a
     pub member : a < width → T (mem rest a)
 
+  -- the rest are those that are live, from a number on
+  open-live : (live low : Set) (i : ℕ) → low ≡ those (λ b. ltb b i) → rest ≡ those (λ b. mem live b and non (mem low b))
+      → leastBelow width opens ≡ leastBelow width (openFrom live events r m i)
+  open-live live low i hl hr =
+      let now = is-those rest _ (less live low rest (mem live) (λ b. ltb b i) (λ b l. refl) (is-those low _ hl) hr) in
+      least-ext width opens (openFrom live events r m i) (λ b l. ap (λ (x : Bool). x and isDone (enabled events r m b)) (now b l))
+
   pub open-start : (a : ℕ) → a ≡ leastBelow width (mem rest) → Asked a
   open-start a e =
       record {
@@ -69,7 +72,8 @@ module _ (events : Set) (r : Relations) (m : Marking) (rest : Set) where
         member = λ l. subst (λ (k : ℕ). T (mem rest k)) (sym e) (least-is width (mem rest) (subst (λ (k : ℕ). k < width) e l));
       }
 
-  module _ (a : ℕ) (answer : Answer) (d : Bool) (inv : Asked a) (l : a < width) (ha : answer ≡ enabled events r m a) (hd : d ≡ isDone answer) where
+  module _ (a : ℕ) (answer : Answer) (d : Bool) (inv : Asked a) (l : a < width) (ha : answer ≡ enabled events r m a)
+      (hd : d ≡ isDone answer) where
     told : d ≡ isDone (enabled events r m a)
     told = hd ∙ ap isDone ha
 
@@ -93,18 +97,17 @@ module _ (events : Set) (r : Relations) (m : Marking) (rest : Set) where
             let same : b ≡ a = omega arith in
             false→F (sym told ∙ f) (subst (λ (k : ℕ). T (isDone (enabled events r m k))) same (and-r _ _ t))))
 
-    -- the rest are those that are live, from a number on
     module _ (live low : Set) (i : ℕ) (hl : low ≡ those (λ b. ltb b i)) (hr : rest ≡ those (λ b. mem live b and non (mem low b))) where
       pub open-found : d ≡ true → a ≡ leastBelow width (openFrom live events r m i)
       open-found t =
           least-here opens a (inv .lower) width l (and-i _ _ (inv .member l) (true→T (sym told ∙ t)))
-          ∙ least-ext width opens (openFrom live events r m i) (λ b k. ap (λ (x : Bool). x and isDone (enabled events r m b)) (in-rest live low i rest hl hr b k))
+          ∙ open-live live low i hl hr
 
   pub open-none : (a : ℕ) → Asked a → width ≤ a → (live low : Set) (i : ℕ) → low ≡ those (λ b. ltb b i)
       → rest ≡ those (λ b. mem live b and non (mem low b)) → width ≡ leastBelow width (openFrom live events r m i)
   open-none a inv l live low i hl hr =
       least-nowhere opens a (inv .lower) width l
-      ∙ least-ext width opens (openFrom live events r m i) (λ b k. ap (λ (x : Bool). x and isDone (enabled events r m b)) (in-rest live low i rest hl hr b k))
+      ∙ open-live live low i hl hr
 
 module _ (events : Set) (r : Relations) (m : Marking) where
   -- it is open, and no lower than where the search began
@@ -130,7 +133,8 @@ module _ (events : Set) (r : Relations) (m : Marking) where
     pub lower : None (begins events r n m) a
     pub may : a < width → T (isDone (enabled events r m a))
 
-  ends : (n a : ℕ) (m′ : Marking) (rest : Found) → m′ ≡ after r m a → rest ≡ foundOf events r n m′ → rest .there ≡ canFinish events r n (after r m a)
+  ends : (n a : ℕ) (m′ : Marking) (rest : Found) → m′ ≡ after r m a → rest ≡ foundOf events r n m′
+      → rest .there ≡ canFinish events r n (after r m a)
   ends n a m′ rest hm hr = ap (λ (f : Found). f .there) hr ∙ ap (canFinish events r n) hm
 
   -- from a number on, to the next that is open; no way begins with one that is not live
@@ -146,7 +150,8 @@ module _ (events : Set) (r : Relations) (m : Marking) where
         may = λ l. and-r _ _ (is-open live i a e l);
       }
 
-  module _ (left : ℕ) (live : Set) (settlers : List ℕ) (hl : live ≡ candidatesOf events settlers m left) (hs : settlers ≡ settlersOf events r) where
+  module _ (left : ℕ) (live : Set) (settlers : List ℕ) (hl : live ≡ candidatesOf events settlers m left)
+      (hs : settlers ≡ settlersOf events r) where
     pub way-start : (a : ℕ) → a ≡ leastBelow width (openFrom live events r m 0) → Tried (left - 1) a
     way-start a e = on (left - 1) 0 a live (tried-all events r m left live settlers hl hs) (none-first (begins events r (left - 1) m)) e
 
@@ -210,8 +215,8 @@ module _ (events : Set) (r : Relations) (m : Marking) where
     some-left : suc (left - 1) ≡ left
     some-left = let p : 0 < left = pos-of-ne-zero h in omega arith
 
-    pub way-found : (m′ : Marking) (rest out : Found) → a < width → m′ ≡ after r m a → rest ≡ foundOf events r (left - 1) m′ → rest .there ≡ true
-        → out ≡ aheadOf a rest → out ≡ foundOf events r left m
+    pub way-found : (m′ : Marking) (rest out : Found) → a < width → m′ ≡ after r m a → rest ≡ foundOf events r (left - 1) m′
+        → rest .there ≡ true → out ≡ aheadOf a rest → out ≡ foundOf events r left m
     way-found m′ rest out l hm hr f ho =
         way-more (left - 1) a m′ rest tried hm hr l f out ho ∙ ap (λ (n : ℕ). foundOf events r n m) some-left
 
@@ -230,7 +235,8 @@ module _ (events : Set) (r : Relations) (m : Marking) where
     pub shortest-found : n ≤ mostSteps → f .there ≡ true → record { answer = Done; way = f .way } ≡ shortestOf events r m
     unfolding shortestOf fewest
     shortest-found l e =
-        let here : n ≡ fewest events r m = least-here (λ k. canFinish events r k m) n none (suc mostSteps) (omega arith) (true→T (sym found-there ∙ e)) in
+        let here : n ≡ fewest events r m =
+        least-here (λ k. canFinish events r k m) n none (suc mostSteps) (omega arith) (true→T (sym found-there ∙ e)) in
         ap (λ (x : Found). record { answer = Done; way = x .way })
         (hf ∙ ap (λ (t : Bool). record { there = t; way = inFour (when t then wayOf events r n m else []) }) (sym found-there ∙ e))
         ∙ ap (λ (k : ℕ). finishedBy Done (wayOf events r k m)) here

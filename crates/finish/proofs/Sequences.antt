@@ -3,10 +3,11 @@
 use mathlib.Core.Path.{_≡_, refl, sym, ap, subst, _∙_}
 use mathlib.Core.List.{List, [], _∷_}
 use Prim.Native.Nat.{ℕ, zero, suc, _≤_, _<_}
+use native.Mathlib.Nat.{not-suc-le-zero, le-of-suc-le-suc}
 use native.Mathlib.Omega.{arith}
 use borrow.Author.Tests.{ltb-true, ltb-false}
 use lib.Dec.{T, eqb, ltb}
-use lib.ListN.{length}
+use lib.ListN.{length, getD}
 use Rattle.sets.specs.Tests.{_and_, _or_}
 use Rattle.sets.specs.Members.{width, mem, someBelow, leastBelow}
 use Rattle.sets.specs.Answers.{isDone}
@@ -17,7 +18,7 @@ use Rattle.sets.proofs.Members.{Whole, whole-low}
 use Rattle.engine.specs.declared.marking.Marking.{Marking}
 use Rattle.engine.specs.Relations.{Relations}
 use Rattle.engine.specs.Steps.{enabled, after}
-use Rattle.finish.specs.Ways.{mostSteps, canFinish, begins, wayOf, fewest}
+use Rattle.finish.specs.Ways.{mostSteps, canFinish, begins, wayOf, fewest, unused}
 use Rattle.finish.proofs.Settling.{enabled-live}
 use Rattle.finish.specs.Sequences.{finishes, noLater, WayOut, NoWay}
 
@@ -35,6 +36,12 @@ module _ (events : Set) (r : Relations) where
   way-finishes (suc n) m t =
       let h = least-is width (begins events r n m) (least-lt width (begins events r n m) t) in
       and-i _ _ (and-l _ _ h) (way-finishes n (after r m (leastBelow width (begins events r n m))) (and-r _ _ h))
+
+  pub finishing-events : (σ : List ℕ) (m : Marking) → T (finishes events r m σ) → (k : ℕ) → k < length σ → T (mem events (getD σ k unused))
+  unfolding finishes
+  finishing-events [] m t k l = absurd (not-suc-le-zero l)
+  finishing-events (a ∷ σ) m t zero l = enabled-live events r m a (and-l _ _ t) .0
+  finishing-events (a ∷ σ) m t (suc k) l = finishing-events σ (after r m a) (and-r _ _ t) k (le-of-suc-le-suc l)
 
   -- ---- any finishing sequence, where the events are a set as the code has it
 
@@ -63,7 +70,9 @@ module _ (events : Set) (r : Relations) where
             (λ g.
             let high : b ≤ a = ltb-false a b (F→false _ g) in
             let low : a ≤ b = either (split (ltb b a))
-            (λ l. absurd (false→F (least-before width (begins events r (length σ) m) b (subst (λ (k : ℕ). b < k) e (ltb-true b a (T→true _ l)))) begun))
+            (λ l.
+            let before = subst (λ (k : ℕ). b < k) e (ltb-true b a (T→true _ l)) in
+            absurd (false→F (least-before width (begins events r (length σ) m) b before) begun))
             (λ l. ltb-false b a (F→false _ l)) in
             let same : a ≡ b = omega arith in
             or-r _ _ (and-i _ _ (eqb-of same) (subst (λ (k : ℕ). T (noLater (wayOf events r (length σ) (after r m k)) σ)) (sym same) ih)))
@@ -80,10 +89,13 @@ module _ (events : Set) (r : Relations) where
       fewest-way l =
           let n = fewest events r m in
           let long : length (wayOf events r n m) ≡ n = way-length n m in
+          let ends = way-finishes n m (least-is (suc mostSteps) (λ k. canFinish events r k m) (omega arith)) in
           record {
             few = omega arith;
-            finishing = way-finishes n m (least-is (suc mostSteps) (λ k. canFinish events r k m) (omega arith));
-            shortest = λ τ t. either (split (ltb (length τ) n)) (λ h. absurd (below-fewest (length τ) (ltb-true (length τ) n (T→true _ h)) (finishes-can τ m t)))
+            finishing = ends;
+            used = finishing-events (wayOf events r n m) m ends;
+            shortest = λ τ t. either (split (ltb (length τ) n))
+                (λ h. absurd (below-fewest (length τ) (ltb-true (length τ) n (T→true _ h)) (finishes-can τ m t)))
                 (λ h. omega (arith, ltb-false (length τ) n (F→false _ h)));
             first = λ τ t e. subst (λ (k : ℕ). T (noLater (wayOf events r k m) τ)) (e ∙ long) (way-first τ m t);
           }

@@ -14,7 +14,8 @@ use Rattle.sets.specs.Answers.{isDone}
 use Rattle.sets.specs.declared.activity.Activity.{Activity}
 use Rattle.sets.specs.declared.set.Set.{Set}
 use Rattle.sets.specs.declared.answer.Answer.the-variants.{Done, NoEvent, NotIncluded, Waiting}
-use Rattle.sets.proofs.Tests.{and-l, and-r, and-i, or-l, or-r, non-i, non-e, imp-i, imp-e, T-eq, T-ext, true→T, F→false, non-false, split, either}
+use Rattle.sets.proofs.Tests.{and-l, and-r, and-i, or-l, or-r, non-i, non-e, imp-i, imp-e, non-false}
+use Rattle.sets.proofs.Tests.{T-eq, T-ext, true→T, F→false, split, either}
 use Rattle.sets.proofs.Below.{some-i, some-e, every-i, every-e, least-is}
 use Rattle.sets.proofs.Members.{Fits, Whole, those-ext, those-mem, those-i, those-e, none-those, some-of, empty-e, empty-none, whole-empty}
 use Rattle.sets.proofs.RowLaws.{in-rowsOf}
@@ -53,7 +54,8 @@ module _ (tables : List ℕ) (a : ℕ) where
     settled-some shut lost one out n hs hl h1 h =
         let gone = less shut gained lost (r .excludes a) (r .includes a) (is-row shut _ a hs) (is-row gained _ a hg) hl in
         where-true d _ owes-none lets-go out
-        (joined _or_ lost one out (λ x. r .excludes a x and non (r .includes a x)) (λ x. eqb x a) (is-those lost _ gone) (is-those one _ h1) h)
+        (joined _or_ lost one out (λ x. r .excludes a x and non (r .includes a x)) (λ x. eqb x a)
+        (is-those lost _ gone) (is-those one _ h1) h)
         (not-false d n)
 
 pub settlers-by : (events : Set) (q : Relations) (rows out : List ℕ) → rows ≡ rowsFor events (settles q) → out ≡ rowsOf (turned rows)
@@ -120,7 +122,8 @@ module _ (rows : List ℕ) where
             and-i _ _
             (T-eq (sym (is-those out′ _ ho a l))
             (and-i _ _ (and-l _ _ t) (imp-e _ _ (every-e width _ (and-r _ _ t) k lk) (least-is width (mem rest) lk))))
-            (every-i width _ (λ x lx. imp-i _ _ (λ q. imp-e _ _ (every-e width _ (and-r _ _ t) x lx) (and-l _ _ (T-eq (is-those rest′ _ hm x lx) q)))))
+            (every-i width _ (λ x lx. imp-i _ _ (λ q.
+            imp-e _ _ (every-e width _ (and-r _ _ t) x lx) (and-l _ _ (T-eq (is-those rest′ _ hm x lx) q)))))
 
         pub narrow-turn : Narrowing live owed out′ rest′
         narrow-turn =
@@ -148,7 +151,8 @@ module _ (events : Set) (settlers : List ℕ) (m : Marking) (left : ℕ) where
       h ∙ ap (λ (t : Bool). when t then those (inAll settlers (liveAt events m) (owedAt m)) else liveAt events m) (sym (ne-eqb left 1 n))
 
 -- only an event that is included is enabled
-pub enabled-live : (events : Set) (q : Relations) (m : Marking) (a : ℕ) → T (isDone (enabled events q m a)) → T (mem events a) × T (mem (m .included) a)
+pub enabled-live : (events : Set) (q : Relations) (m : Marking) (a : ℕ) → T (isDone (enabled events q m a))
+    → T (mem events a) × T (mem (m .included) a)
 unfolding enabled
 enabled-live events q m a t =
     let h = by (non (mem events a)) (non (mem (m .included) a)) (waits q m a) (blocker q m a) t in
