@@ -2,20 +2,20 @@
 use mathlib.Core.Path.{_≡_, refl, sym, ap, subst, _∙_}
 use mathlib.Core.Bool.{Bool, true, false, not}
 use mathlib.Core.List.{List, [], _∷_}
-use Prim.Native.Nat.{ℕ, zero, suc, _+_, _-_, _≤_, _<_}
+use Prim.Native.Nat.{ℕ, suc, _+_, _-_, _≤_, _<_}
 use native.Mathlib.Nat.{not-suc-le-zero, pos-of-ne-zero}
 use native.Mathlib.Omega.{arith}
 use borrow.Author.Count.{below-more}
 use borrow.Author.Tests.{lt-ltb, le-ltb, ltb-true, ltb-false}
 use lib.Dec.{T, ltb}
 use Rattle.sets.specs.Tests.{_and_, non, when_then_else_}
-use Rattle.sets.specs.Members.{width, mem, those, someBelow, leastBelow, nextAbove}
+use Rattle.sets.specs.Members.{width, mem, those, leastBelow, nextAbove}
 use Rattle.sets.specs.Answers.{isDone}
 use Rattle.sets.specs.declared.set.Set.{Set}
 use Rattle.sets.specs.declared.answer.Answer.{Answer}
 use Rattle.sets.specs.declared.answer.Answer.the-variants.{Done, NoWayOut}
 use Rattle.sets.proofs.Ways.{failed, held, taken, passed-by}
-use Rattle.sets.proofs.Tests.{and-l, and-r, and-i, non-i, non-e, T-eq, T→true, true→T, F→false, false→F, split, either}
+use Rattle.sets.proofs.Tests.{and-l, and-r, and-i, non-i, non-e, T→true, true→T, F→false, false→F, split, either}
 use Rattle.sets.proofs.Below.{some-i, some-e, least-ext, least-le, least-is, least-before, least-only}
 use Rattle.sets.proofs.MadeSets.{is-those, less}
 use Rattle.sets.proofs.Loops.{nearer}

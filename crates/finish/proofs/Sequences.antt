@@ -9,15 +9,14 @@ use borrow.Author.Tests.{ltb-true, ltb-false}
 use lib.Dec.{T, eqb, ltb}
 use lib.ListN.{length, getD}
 use Rattle.sets.specs.Tests.{_and_, _or_}
-use Rattle.sets.specs.Members.{width, mem, someBelow, leastBelow}
-use Rattle.sets.specs.Answers.{isDone}
+use Rattle.sets.specs.Members.{width, mem, leastBelow}
 use Rattle.sets.specs.declared.set.Set.{Set}
 use Rattle.sets.proofs.Tests.{and-l, and-r, and-i, or-l, or-r, T→true, F→false, false→F, eqb-of, split, either}
 use Rattle.sets.proofs.Below.{some-i, least-is, least-lt, least-before}
 use Rattle.sets.proofs.Members.{Whole, whole-low}
 use Rattle.engine.specs.declared.marking.Marking.{Marking}
 use Rattle.engine.specs.Relations.{Relations}
-use Rattle.engine.specs.Steps.{enabled, after}
+use Rattle.engine.specs.Steps.{after}
 use Rattle.finish.specs.Ways.{mostSteps, canFinish, begins, wayOf, fewest, unused}
 use Rattle.finish.proofs.Settling.{enabled-live}
 use Rattle.finish.specs.Sequences.{finishes, noLater, WayOut, NoWay}

@@ -7,7 +7,7 @@ use native.Mathlib.Omega.{arith}
 use borrow.Author.Tests.{not-true, not-false, eq-eqb, ne-eqb, eqb-true}
 use lib.Dec.{T, eqb, eqb→eq}
 use Rattle.sets.specs.Tests.{_and_, _or_, non, when_then_else_}
-use Rattle.sets.specs.Members.{width, mem, those, noSet, someBelow, everyBelow, leastBelow, isEmpty}
+use Rattle.sets.specs.Members.{width, mem, those, noSet, someBelow, leastBelow, isEmpty}
 use Rattle.sets.specs.Rows.{rowAt, inRow, rowsOf, rowsFor, turned}
 use Rattle.sets.specs.Tables.{tableAt}
 use Rattle.sets.specs.Answers.{isDone}

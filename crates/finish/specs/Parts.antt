@@ -1,10 +1,10 @@
 -- What the parts of the search give. Nothing of the promise stands here: `finishOf` does not speak of it.
-use mathlib.Core.Bool.{Bool, true, false}
+use mathlib.Core.Bool.{Bool, true}
 use mathlib.Core.List.{List, []}
 use Prim.Native.Nat.{ℕ}
 use lib.Dec.{eqb, ltb}
 use Rattle.sets.specs.Tests.{_and_, _or_, non, when_then_else_}
-use Rattle.sets.specs.Members.{width, mem, those, someBelow, everyBelow, leastBelow}
+use Rattle.sets.specs.Members.{width, mem, those, someBelow, everyBelow}
 use Rattle.sets.specs.Rows.{inRow, rowsOf, rowsFor, turned}
 use Rattle.sets.specs.Answers.{isDone}
 use Rattle.sets.specs.declared.set.Set.{Set}
