@@ -2,27 +2,31 @@
 use mathlib.Core.Path.{_≡_, refl, sym, ap, subst, _∙_}
 use mathlib.Core.Bool.{Bool, true, false, not}
 use mathlib.Core.List.{List, [], _∷_}
-use Prim.Native.Nat.{ℕ, zero, suc, _+_, _-_, _≤_, _<_}
+use Prim.Native.Nat.{ℕ, suc, _+_, _-_, _≤_, _<_}
 use native.Mathlib.Nat.{not-suc-le-zero, pos-of-ne-zero}
 use native.Mathlib.Omega.{arith}
 use borrow.Author.Count.{below-more}
 use borrow.Author.Tests.{lt-ltb, le-ltb, ltb-true, ltb-false}
 use lib.Dec.{T, ltb}
-use Rattle.sets.specs.Tests.{_and_, when_then_else_}
-use Rattle.sets.specs.Members.{width, someBelow, leastBelow}
+use Rattle.sets.specs.Tests.{_and_, non, when_then_else_}
+use Rattle.sets.specs.Members.{width, mem, those, leastBelow, nextAbove}
 use Rattle.sets.specs.Answers.{isDone}
 use Rattle.sets.specs.declared.set.Set.{Set}
 use Rattle.sets.specs.declared.answer.Answer.{Answer}
 use Rattle.sets.specs.declared.answer.Answer.the-variants.{Done, NoWayOut}
 use Rattle.sets.proofs.Ways.{failed, held, taken, passed-by}
-use Rattle.sets.proofs.Tests.{and-r, and-i, T→true, true→T, F→false, false→F, split, either}
-use Rattle.sets.proofs.Below.{some-i, some-e, least-is, least-before, least-only}
+use Rattle.sets.proofs.Tests.{and-l, and-r, and-i, non-i, non-e, T→true, true→T, F→false, false→F, split, either}
+use Rattle.sets.proofs.Below.{some-i, some-e, least-ext, least-le, least-is, least-before, least-only}
+use Rattle.sets.proofs.MadeSets.{is-those, less}
+use Rattle.sets.proofs.Loops.{nearer}
 use Rattle.engine.specs.declared.marking.Marking.{Marking}
 use Rattle.engine.specs.Relations.{Relations}
 use Rattle.engine.specs.Steps.{enabled, after, accepting}
 use Rattle.finish.specs.declared.search.Found.{Found}
 use Rattle.finish.specs.declared.search.Finished.{Finished}
-use Rattle.finish.specs.Ways.{mostSteps, canFinish, begins, wayOf, fewest, inFour, finishedBy, shortestOf, openFrom, foundOf, aheadOf}
+use Rattle.finish.specs.Ways.{mostSteps, canFinish, begins, wayOf, fewest, inFour, finishedBy, shortestOf}
+use Rattle.finish.specs.Parts.{settlersOf, candidatesOf, openFrom, foundOf, aheadOf}
+use Rattle.finish.proofs.Settling.{tried-all}
 
 -- ---- numbers asked in turn, none of which passed
 
@@ -43,49 +47,83 @@ module _ (p : ℕ → Bool) (i : ℕ) (none : None p i) where
 pub none-first : (p : ℕ → Bool) → None p 0
 none-first p b l = absurd (not-suc-le-zero l)
 
+-- ---- the least of some that is open
+
+module _ (events : Set) (r : Relations) (m : Marking) (rest : Set) where
+  abbrev opens : ℕ → Bool
+  opens b = mem rest b and isDone (enabled events r m b)
+
+  -- the search stands at a, one of the rest: no lower one is open
+  pub record Asked (a : ℕ) : Type 0 where
+    pub lower : None opens a
+    pub member : a < width → T (mem rest a)
+
+  -- the rest are those that are live, from a number on
+  open-live : (live low : Set) (i : ℕ) → low ≡ those (λ b. ltb b i) → rest ≡ those (λ b. mem live b and non (mem low b))
+      → leastBelow width opens ≡ leastBelow width (openFrom live events r m i)
+  open-live live low i hl hr =
+      let now = is-those rest _ (less live low rest (mem live) (λ b. ltb b i) (λ b l. refl) (is-those low _ hl) hr) in
+      least-ext width opens (openFrom live events r m i) (λ b l. ap (λ (x : Bool). x and isDone (enabled events r m b)) (now b l))
+
+  pub open-start : (a : ℕ) → a ≡ leastBelow width (mem rest) → Asked a
+  open-start a e =
+      record {
+        lower = λ b l. F→false _ (λ t. false→F (least-before width (mem rest) b (subst (λ (k : ℕ). b < k) e l)) (and-l _ _ t));
+        member = λ l. subst (λ (k : ℕ). T (mem rest k)) (sym e) (least-is width (mem rest) (subst (λ (k : ℕ). k < width) e l));
+      }
+
+  module _ (a : ℕ) (answer : Answer) (d : Bool) (inv : Asked a) (l : a < width) (ha : answer ≡ enabled events r m a)
+      (hd : d ≡ isDone answer) where
+    told : d ≡ isDone (enabled events r m a)
+    told = hd ∙ ap isDone ha
+
+    pub open-turn : (a′ : ℕ) → d ≡ false → a′ ≡ nextAbove rest a → Asked a′
+    unfolding nextAbove
+    open-turn a′ f e =
+        record {
+          lower = λ b h. F→false _ (λ t. passed-by b h t);
+          member = λ k. and-l _ _ (subst (λ (n : ℕ). T (mem rest n and ltb a n)) (sym e)
+              (least-is width (λ b. mem rest b and ltb a b) (subst (λ (n : ℕ). n < width) e k)));
+        }
+      where
+        passed-by : (b : ℕ) → b < a′ → T (opens b) → ⊥
+        passed-by b h t =
+            either (split (ltb b a)) (λ y. false→F (inv .lower b (ltb-true b a (T→true _ y))) t)
+            (λ g. either (split (ltb a b))
+            (λ y. false→F (least-before width (λ c. mem rest c and ltb a c) b (subst (λ (n : ℕ). b < n) e h)) (and-i _ _ (and-l _ _ t) y))
+            (λ n.
+            let up : a ≤ b = ltb-false b a (F→false _ g) in
+            let down : b ≤ a = ltb-false a b (F→false _ n) in
+            let same : b ≡ a = omega arith in
+            false→F (sym told ∙ f) (subst (λ (k : ℕ). T (isDone (enabled events r m k))) same (and-r _ _ t))))
+
+    module _ (live low : Set) (i : ℕ) (hl : low ≡ those (λ b. ltb b i)) (hr : rest ≡ those (λ b. mem live b and non (mem low b))) where
+      pub open-found : d ≡ true → a ≡ leastBelow width (openFrom live events r m i)
+      open-found t =
+          least-here opens a (inv .lower) width l (and-i _ _ (inv .member l) (true→T (sym told ∙ t)))
+          ∙ open-live live low i hl hr
+
+  pub open-none : (a : ℕ) → Asked a → width ≤ a → (live low : Set) (i : ℕ) → low ≡ those (λ b. ltb b i)
+      → rest ≡ those (λ b. mem live b and non (mem low b)) → width ≡ leastBelow width (openFrom live events r m i)
+  open-none a inv l live low i hl hr =
+      least-nowhere opens a (inv .lower) width l
+      ∙ open-live live low i hl hr
+
 module _ (events : Set) (r : Relations) (m : Marking) where
-  -- ---- the least that is open
-
-  from-open : (i a : ℕ) → i ≤ a → openFrom events r m i a ≡ isDone (enabled events r m a)
-  from-open i a l = ap (λ (t : Bool). when t then false else isDone (enabled events r m a)) (le-ltb a i l)
-
-  module _ (i : ℕ) where
-    pub open-start : None (openFrom events r m i) i
-    open-start b l = ap (λ (t : Bool). when t then false else isDone (enabled events r m b)) (lt-ltb b i l)
-
-    module _ (a : ℕ) (answer : Answer) (d : Bool) (l : i ≤ a) (ha : answer ≡ enabled events r m a) (hd : d ≡ isDone answer)
-        (none : None (openFrom events r m i) a) where
-      asked : openFrom events r m i a ≡ d
-      asked = from-open i a l ∙ ap isDone (sym ha) ∙ sym hd
-
-      pub open-found : a < width → d ≡ true → a ≡ leastBelow width (openFrom events r m i)
-      open-found k t = least-here _ a none width k (true→T (asked ∙ t))
-
-      pub open-more : d ≡ false → None (openFrom events r m i) (a + 1)
-      open-more t = none-more _ a none (asked ∙ t)
-
-    pub open-none : (a : ℕ) → width ≤ a → None (openFrom events r m i) a → width ≡ leastBelow width (openFrom events r m i)
-    open-none a l none = least-nowhere _ a none width l
-
-  -- the least is open, and no lower than where the search began
-  module _ (i a : ℕ) (e : a ≡ leastBelow width (openFrom events r m i)) (l : a < width) where
-    is-open : T (openFrom events r m i a)
-    is-open = subst (λ (k : ℕ). T (openFrom events r m i k)) (sym e) (least-is width (openFrom events r m i) (subst (λ (k : ℕ). k < width) e l))
+  -- it is open, and no lower than where the search began
+  module _ (live : Set) (i a : ℕ) (e : a ≡ leastBelow width (openFrom live events r m i)) (l : a < width) where
+    is-open : T (openFrom live events r m i a)
+    is-open =
+        subst (λ (k : ℕ). T (openFrom live events r m i k)) (sym e)
+        (least-is width (openFrom live events r m i) (subst (λ (k : ℕ). k < width) e l))
 
     is-on : i ≤ a
-    is-on = ltb-false a i (by (ltb a i) refl is-open)
-      where
-        by : (t : Bool) → ltb a i ≡ t → T (when t then false else isDone (enabled events r m a)) → ltb a i ≡ false
-        by true q h = absurd h
-        by false q h = q
+    is-on = ltb-false a i (F→false _ (non-e _ (and-r _ _ (and-l _ _ is-open))))
 
-    may-step : T (isDone (enabled events r m a))
-    may-step = subst T (from-open i a is-on) is-open
-
-  pub nearer : (a a′ : ℕ) → a < width → a′ ≡ leastBelow width (openFrom events r m (a + 1)) → width - a′ < width - a
-  nearer a a′ l e =
+  pub closer : (live : Set) (a a′ : ℕ) → a < width → a′ ≡ leastBelow width (openFrom live events r m (a + 1)) → width - a′ < width - a
+  closer live a a′ l e =
       either (split (ltb a′ width))
-      (λ t. let k : a′ < width = ltb-true a′ width (T→true _ t) in omega (arith, is-on (a + 1) a′ e k))
+      (λ t. let k : a′ < width = ltb-true a′ width (T→true _ t) in omega (arith, is-on live (a + 1) a′ e k))
       (λ g. let k : width ≤ a′ = ltb-false a′ width (F→false _ g) in omega arith)
 
   -- ---- a way of so many steps
@@ -95,35 +133,39 @@ module _ (events : Set) (r : Relations) (m : Marking) where
     pub lower : None (begins events r n m) a
     pub may : a < width → T (isDone (enabled events r m a))
 
-  shut : (n b : ℕ) → isDone (enabled events r m b) ≡ false → begins events r n m b ≡ false
-  unfolding _and_
-  shut n b e = ap (λ (t : Bool). t and canFinish events r n (after r m b)) e
+  ends : (n a : ℕ) (m′ : Marking) (rest : Found) → m′ ≡ after r m a → rest ≡ foundOf events r n m′
+      → rest .there ≡ canFinish events r n (after r m a)
+  ends n a m′ rest hm hr = ap (λ (f : Found). f .there) hr ∙ ap (canFinish events r n) hm
 
-  -- from a number on, to the next that is open
-  on : (n i a : ℕ) → None (begins events r n m) i → a ≡ leastBelow width (openFrom events r m i) → Tried n a
-  on n i a none e =
+  -- from a number on, to the next that is open; no way begins with one that is not live
+  on : (n i a : ℕ) (live : Set) → ((b : ℕ) → b < width → T (begins events r n m b) → T (mem live b)) → None (begins events r n m) i
+      → a ≡ leastBelow width (openFrom live events r m i) → Tried n a
+  on n i a live all none e =
       record {
-        lower = λ b l. either (split (ltb b i)) (λ t. none b (ltb-true b i (T→true _ t)))
-            (λ g. shut n b (sym (from-open i b (ltb-false b i (F→false _ g)))
-            ∙ least-before width (openFrom events r m i) b (subst (λ (k : ℕ). b < k) e l)));
-        may = may-step i a e;
+        lower = λ b l. F→false _ (λ t.
+            let far = least-le width (openFrom live events r m i) in
+            either (split (ltb b i)) (λ y. false→F (none b (ltb-true b i (T→true _ y))) t)
+            (λ g. false→F (least-before width (openFrom live events r m i) b (subst (λ (k : ℕ). b < k) e l))
+            (and-i _ _ (and-i _ _ (all b (omega arith) t) (non-i _ g)) (and-l _ _ t))));
+        may = λ l. and-r _ _ (is-open live i a e l);
       }
 
-  pub way-start : (n a : ℕ) → a ≡ leastBelow width (openFrom events r m 0) → Tried n a
-  way-start n a e = on n 0 a (none-first (begins events r n m)) e
+  module _ (left : ℕ) (live : Set) (settlers : List ℕ) (hl : live ≡ candidatesOf events settlers m left)
+      (hs : settlers ≡ settlersOf events r) where
+    pub way-start : (a : ℕ) → a ≡ leastBelow width (openFrom live events r m 0) → Tried (left - 1) a
+    way-start a e = on (left - 1) 0 a live (tried-all events r m left live settlers hl hs) (none-first (begins events r (left - 1) m)) e
+
+    pub way-turn : (a a′ : ℕ) (m′ : Marking) (rest : Found) → Tried (left - 1) a → m′ ≡ after r m a → rest ≡ foundOf events r (left - 1) m′
+        → rest .there ≡ false → a′ ≡ leastBelow width (openFrom live events r m (a + 1)) → Tried (left - 1) a′
+    way-turn a a′ m′ rest tried hm hr f e =
+        on (left - 1) (a + 1) a′ live (tried-all events r m left live settlers hl hs)
+        (none-more (begins events r (left - 1) m) a (tried .lower)
+        (F→false (begins events r (left - 1) m a) (λ h. false→F (sym (ends (left - 1) a m′ rest hm hr) ∙ f) (and-r _ _ h)))) e
 
   module _ (n a : ℕ) (m′ : Marking) (rest : Found) (tried : Tried n a) (hm : m′ ≡ after r m a) (hr : rest ≡ foundOf events r n m′) where
-    ends : rest .there ≡ canFinish events r n (after r m a)
-    ends = ap (λ (f : Found). f .there) hr ∙ ap (canFinish events r n) hm
-
-    pub way-turn : (a′ : ℕ) → rest .there ≡ false → a′ ≡ leastBelow width (openFrom events r m (a + 1)) → Tried n a′
-    way-turn a′ f e =
-        on n (a + 1) a′
-        (none-more (begins events r n m) a (tried .lower) (F→false (begins events r n m a) (λ h. false→F (sym ends ∙ f) (and-r _ _ h)))) e
-
     module _ (l : a < width) (f : rest .there ≡ true) where
       goes : canFinish events r n (after r m a) ≡ true
-      goes = sym ends ∙ f
+      goes = sym (ends n a m′ rest hm hr) ∙ f
 
       begun : T (begins events r n m a)
       begun = and-i _ _ (tried .may l) (true→T goes)
@@ -173,8 +215,8 @@ module _ (events : Set) (r : Relations) (m : Marking) where
     some-left : suc (left - 1) ≡ left
     some-left = let p : 0 < left = pos-of-ne-zero h in omega arith
 
-    pub way-found : (m′ : Marking) (rest out : Found) → a < width → m′ ≡ after r m a → rest ≡ foundOf events r (left - 1) m′ → rest .there ≡ true
-        → out ≡ aheadOf a rest → out ≡ foundOf events r left m
+    pub way-found : (m′ : Marking) (rest out : Found) → a < width → m′ ≡ after r m a → rest ≡ foundOf events r (left - 1) m′
+        → rest .there ≡ true → out ≡ aheadOf a rest → out ≡ foundOf events r left m
     way-found m′ rest out l hm hr f ho =
         way-more (left - 1) a m′ rest tried hm hr l f out ho ∙ ap (λ (n : ℕ). foundOf events r n m) some-left
 
@@ -193,7 +235,8 @@ module _ (events : Set) (r : Relations) (m : Marking) where
     pub shortest-found : n ≤ mostSteps → f .there ≡ true → record { answer = Done; way = f .way } ≡ shortestOf events r m
     unfolding shortestOf fewest
     shortest-found l e =
-        let here : n ≡ fewest events r m = least-here (λ k. canFinish events r k m) n none (suc mostSteps) (omega arith) (true→T (sym found-there ∙ e)) in
+        let here : n ≡ fewest events r m =
+        least-here (λ k. canFinish events r k m) n none (suc mostSteps) (omega arith) (true→T (sym found-there ∙ e)) in
         ap (λ (x : Found). record { answer = Done; way = x .way })
         (hf ∙ ap (λ (t : Bool). record { there = t; way = inFour (when t then wayOf events r n m else []) }) (sym found-there ∙ e))
         ∙ ap (λ (k : ℕ). finishedBy Done (wayOf events r k m)) here
@@ -216,8 +259,8 @@ module _ (x a : Answer) (r : Bool) (h : a ≡ x) (k : r ≡ isDone a) where
   pub finish-done : (F G : Finished) → not r ≡ false → G ≡ F → G ≡ when isDone x then F else finishedBy x []
   finish-done F G t e = taken (isDone x) F _ G (held (isDone x) r (k ∙ ap isDone h) t) e
 
-pub ruleset opening = (open-start, open-found, open-more, open-none)
+pub ruleset opening = (open-start, open-found, open-turn, open-none, nearer)
 
-pub ruleset searching = (way-here, way-start, way-turn, way-found, way-ends, nearer)
+pub ruleset searching = (way-here, way-start, way-turn, way-found, way-ends, closer)
 
 pub ruleset shortening = (none-first, shortest-more, shortest-found, shortest-none)

@@ -1,38 +1,27 @@
 -- What the definitions of the search say of finishing sequences: a way of n steps is one, and the first of its length; where a sequence
 -- of n steps finishes, there is a way of n steps. Assumes nothing.
 use mathlib.Core.Path.{_≡_, refl, sym, ap, subst, _∙_}
-use mathlib.Core.Bool.{Bool, true, false}
 use mathlib.Core.List.{List, [], _∷_}
 use Prim.Native.Nat.{ℕ, zero, suc, _≤_, _<_}
+use native.Mathlib.Nat.{not-suc-le-zero, le-of-suc-le-suc}
 use native.Mathlib.Omega.{arith}
 use borrow.Author.Tests.{ltb-true, ltb-false}
 use lib.Dec.{T, eqb, ltb}
-use lib.ListN.{length}
-use Rattle.sets.specs.Tests.{_and_, _or_, non, when_then_else_}
-use Rattle.sets.specs.Members.{width, mem, someBelow, leastBelow}
-use Rattle.sets.specs.Answers.{isDone}
-use Rattle.sets.specs.declared.activity.Activity.{Activity}
+use lib.ListN.{length, getD}
+use Rattle.sets.specs.Tests.{_and_, _or_}
+use Rattle.sets.specs.Members.{width, mem, leastBelow}
 use Rattle.sets.specs.declared.set.Set.{Set}
-use Rattle.sets.specs.declared.answer.Answer.the-variants.{Done, NoEvent, NotIncluded, Waiting}
-use Rattle.sets.proofs.Tests.{and-l, and-r, and-i, or-l, or-r, T→true, F→false, false→F, non-false, eqb-of, split, either}
+use Rattle.sets.proofs.Tests.{and-l, and-r, and-i, or-l, or-r, T→true, F→false, false→F, eqb-of, split, either}
 use Rattle.sets.proofs.Below.{some-i, least-is, least-lt, least-before}
 use Rattle.sets.proofs.Members.{Whole, whole-low}
 use Rattle.engine.specs.declared.marking.Marking.{Marking}
 use Rattle.engine.specs.Relations.{Relations}
-use Rattle.engine.specs.Steps.{waits, blocker, enabled, after, accepting}
-use Rattle.finish.specs.Ways.{mostSteps, canFinish, begins, wayOf, fewest}
+use Rattle.engine.specs.Steps.{after}
+use Rattle.finish.specs.Ways.{mostSteps, canFinish, begins, wayOf, fewest, unused}
+use Rattle.finish.proofs.Settling.{enabled-live}
 use Rattle.finish.specs.Sequences.{finishes, noLater, WayOut, NoWay}
 
 module _ (events : Set) (r : Relations) where
-  -- only an event is enabled
-  pub enabled-event : (m : Marking) (a : ℕ) → T (isDone (enabled events r m a)) → T (mem events a)
-  unfolding enabled
-  enabled-event m a t = non-false (mem events a) (by (non (mem events a)) (non (mem (m .included) a)) (waits r m a) (blocker r m a) t)
-    where
-      by : (x y z : Bool) (b : Activity) → T (isDone (when x then NoEvent else when y then NotIncluded else when z then Waiting b else Done)) → x ≡ false
-      by true y z b h = absurd h
-      by false y z b h = refl
-
   -- ---- a way is a finishing sequence
 
   pub way-length : (n : ℕ) (m : Marking) → length (wayOf events r n m) ≡ n
@@ -47,6 +36,12 @@ module _ (events : Set) (r : Relations) where
       let h = least-is width (begins events r n m) (least-lt width (begins events r n m) t) in
       and-i _ _ (and-l _ _ h) (way-finishes n (after r m (leastBelow width (begins events r n m))) (and-r _ _ h))
 
+  pub finishing-events : (σ : List ℕ) (m : Marking) → T (finishes events r m σ) → (k : ℕ) → k < length σ → T (mem events (getD σ k unused))
+  unfolding finishes
+  finishing-events [] m t k l = absurd (not-suc-le-zero l)
+  finishing-events (a ∷ σ) m t zero l = enabled-live events r m a (and-l _ _ t) .0
+  finishing-events (a ∷ σ) m t (suc k) l = finishing-events σ (after r m a) (and-r _ _ t) k (le-of-suc-le-suc l)
+
   -- ---- any finishing sequence, where the events are a set as the code has it
 
   module _ (w : Whole events) where
@@ -54,7 +49,7 @@ module _ (events : Set) (r : Relations) where
     unfolding canFinish finishes
     finishes-can [] m t = t
     finishes-can (a ∷ σ) m t =
-        some-i width (begins events r (length σ) m) a (whole-low events w a (enabled-event m a (and-l _ _ t)))
+        some-i width (begins events r (length σ) m) a (whole-low events w a (enabled-live events r m a (and-l _ _ t) .0))
         (and-i _ _ (and-l _ _ t) (finishes-can σ (after r m a) (and-r _ _ t)))
 
     -- the way comes no later than any other of its length
@@ -74,7 +69,9 @@ module _ (events : Set) (r : Relations) where
             (λ g.
             let high : b ≤ a = ltb-false a b (F→false _ g) in
             let low : a ≤ b = either (split (ltb b a))
-            (λ l. absurd (false→F (least-before width (begins events r (length σ) m) b (subst (λ (k : ℕ). b < k) e (ltb-true b a (T→true _ l)))) begun))
+            (λ l.
+            let before = subst (λ (k : ℕ). b < k) e (ltb-true b a (T→true _ l)) in
+            absurd (false→F (least-before width (begins events r (length σ) m) b before) begun))
             (λ l. ltb-false b a (F→false _ l)) in
             let same : a ≡ b = omega arith in
             or-r _ _ (and-i _ _ (eqb-of same) (subst (λ (k : ℕ). T (noLater (wayOf events r (length σ) (after r m k)) σ)) (sym same) ih)))
@@ -91,10 +88,13 @@ module _ (events : Set) (r : Relations) where
       fewest-way l =
           let n = fewest events r m in
           let long : length (wayOf events r n m) ≡ n = way-length n m in
+          let ends = way-finishes n m (least-is (suc mostSteps) (λ k. canFinish events r k m) (omega arith)) in
           record {
             few = omega arith;
-            finishing = way-finishes n m (least-is (suc mostSteps) (λ k. canFinish events r k m) (omega arith));
-            shortest = λ τ t. either (split (ltb (length τ) n)) (λ h. absurd (below-fewest (length τ) (ltb-true (length τ) n (T→true _ h)) (finishes-can τ m t)))
+            finishing = ends;
+            used = finishing-events (wayOf events r n m) m ends;
+            shortest = λ τ t. either (split (ltb (length τ) n))
+                (λ h. absurd (below-fewest (length τ) (ltb-true (length τ) n (T→true _ h)) (finishes-can τ m t)))
                 (λ h. omega (arith, ltb-false (length τ) n (F→false _ h)));
             first = λ τ t e. subst (λ (k : ℕ). T (noLater (wayOf events r k m) τ)) (e ∙ long) (way-first τ m t);
           }

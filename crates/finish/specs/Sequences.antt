@@ -2,16 +2,17 @@
 use mathlib.Core.Bool.{Bool, true, false}
 use mathlib.Core.List.{List, [], _∷_}
 use mathlib.Core.Path.{_≡_}
-use Prim.Native.Nat.{ℕ, _≤_}
+use Prim.Native.Nat.{ℕ, _≤_, _<_}
 use lib.Dec.{T, eqb, ltb}
-use lib.ListN.{length}
+use lib.ListN.{length, getD}
 use Rattle.sets.specs.Tests.{_and_, _or_}
+use Rattle.sets.specs.Members.{mem}
 use Rattle.sets.specs.Answers.{isDone}
 use Rattle.sets.specs.declared.set.Set.{Set}
 use Rattle.engine.specs.declared.marking.Marking.{Marking}
 use Rattle.engine.specs.Relations.{Relations}
 use Rattle.engine.specs.Steps.{enabled, after, accepting}
-use Rattle.finish.specs.Ways.{mostSteps}
+use Rattle.finish.specs.Ways.{mostSteps, unused}
 
 -- "each enabled in its turn, after which the call is accepting", by 01's step rules
 unfoldable pub finishes : Set → Relations → Marking → List ℕ → Bool
@@ -29,6 +30,8 @@ pub record WayOut (events : Set) (r : Relations) (m : Marking) (σ : List ℕ) :
   -- "a sequence of at most 4 activities, each enabled in its turn, after which the call is accepting"
   pub few : length σ ≤ mostSteps
   pub finishing : T (finishes events r m σ)
+  -- each of its places holds an event, so none of them 255
+  pub used : (k : ℕ) → k < length σ → T (mem events (getD σ k unused))
   -- "the shortest wins"
   pub shortest : (τ : List ℕ) → T (finishes events r m τ) → length σ ≤ length τ
   -- "and among equally short ones the first by activity numbers, read from the left"

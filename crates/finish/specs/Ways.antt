@@ -1,5 +1,5 @@
 -- How a call can still finish (02, 8/12), for every graph and marking.
-use mathlib.Core.Bool.{Bool, true, false}
+use mathlib.Core.Bool.{Bool}
 use mathlib.Core.List.{List, [], _∷_}
 use Prim.Native.Nat.{ℕ, zero, suc}
 use lib.Dec.{ltb}
@@ -17,7 +17,6 @@ use Rattle.engine.specs.Relations.{Relations, relationsOf}
 use Rattle.engine.specs.Steps.{enabled, after, accepting}
 use Rattle.engine.specs.Judged.{judgedWith}
 use Rattle.finish.specs.declared.search.Way.{Way}
-use Rattle.finish.specs.declared.search.Found.{Found}
 use Rattle.finish.specs.declared.search.Finished.{Finished}
 
 -- "a sequence of at most 4 activities"
@@ -67,22 +66,3 @@ unfoldable pub finishOf : Graph → Marking → Finished
 finishOf g m =
     when isDone (judgedWith g m) then shortestOf (g .head .events) (relationsOf g) m
     else finishedBy (judgedWith g m) []
-
--- ---- what the parts of the search give
-
--- the least step from a number on that is enabled
-abbrev pub openFrom : Set → Relations → Marking → ℕ → ℕ → Bool
-openFrom events r m i a = when ltb a i then false else isDone (enabled events r m a)
-
--- whether there is a way of n steps, and the first one
-abbrev pub foundOf : Set → Relations → ℕ → Marking → Found
-foundOf events r n m =
-    record { there = canFinish events r n m; way = inFour (when canFinish events r n m then wayOf events r n m else []) }
-
--- a way that was found, with a step in front
-abbrev pub aheadOf : ℕ → Found → Found
-aheadOf a f =
-    record {
-      there = true;
-      way = record { first = record { 0 = a }; second = f .way .first; third = f .way .second; fourth = f .way .third };
-    }

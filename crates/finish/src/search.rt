@@ -3,7 +3,9 @@
 ghost use mathlib.Core.Path.{_≡_};
 ghost use Rattle.engine.specs.Relations.{inTables};
 ghost use Rattle.sets.specs.Members.{width, leastBelow};
-ghost use Rattle.finish.specs.Ways.{openFrom, aheadOf, foundOf, shortestOf, finishOf};
+ghost use Rattle.finish.specs.Ways.{shortestOf, finishOf};
+ghost use Rattle.finish.specs.Parts.{settlersOf, openFrom, aheadOf, foundOf};
+use crate::settle;
 use engine::Graph;
 use engine::Marking;
 use engine::Relations;
@@ -11,6 +13,7 @@ use engine::judge;
 use engine::step;
 use sets::Activity;
 use sets::Answer;
+use sets::Rows;
 use sets::Set;
 
 // Four steps; 255 in the places that are not used.
@@ -71,23 +74,31 @@ impl Found {
     }
 }
 
-// The least activity from a number on that is enabled; the limit where there is none.
-fn open_from(events: Set, relations: &Relations, m: Marking, from: u8) -> Activity
-    ensures { λ r. ⌜ r .0 ≡ leastBelow width (openFrom events (inTables (now (relations .entry))) m from) ⌝ }
+// The least of some activities, from a number on, that is enabled; the limit where there is none.
+fn open_from(live: Set, events: Set, relations: &Relations, m: Marking, from: u8) -> Activity
+    ensures { λ r. ⌜ r .0 ≡ leastBelow width (openFrom live events (inTables (now (relations .entry))) m from) ⌝ }
 {
-    let mut i = from;
-    while i < Activity::LIMIT {
-        let answer = step::ask(events, relations, m, Activity(i));
+    let rest = live.difference(Set::below(from));
+    let mut a = rest.least();
+    while a.0 < Activity::LIMIT {
+        let answer = step::ask(events, relations, m, a);
         if answer.is_done() {
-            return Activity(i);
+            return a;
         }
-        i += 1;
+        a = rest.next(a);
     }
     Activity(Activity::LIMIT)
 }
 
 // The first way of exactly so many steps.
-fn first_way(events: Set, relations: &Relations, m: Marking, left: u8) -> Found
+fn first_way<'a>(
+    events: Set,
+    relations: &'a Relations,
+    settlers: &'a Rows,
+    m: Marking,
+    left: u8,
+) -> Found
+    requires { ⌜ now settlers ≡ settlersOf events (inTables (now relations)) ⌝ }
     ensures { λ r. ⌜ r ≡ foundOf events (inTables (now (relations .entry))) left m ⌝ }
 {
     if left == 0 {
@@ -97,24 +108,32 @@ fn first_way(events: Set, relations: &Relations, m: Marking, left: u8) -> Found
             way: Way::NONE,
         };
     }
-    let mut a = open_from(events, relations, m, 0);
+    let live = settle::candidates(events, settlers, m, left);
+    let mut a = open_from(live, events, relations, m, 0);
     while a.0 < Activity::LIMIT {
-        let rest = first_way(events, relations, step::next(relations, m, a), left - 1);
+        let rest = first_way(
+            events,
+            relations,
+            settlers,
+            step::next(relations, m, a),
+            left - 1,
+        );
         if rest.there {
             return rest.ahead(a);
         }
-        a = open_from(events, relations, m, a.0 + 1);
+        a = open_from(live, events, relations, m, a.0 + 1);
     }
     Found::NOWHERE
 }
 
 // The way with the fewest steps, from 0 up to the limit.
-fn shortest(events: Set, relations: &Relations, m: Marking) -> Finished
+fn shortest<'a>(events: Set, relations: &'a Relations, settlers: &'a Rows, m: Marking) -> Finished
+    requires { ⌜ now settlers ≡ settlersOf events (inTables (now relations)) ⌝ }
     ensures { λ r. ⌜ r ≡ shortestOf events (inTables (now (relations .entry))) m ⌝ }
 {
     let mut steps: u8 = 0;
     while steps <= Way::LIMIT {
-        let found = first_way(events, relations, m, steps);
+        let found = first_way(events, relations, settlers, m, steps);
         if found.there {
             let way = found.way;
             return Finished {
@@ -142,5 +161,6 @@ pub fn finish(g: Graph, m: Marking) -> Finished
             way: Way::NONE,
         };
     }
-    shortest(head.events, &g.relations, m)
+    let settlers = settle::settlers(head.events, &g.relations);
+    shortest(head.events, &g.relations, &settlers, m)
 }

@@ -116,7 +116,9 @@ module _ (g : Graph) (m : Marking) (f : Finished) (c : finish-gives g m f) where
       none-then : NoWay events r m → f ≡ finishedBy NoWayOut []
       none-then away =
           either found-or-none
-          (λ h. let out = fewest-way events r w m (h .0) in absurd (away (wayOf events r (fewest events r m) m) (out .few) (out .finishing)))
+          (λ h.
+          let out = fewest-way events r w m (h .0) in
+          absurd (away (wayOf events r (fewest events r m) m) (out .few) (out .finishing)))
           (λ h. h .1)
 
       then-none : T (eqb (numberOf (f .answer)) 17) → NoWay events r m
@@ -129,7 +131,9 @@ module _ (g : Graph) (m : Marking) (f : Finished) (c : finish-gives g m f) where
   given-17 w e =
       either (split (isDone (judgedWith g m)))
       (λ t. let ok = done-is (judgedWith g m) (T→true _ t) in (ok, then-none ok w (is-17 (f .answer) e)))
-      (λ t. absurd (judged-17 g m (subst (λ (x : Finished). T (eqb (numberOf (x .answer)) 17)) (judged-first (F→false _ t)) (is-17 (f .answer) e))))
+      (λ t.
+      absurd (judged-17 g m
+      (subst (λ (x : Finished). T (eqb (numberOf (x .answer)) 17)) (judged-first (F→false _ t)) (is-17 (f .answer) e))))
 
   pub gives-17 : Whole events → judgedWith g m ≡ Done → NoWay events r m → numberOf (f .answer) ≡ 17
   gives-17 w ok away = ap (λ (x : Finished). numberOf (x .answer)) (none-then ok w away)
@@ -144,5 +148,5 @@ module _ (g : Graph) (m : Marking) (f : Finished) (c : finish-gives g m f) where
       (λ h. ap (λ (x : Finished). x .way) (h .1)))
       (λ t. ap (λ (x : Finished). x .way) (judged-first (F→false _ t)))
 
-pub four-unused : inFour [] ≡ record { first = record { 0 = 255 }; second = record { 0 = 255 }; third = record { 0 = 255 }; fourth = record { 0 = 255 } }
-four-unused = refl
+pub four-unused : (inFour [] .first .0 ≡ 255) × (inFour [] .second .0 ≡ 255) × (inFour [] .third .0 ≡ 255) × (inFour [] .fourth .0 ≡ 255)
+four-unused = (refl, refl, refl, refl)

@@ -7,10 +7,10 @@ use Rattle.finish.proofs.search.shortest.Statement.{statement}
 use Rattle.finish.proofs.search.shortest.Tie as tie
 
 abbrev Inv-loop : tie.InvT-loop
-Inv-loop events relations m steps₀ steps = (steps ≤ suc mostSteps) × None (λ n. canFinish events (inTables relations) n m) steps
+Inv-loop events relations settlers m steps₀ steps = (steps ≤ suc mostSteps) × None (λ n. canFinish events (inTables relations) n m) steps
 
 abbrev μ-loop : tie.MeasureT-loop
-μ-loop events relations m steps₀ steps = suc mostSteps - steps
+μ-loop events relations settlers m steps₀ steps = suc mostSteps - steps
 
 pub shortest-spec : {M : Type 1} → statement M
 shortest-spec =
