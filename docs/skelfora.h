@@ -27,7 +27,8 @@ enum {
     SKELFORA_WRONG_ARGUMENT = 12,
     SKELFORA_NO_PLACE_FREE = 13,
     SKELFORA_NOT_OPEN = 14,
-    SKELFORA_NOT_ACCEPTING = 15
+    SKELFORA_NOT_ACCEPTING = 15,
+    SKELFORA_NO_WAY_OUT = 17
 };
 
 /* The profiles; any other number is refused with 12, before the log is read. */

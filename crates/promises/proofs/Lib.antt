@@ -14,3 +14,4 @@ pub mod PlainEngine
 pub mod Blocker
 pub mod Light
 pub mod Desk
+pub mod Finish

@@ -56,6 +56,7 @@ use Rattle.plain.proofs.step.step.Reads as plain-step
 use Rattle.plain.proofs.step.accepting.Reads as plain-accepting
 use Rattle.plain.proofs.replay.replay.Reads as plain-replay
 use Rattle.plain.proofs.fill.fill.Reads as plain-fill
+use Rattle.finish.proofs.search.finish.Reads as finish
 use Rattle.calllog.proofs.judge.judge_log.Reads as judge-log
 use Rattle.calllog.proofs.trace.trace_part.Reads as trace-part
 use Rattle.calllog.proofs.trace.find_trace.Reads as find-trace
@@ -290,6 +291,11 @@ plain-replay-once κ a r r′ s s′ h h′ = h ∙ sym h′
 
 pub plain-fill-once : OnceLent plain-fill.Post (λ κ s. now (s .1 .1 .0))
 plain-fill-once κ a r r′ s s′ h h′ = (h .0 ∙ sym (h′ .0), h .1 ∙ sym (h′ .1))
+
+-- ---- finish
+
+pub finish-once : Once finish.Post
+finish-once κ a r r′ s s′ h h′ = h ∙ sym h′
 
 -- ---- calllog
 

@@ -1,0 +1,10 @@
+use borrow.Author.Needs.{needs}
+use Rattle.port.proofs.WayOut.{shut-out}
+use Rattle.port.proofs.way_out.skelfora_shut_by.Statement.{statement}
+use Rattle.port.proofs.way_out.skelfora_shut_by.Tie as tie
+
+pub skelfora-shut-by-spec : {M : Type 1} → statement M
+skelfora-shut-by-spec =
+    tie.close
+    (tie.spec (λ c κs. search needs) (λ c κs. search needs) (λ c κs. search needs) (λ c. search (shut-out, needs)) (λ c κs. search needs)
+    (λ c. search needs) (λ c κs. search needs) (λ c. search (shut-out, needs)))
