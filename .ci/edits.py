@@ -27,6 +27,9 @@ Wrong = collections.namedtuple("Wrong", "name target fact pairs line")
 # What says nothing of the wrong version itself: an error that follows from another one, and a proof that no longer fits the code's shape.
 ECHOES = ["was not admitted", "cannot be checked"]
 MISFITS = ["that can be named from here", "is not in scope", "expected type `tie.Need-", "record `Rattle"]  # a record: of a field it lacks
+MISFITS += ["this λ has", "this tuple has"]  # binders or components that no longer fit
+# A loop's invariant and measure are definitions, and say nothing false by themselves: an error there is one of shape.
+DEFINITIONS = ("Inv-", "μ-")
 
 
 def wrongs(path):
@@ -76,7 +79,7 @@ def refusals(log):
         error = re.match(r"\S*?/proofs/(\S+?):\d+:\d+: error: (?:`([^`]+)`: )?(.*)", line)
         if error:
             place, fact, said = error.groups()
-            if not any(words in said for words in ECHOES + MISFITS):
+            if not any(words in said for words in ECHOES + MISFITS) and not (fact or "").startswith(DEFINITIONS):
                 by[place.removesuffix("/Proof.antt")].append((fact, said))
         # a function whose proof the checker makes by itself
         made = re.match(r"fn \S+: no proof: expected \S+ in \S*?/proofs/(\S+)/Proof\.antt; `search` does not close ([^;]*)", line)

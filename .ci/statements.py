@@ -77,9 +77,9 @@ def theorems(text):
     for line in text.splitlines():
         if line.startswith("-- ---- "):
             crate = re.match(r"\w+", line[8:]).group()
-        named = re.match(r"pub ([\w-]+)-once : (\S+) (\S+)", line)
+        named = re.match(r"pub ([\w-]+)-once : (\S+) (\S+)(.*)", line)
         if named:
-            found.setdefault(crate, {})[named.group(1)] = (named.group(2), named.group(3))
+            found.setdefault(crate, {})[named.group(1)] = named.groups()[1:]
     return found
 
 
@@ -119,17 +119,25 @@ def called(crate, symbol):
 
 def outcome_of(symbol, said, modules, theorem):
     """Whether the theorem starts from the function's own contract, and is of all that it leaves."""
-    kind, post = theorem
+    kind, post, left = theorem
     if post.endswith(".Post"):
         own = OUTCOMES.get(post.removesuffix(".Post"), "") in {f"{module}.Reads" for module in modules}
     else:
         own = WALKED.get(WALKS.get(post)) in modules
     if not own:
         faults.append(f"{PROMISES}/Outcomes.antt: the theorem of {symbol} does not start from its own contract")
-    lent = any(param["ty"]["name"].endswith("RefMut") for param in said["function"]["params"])
+    params = said["function"]["params"]
+    places = ["s" + " .1" * i + " .0" for i, param in enumerate(params) if param["ty"]["name"].endswith("RefMut")]
+    lent = bool(places)
     gives = said["function"]["result"]["name"] != "unit"
     if kind != {(True, True): "OnceLent", (True, False): "OnceLeft"}.get((lent, gives), "Once"):
         faults.append(f"{PROMISES}/Outcomes.antt: the theorem of {symbol} is not of all that it gives and leaves")
+    for place in places:
+        if f"now ({place})" not in left:
+            faults.append(f"{PROMISES}/Outcomes.antt: the theorem of {symbol} does not speak of what it leaves at {place}")
+    for param in params:
+        if "Ref" not in param["ty"]["name"] and any("Lifetime" in arg or "Lft" in arg for arg in param["ty"]["args"]):
+            faults.append(f"{symbol} takes a struct that holds a reference: what it lends is not read here")
 
 
 def check(crate):
@@ -139,6 +147,8 @@ def check(crate):
     for symbol, (said, modules) in sorted(functions.items()):
         if said["requires"]:
             faults.append(f"{symbol} is public and has a requires")
+        if said["ghost"]:
+            faults.append(f"{symbol} is public and has a ghost clause: its contract holds only for whoever has such a value")
         if not said["ensures"]:
             faults.append(f"{symbol} is public and has no ensures")
         # the crate of the promises names its own functions from inside
