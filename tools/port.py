@@ -8,7 +8,7 @@ from command import Fault
 
 GRAPH_ROOM = 2356
 PLACES, PLACE = 32, 25
-NO_PLACE = NO_BLOCKER = 255
+NO_PLACE = 255
 FULL = 0
 
 # The greatest number that a function can be handed; all above 31 are alike to the desk.
