@@ -108,7 +108,7 @@ def graph(activities, pending, conditions):
 @test("./call: a refused log or graph is one line and exit status 1; used wrongly one line and 2; what can't be read 3")
 def refuses(folder):
     with_names(folder)
-    for data, number in ((TWO[:20], 1), (b"C" + TWO[1:], 2), (TWO + b"\0", 4), (read(AGAIN)[:51], 1), (read(AGAIN) + b"\0", 4)):
+    for data, number in ((TWO[:19], 1), (b"C" + TWO[1:], 2), (TWO + b"\0", 4), (read(AGAIN)[:51], 1), (read(AGAIN) + b"\0", 4)):
         gave = folder.run("./call", "-", "0", data=data)
         same((gave.status, gave.out), (1, b"refused %d\n" % number), f"refusal {number}")
         holds(one_line(gave.err) and gave.err.startswith(f"call: {number}: "), f"refusal {number} says {gave.err!r}")
