@@ -15,3 +15,4 @@ pub mod Blocker
 pub mod Light
 pub mod Desk
 pub mod Finish
+pub mod ShutOut
