@@ -112,8 +112,7 @@ def refuses(folder):
         gave = folder.run("./call", "-", "0", data=data)
         same((gave.status, gave.out), (1, b"refused %d\n" % number), f"refusal {number}")
         holds(one_line(gave.err) and gave.err.startswith(f"call: {number}: "), f"refusal {number} says {gave.err!r}")
-    misused = [[], ["full"], ["light", AGAIN, "0"], [AGAIN, "Waive"], [AGAIN, "256"], [AGAIN, "-1"], ["--nosuch", "two.log"]]
-    misused.append(["two.log", *["Request"] * 513])
+    misused = [[], ["full"], ["light", AGAIN, "0"], [AGAIN, "Waive"], [AGAIN, "256"], [AGAIN, "-1"], ["--nosuch", "two.log"], ["two.log", *["Request"] * 513]]
     unreadable = [["nosuch.log", "0"], ["data", "0"], ["--names", "nosuch", "two.log"], ["--names", "few.names", "two.log"]]
     folder.put("few.names", "Request\n")
     for words in misused + unreadable:

@@ -1,5 +1,5 @@
--- 02, 8/12, the program `call`: what `shut_by` gives for a step that a replay has shut out. `shut-by-gives g σ a e` says that the function
--- may give e for the relations of a graph, a trace and an activity, by its own contract. Assumes nothing.
+-- 02, 8/12, the program `call`: what `shut_by` gives for a step that a replay has shut out. `shut-by-gives g σ a e` says that the function may give e
+-- for the relations of a graph, a trace and an activity, by its own contract. Assumes nothing.
 use mathlib.Core.Path.{_≡_, refl, sym, ap, ap₂, subst, _∙_}
 use mathlib.Core.Bool.{Bool, true, false}
 use mathlib.Core.Logic.{_⊎_, inl, inr}
@@ -37,8 +37,7 @@ Shutter r σ a e = In e σ × (r .excludes e a ≡ true)
 
 -- included before, excluded by e, included by e: where a is out after e, e shut it out, or it was out and e left it so
 choices : (i x n : Bool) (e last : ℕ) → (i and non x or n) ≡ false
-    → (((when n then nothing else when x then e else last) ≡ e) × (x ≡ true))
-    ⊎ ((i ≡ false) × ((when n then nothing else when x then e else last) ≡ last))
+    → (((when n then nothing else when x then e else last) ≡ e) × (x ≡ true)) ⊎ ((i ≡ false) × ((when n then nothing else when x then e else last) ≡ last))
 unfolding _and_ _or_ non
 choices true false n e last h = absurd (false→F h tt)
 choices true true true e last h = absurd (false→F h tt)
