@@ -8,11 +8,13 @@ int printf(const char *format, ...);
 long read(int file, void *bytes, size_t count);
 void *memset(void *bytes, int value, size_t count);
 
-enum { MINE, LISTING, REWRITE, REPLAY, STEP, PLAIN_STEP, PLAIN_ACCEPTING, PLAIN_REPLAY, FILL, SUMMARY, DESK_OPEN, DESK_STEP, DESK_CLOSE, FUNCTIONS, END = 255 };
+enum { MINE, LISTING, REWRITE, REPLAY, STEP, PLAIN_STEP, PLAIN_ACCEPTING, PLAIN_REPLAY, FILL, SUMMARY, DESK_OPEN, DESK_STEP, DESK_CLOSE };
+enum { FINISH = DESK_CLOSE + 1, SHUT_BY, FUNCTIONS, END = 255 };
 enum { ROOM = 1 << 18, PAST = 64, UNTOUCHED = 165 };
 
 static const char *const names[FUNCTIONS] = {"mine",         "listing", "rewrite", "replay",    "step",      "plain step", "plain accepting",
-                                             "plain replay", "fill",    "summary", "desk open", "desk step", "desk close"};
+                                             "plain replay", "fill",    "summary", "desk open", "desk step", "desk close", "finish",
+                                             "shut by"};
 static uint8_t input[ROOM], beside[ROOM];
 static uint16_t memory[(ROOM + PAST) / 2], lists[4][ROOM / 2];
 static uint8_t *const lent = (uint8_t *)memory;
@@ -96,6 +98,8 @@ static uint64_t call(int function, size_t n, size_t m, size_t room, uint8_t acti
     case SUMMARY: return skelfora_summary(input, n, activity, lent, room);
     case REWRITE: return skelfora_rewrite(input, n, lent, room);
     case REPLAY: return skelfora_replay(input, n, beside, m);
+    case FINISH: return skelfora_finish(input, n, beside, m, lent, room);
+    case SHUT_BY: return skelfora_shut_by(input, n, beside, m, activity);
     default: return skelfora_step(input, n, lent, room, activity);
     }
 }

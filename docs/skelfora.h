@@ -27,7 +27,8 @@ enum {
     SKELFORA_WRONG_ARGUMENT = 12,
     SKELFORA_NO_PLACE_FREE = 13,
     SKELFORA_NOT_OPEN = 14,
-    SKELFORA_NOT_ACCEPTING = 15
+    SKELFORA_NOT_ACCEPTING = 15,
+    SKELFORA_NO_WAY_OUT = 17
 };
 
 /* The profiles; any other number is refused with 12, before the log is read. */
@@ -36,6 +37,10 @@ enum {
 
 /* What skelfora_place gives where skelfora_desk_open is refused. */
 #define SKELFORA_NO_PLACE 255
+
+/* The bytes of a way out, and what stands in an unused one. */
+#define SKELFORA_WAY_ROOM 4
+#define SKELFORA_NO_STEP 255
 
 /* What skelfora_blocker gives beside every number but SKELFORA_WAITING. */
 #define SKELFORA_NO_BLOCKER 255
@@ -98,6 +103,16 @@ uint64_t skelfora_plain_replay(const uint8_t *head, size_t head_len, const uint1
                                const uint16_t *responses, size_t responses_len, const uint16_t *includes, size_t includes_len,
                                const uint16_t *excludes, size_t excludes_len, const uint8_t *trace, size_t trace_len);
 
+/* How a half-done call can still finish: from a marking of 24 bytes the shortest way to its end, at most SKELFORA_WAY_ROOM steps, and of these
+ * the first by activity numbers, into the first bytes of way; SKELFORA_NO_STEP in those that are not used, in all where the call may end now.
+ * Gives the number: the file's, SKELFORA_BUFFER_TOO_SMALL for fewer than 24 bytes or fewer than four, SKELFORA_OUTSIDE,
+ * SKELFORA_NO_WAY_OUT where no four steps end it. Refused, way stays as it was. */
+uint64_t skelfora_finish(const uint8_t *file, size_t file_len, const uint8_t *marking, size_t marking_len, uint8_t *way, size_t room);
+
+/* What shut an activity out last in a trace and was not followed by what lets it in: any trace, of any length. Gives number + 256 * that
+ * activity; SKELFORA_NO_STEP where nothing did, and where the file is refused. */
+uint64_t skelfora_shut_by(const uint8_t *file, size_t file_len, const uint8_t *trace, size_t trace_len, uint8_t activity);
+
 /* Relation kind of a graph file (0 conditions, 1 responses, 2 includes, 3 excludes; any other has no pair) into the first numbers of memory.
  * Gives number + 256 * how many pairs. */
 uint64_t skelfora_fill(const uint8_t *file, size_t file_len, uint8_t kind, uint16_t *memory, size_t room);
@@ -121,6 +136,7 @@ static inline unsigned skelfora_number(uint64_t given) { return (unsigned)(given
 static inline size_t skelfora_length(uint64_t given) { return (size_t)((given >> 8) & 0xffffff); }
 static inline size_t skelfora_place(uint64_t given) { return skelfora_length(given); }
 static inline size_t skelfora_pairs(uint64_t given) { return skelfora_length(given); }
+static inline unsigned skelfora_shutter(uint64_t given) { return (unsigned)skelfora_length(given); }
 static inline unsigned skelfora_blocker(uint64_t given) { return (unsigned)((given >> 40) & 0xff); }
 static inline int skelfora_accepting(uint64_t given) { return (int)((given >> 32) & 1); }
 

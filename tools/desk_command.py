@@ -18,11 +18,14 @@ The call desk: one graph, and 32 places for vessels in port, each at its own mar
 
 The first three are answered by the proved library with one line: number, place, blocker (docs/FORMATS.md has the numbers).
 
-  ./desk port.graph                          on the graph of a file
-  ./desk --mine calls.log                    on the full graph of a log
+  ./desk port.graph                             on the graph of a file
+  ./desk --mine calls.log                       on the full graph of a log
   ./desk --names calls.names --mine calls.log   with the steps' names, in requests and answers"""
 
 STATUS = "exit status: 0 all requests answered, 1 the graph or the log is refused, 2 used wrongly, 3 something could not be read or built"
+
+# The two numbers that decide what is printed; docs/FORMATS.md has them all.
+WAITING, NOT_OPEN = 10, 14
 
 REQUESTS = "open, step P A, close P, show or show P"
 
@@ -86,9 +89,8 @@ class Desk:
         return int(word)
 
     def answer(self, given, place):
-        blocker = port.blocker(given)
-        blocked = port.number(given) == 10
-        return f"{port.number(given)} place {place} blocker {self.name(blocker) if blocked else 'none'}"
+        blocker = self.name(port.blocker(given)) if port.number(given) == WAITING else "none"
+        return f"{port.number(given)} place {place} blocker {blocker}"
 
     def open(self):
         given = self.library.call("skelfora_desk_open", self.file, self.table)
@@ -107,7 +109,7 @@ class Desk:
         copy = port.buffer(len(self.table))
         copy.raw = self.table.raw
         given = self.library.call("skelfora_desk_step", self.file, copy, handed(place), 255)
-        return given if port.number(given) == 14 else None
+        return given if port.number(given) == NOT_OPEN else None
 
     def places(self):
         found = [str(place) for place in range(port.PLACES) if self.not_open(place) is None]

@@ -30,8 +30,11 @@ def share():
 
 
 def build():
+    """Both of today's sources. What is newer than the archive was made of it."""
     program.made("the library", ARCHIVE, [os.path.join(program.ROOT, "compare", "staticlib")])
-    share()
+    archive, shared = (os.path.join(program.ROOT, path) for path in (ARCHIVE, SHARED))
+    if not os.path.exists(shared) or os.path.getmtime(shared) <= os.path.getmtime(archive):
+        share()
 
 
 def main(words):

@@ -8,7 +8,7 @@ from command import Fault
 
 GRAPH_ROOM = 2356
 PLACES, PLACE = 32, 25
-NO_PLACE = NO_BLOCKER = 255
+NO_PLACE = 255
 FULL = 0
 
 # The greatest number that a function can be handed; all above 31 are alike to the desk.
@@ -20,6 +20,10 @@ BYTES = [ctypes.c_char_p, ctypes.c_size_t]
 TAKEN = {
     "skelfora_mine": [*BYTES, ctypes.c_uint8, *BYTES],
     "skelfora_rewrite": [*BYTES, *BYTES],
+    "skelfora_replay": [*BYTES, *BYTES],
+    "skelfora_step": [*BYTES, *BYTES, ctypes.c_uint8],
+    "skelfora_finish": [*BYTES, *BYTES, *BYTES],
+    "skelfora_shut_by": [*BYTES, *BYTES, ctypes.c_uint8],
     "skelfora_desk_open": [*BYTES, *BYTES],
     "skelfora_desk_step": [*BYTES, *BYTES, ctypes.c_size_t, ctypes.c_uint8],
     "skelfora_desk_close": [*BYTES, *BYTES, ctypes.c_size_t],
@@ -61,6 +65,15 @@ def blocker(given):
     return given >> 40 & 0xFF
 
 
+def accepting(given):
+    return given >> 32 & 1 == 1
+
+
 def buffer(room):
     """Lent memory, all zeros."""
     return ctypes.create_string_buffer(room)
+
+
+def holding(given):
+    """Lent memory that holds these bytes."""
+    return ctypes.create_string_buffer(given, len(given))

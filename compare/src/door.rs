@@ -31,6 +31,11 @@ pub struct Door {
     /// graph file, marking (executed, pending, included: 24 bytes, with fewer 7), activity
     /// -> number + 2^40 x blocker
     pub step: fn(&[u8], &mut [u8], u8) -> u64,
+    /// graph file, marking (with fewer than 24 bytes 7), the four steps of the way (with fewer
+    /// than four bytes 7) -> number
+    pub finish: fn(&[u8], &[u8], &mut [u8]) -> u64,
+    /// graph file, trace, activity -> number + 256 x what shut it out, 255 where nothing did
+    pub shut_by: fn(&[u8], &[u8], u8) -> u64,
     /// the plain engine's step: marking, activity -> number + 2^40 x blocker
     pub plain_step: fn(&PlainGraph, &mut [u8], u8) -> u64,
     /// marking -> number + 2^32 where accepting
@@ -57,6 +62,12 @@ pub const SUMMARY_ROOM: usize = 2 * 64;
 
 /// No graph file is longer: 52 bytes and four times 64 rows of 9.
 pub const GRAPH_ROOM: usize = 52 + 4 * 64 * 9;
+
+/// A way out has four places.
+pub const WAY: usize = 4;
+
+/// Stands in an activity's stead where there is none.
+pub const NO_ACTIVITY: u8 = 255;
 
 /// A plain graph's head: A, events, executed, pending, included.
 pub const HEAD: usize = 33;
@@ -97,6 +108,25 @@ pub fn verdict(outcome: Result<bool, u8>) -> u64 {
     match outcome {
         Ok(accepting) => u64::from(accepting) << 32,
         Err(number) => u64::from(number),
+    }
+}
+
+/// A way out into the first bytes, or the number of a refusal, which leaves them.
+pub fn finished(outcome: Result<[u8; WAY], u8>, lent: &mut [u8]) -> u64 {
+    match outcome {
+        Ok(way) => {
+            lent[..WAY].copy_from_slice(&way);
+            0
+        }
+        Err(number) => u64::from(number),
+    }
+}
+
+/// What shut an activity out, or the number of a refusal.
+pub fn shut(outcome: Result<u8, u8>) -> u64 {
+    match outcome {
+        Ok(by) => filled(0, usize::from(by)),
+        Err(number) => filled(number, usize::from(NO_ACTIVITY)),
     }
 }
 

@@ -42,6 +42,21 @@ mod sys {
             marking_len: usize,
             activity: u8,
         ) -> u64;
+        pub fn skelfora_finish(
+            file: *const u8,
+            file_len: usize,
+            marking: *const u8,
+            marking_len: usize,
+            way: *mut u8,
+            room: usize,
+        ) -> u64;
+        pub fn skelfora_shut_by(
+            file: *const u8,
+            file_len: usize,
+            trace: *const u8,
+            trace_len: usize,
+            activity: u8,
+        ) -> u64;
         pub fn skelfora_plain_step(
             head: *const u8,
             head_len: usize,
@@ -150,6 +165,17 @@ mod calls {
         unsafe { sys::skelfora_step(file.as_ptr(), file.len(), lent, room, activity) }
     }
 
+    pub fn finish(file: &[u8], marking: &[u8], way: &mut [u8]) -> u64 {
+        let (lent, room) = (way.as_mut_ptr(), way.len());
+        let (m, m_len) = (marking.as_ptr(), marking.len());
+        unsafe { sys::skelfora_finish(file.as_ptr(), file.len(), m, m_len, lent, room) }
+    }
+
+    pub fn shut_by(file: &[u8], trace: &[u8], activity: u8) -> u64 {
+        let (t, t_len) = (trace.as_ptr(), trace.len());
+        unsafe { sys::skelfora_shut_by(file.as_ptr(), file.len(), t, t_len, activity) }
+    }
+
     pub fn plain_step(graph: &PlainGraph, marking: &mut [u8], activity: u8) -> u64 {
         let PlainGraph { head, lists } = graph;
         let [c, r, i, e] = lists;
@@ -231,6 +257,8 @@ pub fn door() -> Option<Door> {
         replay: calls::replay,
         rewrite: calls::rewrite,
         step: calls::step,
+        finish: calls::finish,
+        shut_by: calls::shut_by,
         plain_step: calls::plain_step,
         plain_accepting: calls::plain_accepting,
         plain_replay: calls::plain_replay,

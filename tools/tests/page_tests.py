@@ -45,6 +45,11 @@ def numbers(_folder):
     same(sorted(logfile.MEANING), [1, 2, 3, 4, 5], "the refusals of a log")
 
 
+@test("CLASSROOM: each call that it plays prints what the page shows")
+def played(folder):
+    pages.run("docs/CLASSROOM.md", folder)
+
+
 @test("CLASSROOM: each row of the page is one that ./classroom prints, in the page's order")
 def classroom(folder):
     gave = folder.run("./classroom")

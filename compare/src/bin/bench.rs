@@ -7,6 +7,7 @@
 //! a tenth of a millisecond each, and the best turn counts: other work on the machine then
 //! disturbs both alike, and the best turns hardly at all.
 use compare::door::{Door, FULL, GRAPH_ROOM, LIGHT};
+use compare::seeds::finish;
 use compare::seeds::shapes::{of_size, small, SHAPES, SIZES};
 use compare::{judge, port, yardstick};
 use std::hint::black_box;
@@ -149,9 +150,39 @@ fn row(doors: &[Door], sample: &Sample) {
     println!("{line}");
 }
 
+/// Half-done calls: the hard graphs, and the graph of the small log after half of a call. In
+/// microseconds a search, the graph file read in each.
+fn ways(doors: &[Door]) {
+    println!("a way out, microseconds a search");
+    let small = sample("small", small(3));
+    let half = &small.traces[0][..small.traces[0].len() / 2];
+    let mut mined = yardstick::graph_file::read(&small.file).expect("mined");
+    mined.marking = yardstick::engine::replay(&mined, half).marking;
+    let searches = [
+        ("mined", mined),
+        ("hopeless", finish::hopeless()),
+        ("restless", finish::restless()),
+    ];
+    for (name, graph) in searches {
+        let (file, marking) = finish::bytes(&graph);
+        let mut way = [0; 4];
+        let ns = best(doors, |door| {
+            black_box((door.finish)(black_box(&file), black_box(&marking), &mut way));
+        });
+        let mut line = format!("{name:<14}{:>12.2}", ns[0] / 1000.0);
+        for theirs in &ns[1..] {
+            line += &format!("{:>12.2}{:>7.2}", theirs / 1000.0, theirs / ns[0]);
+        }
+        println!("{line}");
+    }
+}
+
 fn main() {
     let mut doors = vec![yardstick::door::DOOR];
     doors.extend(port::door());
+    if std::env::args().any(|word| word == "--ways") {
+        return ways(&doors);
+    }
     head(doors.len() == 2);
     row(&doors, &sample("small", small(3)));
     for (name, shape) in SHAPES {
@@ -159,4 +190,5 @@ fn main() {
             row(&doors, &sample(name, of_size(shape, size, 11)));
         }
     }
+    ways(&doors);
 }

@@ -18,6 +18,8 @@ pub enum Function {
     DeskOpen,
     DeskStep,
     DeskClose,
+    Finish,
+    ShutBy,
 }
 
 pub struct Call<'a> {

@@ -4,9 +4,9 @@ use super::graph::{Graph, Marking};
 use super::graph_file::{self, read_marking, set_bytes};
 use super::listing::listing as list;
 use super::miner::{mine as mine_log, Profile};
-use super::{desk, log, plain, summary};
-use crate::door::{filled, opened, replayed, stepped, verdict, written, Door};
-use crate::door::{PLACE, PLACES, SUMMARY_ROOM, TABLE_ROOM};
+use super::{desk, finish, log, plain, summary};
+use crate::door::{filled, finished, opened, replayed, shut, stepped, verdict, written, Door};
+use crate::door::{PLACE, PLACES, SUMMARY_ROOM, TABLE_ROOM, WAY};
 use crate::value::{Answer, PlainGraph};
 
 pub const DOOR: Door = Door {
@@ -17,6 +17,8 @@ pub const DOOR: Door = Door {
     replay,
     rewrite,
     step,
+    finish: finish_on_file,
+    shut_by,
     plain_step,
     plain_accepting,
     plain_replay,
@@ -74,6 +76,23 @@ fn rewrite(file: &[u8], out: &mut [u8]) -> u64 {
 
 fn step(file: &[u8], lent: &mut [u8], activity: u8) -> u64 {
     stepped(step_on(graph_file::read(file), lent, activity))
+}
+
+/// The graph's refusals, 7 for what is too short, then the marking's, then 17.
+fn finish_on_file(file: &[u8], marking: &[u8], lent: &mut [u8]) -> u64 {
+    let way = graph_file::read(file).and_then(|graph| {
+        if marking.len() < 24 || lent.len() < WAY {
+            return Err(7);
+        }
+        let marking = read_marking(marking);
+        accepting(&graph, &marking)?;
+        finish::finish(&graph, &marking)
+    });
+    finished(way, lent)
+}
+
+fn shut_by(file: &[u8], trace: &[u8], a: u8) -> u64 {
+    shut(graph_file::read(file).map(|graph| finish::shut_by(&graph, trace, a)))
 }
 
 fn plain_step(graph: &PlainGraph, lent: &mut [u8], activity: u8) -> u64 {

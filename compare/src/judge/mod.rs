@@ -7,6 +7,7 @@ pub mod desk;
 pub mod door;
 pub mod engine;
 pub mod facts;
+pub mod finish;
 pub mod graph;
 pub mod graph_file;
 pub mod listing;

@@ -1,6 +1,7 @@
 //! Inputs from seeds: the same seed gives the same bytes on every machine.
 pub mod damage;
 pub mod desk;
+pub mod finish;
 pub mod graphs;
 pub mod logs;
 pub mod plain;

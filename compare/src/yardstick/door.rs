@@ -1,9 +1,9 @@
 //! The yardstick behind the functions of `port`.
 use super::graph_file::{marking_at, read_into, write_judged};
 use super::rows::transposed;
-use super::{desk, engine, listing as lister, log, miner, plain};
-use crate::door::{filled, opened, replayed, stepped, verdict, written};
-use crate::door::{Door, LIGHT, SUMMARY_ROOM};
+use super::{desk, engine, finish as search, listing as lister, log, miner, plain};
+use crate::door::{filled, finished, opened, replayed, shut, stepped, verdict, written};
+use crate::door::{Door, LIGHT, SUMMARY_ROOM, WAY};
 use crate::value::{Answer, GraphValue, MarkingValue, PlainGraph};
 
 pub const DOOR: Door = Door {
@@ -14,6 +14,8 @@ pub const DOOR: Door = Door {
     replay,
     rewrite,
     step,
+    finish,
+    shut_by,
     plain_step,
     plain_accepting,
     plain_replay,
@@ -94,6 +96,22 @@ fn lent_marking(graph: &GraphValue, lent: &[u8]) -> Result<MarkingValue, u8> {
         return Err(5);
     }
     Ok(m)
+}
+
+fn finish(file: &[u8], marking: &[u8], lent: &mut [u8]) -> u64 {
+    let mut graph = GraphValue::EMPTY;
+    let way = read_into(file, &mut graph).and_then(|()| {
+        if lent.len() < WAY {
+            return Err(7);
+        }
+        search::finish(&graph, &lent_marking(&graph, marking)?)
+    });
+    finished(way, lent)
+}
+
+fn shut_by(file: &[u8], trace: &[u8], a: u8) -> u64 {
+    let mut graph = GraphValue::EMPTY;
+    shut(read_into(file, &mut graph).map(|()| search::shut_by(&graph, trace, a)))
 }
 
 fn step_judged(graph: &GraphValue, lent: &mut [u8], activity: u8) -> Result<(), Answer> {

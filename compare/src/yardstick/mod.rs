@@ -5,6 +5,7 @@ pub mod desk;
 pub mod door;
 pub mod engine;
 pub mod facts;
+pub mod finish;
 pub mod graph_file;
 pub mod listing;
 pub mod log;

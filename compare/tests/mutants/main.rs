@@ -3,6 +3,7 @@
 mod desk;
 mod engine;
 mod files;
+mod finish;
 mod mining;
 mod plain;
 mod wrong_steps;

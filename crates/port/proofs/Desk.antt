@@ -4,7 +4,7 @@ use mathlib.Core.Bool.{Bool, true, false, not}
 use mathlib.Core.List.{List}
 use Prim.Native.Nat.{ℕ, _≤_, _<_}
 use borrow.Author.Tests.{not-true, not-false, eq-eqb, ne-eqb, lt-ltb, le-ltb}
-use lib.Dec.{eqb, ltb}
+use lib.Dec.{ltb}
 use lib.ListN.{length, getD}
 use Rattle.sets.specs.Tests.{non, when_then_else_}
 use Rattle.sets.specs.Answers.{isDone, thenAsk}
@@ -12,15 +12,15 @@ use Rattle.sets.specs.declared.answer.Answer.{Answer}
 use Rattle.sets.specs.declared.answer.Answer.the-variants.{Done, BufferTooSmall, NotOpen}
 use Rattle.sets.proofs.Asking.{ask-on, ask-stop, done-is}
 use Rattle.sets.proofs.Ways.{taken, passed-by}
-use Rattle.engine.specs.declared.graph.Graph.{Graph}
 use Rattle.graphfile.specs.Held.{readOf}
 use Rattle.graphfile.specs.declared.reader.Reading.{Reading}
 use Rattle.desk.specs.Places.{placeCount, tableLength, placeStart, isOpen}
 use Rattle.desk.proofs.Placing.{open-above, open-byte}
-use Rattle.desk.specs.Desk.{onTable, noPlace, openedOf, tableOpened, stepAnswer, tableStepped, closeAnswer, tableClosed}
+use Rattle.desk.specs.Desk.{noPlace, openedOf, tableOpened, stepAnswer, tableStepped, closeAnswer, tableClosed}
 use Rattle.desk.specs.declared.requests.Opened.{Opened}
 use Rattle.port.specs.Port.{packedOf, blockedOf}
-use Rattle.port.specs.Desk.{placeAnswer, beforeOpen, beforePlace, refusedOpen, deskOpenedOf, deskOpenNumber, deskOpenTable, deskStepNumber, deskStepTable, deskCloseNumber, deskCloseTable}
+use Rattle.port.specs.Desk.{placeAnswer, beforeOpen, beforePlace, refusedOpen, deskOpenedOf, deskOpenNumber, deskOpenTable}
+use Rattle.port.specs.Desk.{deskStepNumber, deskStepTable, deskCloseNumber, deskCloseTable}
 
 -- ---- a place, by its first byte
 
@@ -28,7 +28,8 @@ module _ (table : List ℕ) (p : ℕ) where
   abbrev chosen : Bool → Bool → Answer
   chosen short there = when short then BufferTooSmall else when non there then NotOpen else Done
 
-  by-tests : (short there : Bool) → ltb (length table) tableLength ≡ short → isOpen table p ≡ there → chosen short there ≡ placeAnswer table p
+  by-tests : (short there : Bool) → ltb (length table) tableLength ≡ short → isOpen table p ≡ there
+      → chosen short there ≡ placeAnswer table p
   unfolding placeAnswer
   by-tests short there s o = sym (ap₂ chosen s o)
 
@@ -92,7 +93,9 @@ module _ (file table : List ℕ) where
   module _ (short : length table < tableLength) where
     too-few : BufferTooSmall ≡ beforeOpen file table
     unfolding beforeOpen
-    too-few = taken (ltb (length table) tableLength) BufferTooSmall (readOf file .answer) BufferTooSmall (sym (lt-ltb (length table) tableLength short)) refl
+    too-few =
+        taken (ltb (length table) tableLength) BufferTooSmall (readOf file .answer) BufferTooSmall
+        (sym (lt-ltb (length table) tableLength short)) refl
 
     pub open-short : (n : ℕ) → n ≡ packedOf BufferTooSmall noPlace → n ≡ deskOpenNumber file table
     open-short n e = open-refused-number BufferTooSmall too-few refl n e
@@ -104,8 +107,8 @@ module _ (file table : List ℕ) where
     the-file : r .answer ≡ beforeOpen file table
     unfolding beforeOpen
     the-file =
-        passed-by (ltb (length table) tableLength) BufferTooSmall (readOf file .answer) (r .answer) (sym (le-ltb (length table) tableLength long))
-        (ap (λ (x : Reading). x .answer) hr)
+        passed-by (ltb (length table) tableLength) BufferTooSmall (readOf file .answer) (r .answer)
+        (sym (le-ltb (length table) tableLength long)) (ap (λ (x : Reading). x .answer) hr)
 
     pub open-no-file : (n : ℕ) → not d ≡ true → n ≡ packedOf (r .answer) noPlace → n ≡ deskOpenNumber file table
     open-no-file n t e = open-refused-number (r .answer) the-file (sym hd ∙ not-true d t) n e
@@ -125,7 +128,8 @@ module _ (file table : List ℕ) where
         (served (beforeOpen file table) (before t) (openedOf (readOf file .graph) table) (refusedOpen (beforeOpen file table)) o
         (q ∙ ap (λ (x : Reading). openedOf (x .graph) table) hr))
 
-    pub open-served-table : (table′ : List ℕ) → not d ≡ false → table′ ≡ tableOpened (r .graph) table → table′ ≡ deskOpenTable file table
+    pub open-served-table : (table′ : List ℕ) → not d ≡ false → table′ ≡ tableOpened (r .graph) table
+        → table′ ≡ deskOpenTable file table
     unfolding deskOpenTable
     open-served-table table′ t q =
         served (beforeOpen file table) (before t) (tableOpened (readOf file .graph) table) table table′
@@ -141,7 +145,9 @@ module _ (file table : List ℕ) (p : ℕ) where
     step-refused-number : (e n : ℕ) → n ≡ blockedOf a 0 false → n ≡ deskStepNumber file table p e
     unfolding deskStepNumber
     step-refused-number e n h =
-        h ∙ ap (λ (x : Answer). blockedOf x 0 false) (stays (beforePlace file table p) a same no (stepAnswer (readOf file .graph) table p e))
+        h
+        ∙ ap (λ (x : Answer). blockedOf x 0 false)
+        (stays (beforePlace file table p) a same no (stepAnswer (readOf file .graph) table p e))
 
     step-refused-table : (e : ℕ) → table ≡ deskStepTable file table p e
     unfolding deskStepTable
@@ -150,7 +156,9 @@ module _ (file table : List ℕ) (p : ℕ) where
     close-refused-number : (n : ℕ) → n ≡ packedOf a 0 → n ≡ deskCloseNumber file table p
     unfolding deskCloseNumber
     close-refused-number n h =
-        h ∙ ap (λ (x : Answer). packedOf x 0) (stays (beforePlace file table p) a same no (closeAnswer (readOf file .graph) table p))
+        h
+        ∙ ap (λ (x : Answer). packedOf x 0)
+        (stays (beforePlace file table p) a same no (closeAnswer (readOf file .graph) table p))
 
     close-refused-table : table ≡ deskCloseTable file table p
     unfolding deskCloseTable
@@ -207,20 +215,23 @@ module _ (file table : List ℕ) (p : ℕ) where
         on : (y : Answer) → thenAsk (beforePlace file table p) y ≡ y
         on y = ask-on (beforePlace file table p) y (done-is (beforePlace file table p) asked)
 
-        pub step-served : (e n : ℕ) (x : Answer) → x ≡ stepAnswer (r .graph) table p e → n ≡ blockedOf x 0 false → n ≡ deskStepNumber file table p e
+        pub step-served : (e n : ℕ) (x : Answer) → x ≡ stepAnswer (r .graph) table p e → n ≡ blockedOf x 0 false
+            → n ≡ deskStepNumber file table p e
         unfolding deskStepNumber
         step-served e n x q h =
             h
             ∙ ap (λ (y : Answer). blockedOf y 0 false)
             (q ∙ ap (λ (y : Reading). stepAnswer (y .graph) table p e) hr ∙ sym (on (stepAnswer (readOf file .graph) table p e)))
 
-        pub step-served-table : (e : ℕ) (table′ : List ℕ) → table′ ≡ tableStepped (r .graph) table p e → table′ ≡ deskStepTable file table p e
+        pub step-served-table : (e : ℕ) (table′ : List ℕ) → table′ ≡ tableStepped (r .graph) table p e
+            → table′ ≡ deskStepTable file table p e
         unfolding deskStepTable
         step-served-table e table′ q =
             served (beforePlace file table p) asked (tableStepped (readOf file .graph) table p e) table table′
             (q ∙ ap (λ (y : Reading). tableStepped (y .graph) table p e) hr)
 
-        pub close-served : (n : ℕ) (x : Answer) → x ≡ closeAnswer (r .graph) table p → n ≡ packedOf x 0 → n ≡ deskCloseNumber file table p
+        pub close-served : (n : ℕ) (x : Answer) → x ≡ closeAnswer (r .graph) table p → n ≡ packedOf x 0
+            → n ≡ deskCloseNumber file table p
         unfolding deskCloseNumber
         close-served n x q h =
             h

@@ -1,3 +1,4 @@
 pub mod Packing
 pub mod Handing
 pub mod Desk
+pub mod WayOut

@@ -1,3 +1,4 @@
 pub mod Port
 pub mod Classroom
 pub mod Desk
+pub mod WayOut

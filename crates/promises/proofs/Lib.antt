@@ -14,3 +14,5 @@ pub mod PlainEngine
 pub mod Blocker
 pub mod Light
 pub mod Desk
+pub mod Finish
+pub mod ShutOut

@@ -56,6 +56,8 @@ use Rattle.plain.proofs.step.step.Reads as plain-step
 use Rattle.plain.proofs.step.accepting.Reads as plain-accepting
 use Rattle.plain.proofs.replay.replay.Reads as plain-replay
 use Rattle.plain.proofs.fill.fill.Reads as plain-fill
+use Rattle.finish.proofs.search.finish.Reads as finish
+use Rattle.finish.proofs.shut.shut_by.Reads as shut-by
 use Rattle.calllog.proofs.judge.judge_log.Reads as judge-log
 use Rattle.calllog.proofs.trace.trace_part.Reads as trace-part
 use Rattle.calllog.proofs.trace.find_trace.Reads as find-trace
@@ -90,6 +92,8 @@ use Rattle.port.proofs.skelfora_summary.Reads as skelfora-summary
 use Rattle.port.proofs.skelfora_rewrite.Reads as skelfora-rewrite
 use Rattle.port.proofs.skelfora_replay.Reads as skelfora-replay
 use Rattle.port.proofs.skelfora_step.Reads as skelfora-step
+use Rattle.port.proofs.way_out.skelfora_finish.Reads as skelfora-finish
+use Rattle.port.proofs.way_out.skelfora_shut_by.Reads as skelfora-shut-by
 use Rattle.port.proofs.classroom.skelfora_plain_step.Reads as skelfora-plain-step
 use Rattle.port.proofs.classroom.skelfora_plain_accepting.Reads as skelfora-plain-accepting
 use Rattle.port.proofs.classroom.skelfora_plain_replay.Reads as skelfora-plain-replay
@@ -291,6 +295,14 @@ plain-replay-once κ a r r′ s s′ h h′ = h ∙ sym h′
 pub plain-fill-once : OnceLent plain-fill.Post (λ κ s. now (s .1 .1 .0))
 plain-fill-once κ a r r′ s s′ h h′ = (h .0 ∙ sym (h′ .0), h .1 ∙ sym (h′ .1))
 
+-- ---- finish
+
+pub finish-once : Once finish.Post
+finish-once κ a r r′ s s′ h h′ = h ∙ sym h′
+
+pub shut-by-once : Once shut-by.Post
+shut-by-once κ a r r′ s s′ h h′ = ap {B = Activity} (λ n. record { 0 = n }) (h ∙ sym h′)
+
 -- ---- calllog
 
 pub judge-log-once : Once judge-log.Post
@@ -423,6 +435,12 @@ skelfora-replay-once κ a r r′ s s′ h h′ = h ∙ sym h′
 
 pub skelfora-step-once : OnceLent skelfora-step.Post (λ κ s. now (s .1 .0))
 skelfora-step-once κ a r r′ s s′ h h′ = (h .0 ∙ sym (h′ .0), h .1 ∙ sym (h′ .1))
+
+pub skelfora-finish-once : OnceLent skelfora-finish.Post (λ κ s. now (s .1 .1 .0))
+skelfora-finish-once κ a r r′ s s′ h h′ = (h .0 ∙ sym (h′ .0), h .1 ∙ sym (h′ .1))
+
+pub skelfora-shut-by-once : Once skelfora-shut-by.Post
+skelfora-shut-by-once κ a r r′ s s′ h h′ = h ∙ sym h′
 
 pub skelfora-plain-step-once : OnceLent skelfora-plain-step.Post (λ κ s. now (s .1 .1 .1 .1 .1 .0))
 skelfora-plain-step-once κ a r r′ s s′ h h′ = (h .0 ∙ sym (h′ .0), h .1 ∙ sym (h′ .1))

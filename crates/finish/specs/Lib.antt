@@ -1,0 +1,4 @@
+pub mod Ways
+pub mod Sequences
+pub mod Parts
+pub mod Shut

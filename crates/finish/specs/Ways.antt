@@ -1,0 +1,68 @@
+-- How a call can still finish (02, 8/12), for every graph and marking.
+use mathlib.Core.Bool.{Bool}
+use mathlib.Core.List.{List, [], _∷_}
+use Prim.Native.Nat.{ℕ, zero, suc}
+use lib.Dec.{ltb}
+use lib.ListN.{getD}
+use Rattle.sets.specs.Tests.{_and_, when_then_else_}
+use Rattle.sets.specs.Members.{width, someBelow, leastBelow}
+use Rattle.sets.specs.Answers.{isDone}
+use Rattle.sets.specs.declared.activity.Activity.{Activity}
+use Rattle.sets.specs.declared.set.Set.{Set}
+use Rattle.sets.specs.declared.answer.Answer.{Answer}
+use Rattle.sets.specs.declared.answer.Answer.the-variants.{Done, NoWayOut}
+use Rattle.engine.specs.declared.marking.Marking.{Marking}
+use Rattle.engine.specs.declared.graph.Graph.{Graph}
+use Rattle.engine.specs.Relations.{Relations, relationsOf}
+use Rattle.engine.specs.Steps.{enabled, after, accepting}
+use Rattle.engine.specs.Judged.{judgedWith}
+use Rattle.finish.specs.declared.search.Way.{Way}
+use Rattle.finish.specs.declared.search.Finished.{Finished}
+
+-- "a sequence of at most 4 activities"
+abbrev pub mostSteps : ℕ
+mostSteps = 4
+
+-- some n steps, each enabled in its turn, end where the call is accepting
+unfoldable pub canFinish : Set → Relations → ℕ → Marking → Bool
+canFinish events r zero m = accepting m
+canFinish events r (suc n) m = someBelow width (λ a. isDone (enabled events r m a) and canFinish events r n (after r m a))
+
+-- they can begin with a
+abbrev pub begins : Set → Relations → ℕ → Marking → ℕ → Bool
+begins events r n m a = isDone (enabled events r m a) and canFinish events r n (after r m a)
+
+-- the first n steps by activity numbers: the least that they can begin with, then the same from the marking after it
+unfoldable pub wayOf : Set → Relations → ℕ → Marking → List ℕ
+wayOf events r zero m = []
+wayOf events r (suc n) m =
+    leastBelow width (begins events r n m) ∷ wayOf events r n (after r m (leastBelow width (begins events r n m)))
+
+-- "the shortest": the least number of steps, or one more than there may be
+unfoldable pub fewest : Set → Relations → Marking → ℕ
+fewest events r m = leastBelow (suc mostSteps) (λ n. canFinish events r n m)
+
+-- "unused places of the four hold 255"
+abbrev pub unused : ℕ
+unused = 255
+
+abbrev placeOf : List ℕ → ℕ → Activity
+placeOf σ k = record { 0 = getD σ k unused }
+
+abbrev pub inFour : List ℕ → Way
+inFour σ = record { first = placeOf σ 0; second = placeOf σ 1; third = placeOf σ 2; fourth = placeOf σ 3 }
+
+abbrev pub finishedBy : Answer → List ℕ → Finished
+finishedBy a σ = record { answer = a; way = inFour σ }
+
+-- the shortest way, and of these the first; 17 where there is none
+unfoldable pub shortestOf : Set → Relations → Marking → Finished
+shortestOf events r m =
+    when ltb mostSteps (fewest events r m) then finishedBy NoWayOut []
+    else finishedBy Done (wayOf events r (fewest events r m) m)
+
+-- the refusals of the graph and of the marking come first; a refusal returns four 255s
+unfoldable pub finishOf : Graph → Marking → Finished
+finishOf g m =
+    when isDone (judgedWith g m) then shortestOf (g .head .events) (relationsOf g) m
+    else finishedBy (judgedWith g m) []

@@ -1,0 +1,166 @@
+// The way out of a half-done call: the shortest sequence of steps after which it is accepting, and of these the first by activity
+// numbers (02, 8/12). The search tries one activity and asks the same question with one step fewer left.
+ghost use mathlib.Core.Path.{_≡_};
+ghost use Rattle.engine.specs.Relations.{inTables};
+ghost use Rattle.sets.specs.Members.{width, leastBelow};
+ghost use Rattle.finish.specs.Ways.{shortestOf, finishOf};
+ghost use Rattle.finish.specs.Parts.{settlersOf, openFrom, aheadOf, foundOf};
+use crate::settle;
+use engine::Graph;
+use engine::Marking;
+use engine::Relations;
+use engine::judge;
+use engine::step;
+use sets::Activity;
+use sets::Answer;
+use sets::Rows;
+use sets::Set;
+
+// Four steps; 255 in the places that are not used.
+pub struct Way {
+    pub first: Activity,
+    pub second: Activity,
+    pub third: Activity,
+    pub fourth: Activity,
+}
+
+// What a search gives: its answer, and the way out; four 255s where it is refused.
+pub struct Finished {
+    pub answer: Answer,
+    pub way: Way,
+}
+
+// Whether there is a way of the length asked for, and the first one.
+struct Found {
+    there: bool,
+    way: Way,
+}
+
+impl Way {
+    // What stands in an unused place.
+    pub const UNUSED: Activity = Activity(255);
+    // How many steps a way may have.
+    pub const LIMIT: u8 = 4;
+    // No step.
+    pub const NONE: Way = Way {
+        first: Way::UNUSED,
+        second: Way::UNUSED,
+        third: Way::UNUSED,
+        fourth: Way::UNUSED,
+    };
+}
+
+impl Found {
+    const NOWHERE: Found = Found {
+        there: false,
+        way: Way::NONE,
+    };
+
+    // A way that was found, with a step in front.
+    fn ahead(self, a: Activity) -> Found
+        ensures { λ r. ⌜ r ≡ aheadOf (a .0) self ⌝ }
+    {
+        let rest = self.way;
+        let second = rest.first;
+        let third = rest.second;
+        let fourth = rest.third;
+        let way = Way {
+            first: a,
+            second,
+            third,
+            fourth,
+        };
+        Found { there: true, way }
+    }
+}
+
+// The least of some activities, from a number on, that is enabled; the limit where there is none.
+fn open_from(live: Set, events: Set, relations: &Relations, m: Marking, from: u8) -> Activity
+    ensures { λ r. ⌜ r .0 ≡ leastBelow width (openFrom live events (inTables (now (relations .entry))) m from) ⌝ }
+{
+    let rest = live.difference(Set::below(from));
+    let mut a = rest.least();
+    while a.0 < Activity::LIMIT {
+        let answer = step::ask(events, relations, m, a);
+        if answer.is_done() {
+            return a;
+        }
+        a = rest.next(a);
+    }
+    Activity(Activity::LIMIT)
+}
+
+// The first way of exactly so many steps.
+fn first_way<'a>(
+    events: Set,
+    relations: &'a Relations,
+    settlers: &'a Rows,
+    m: Marking,
+    left: u8,
+) -> Found
+    requires { ⌜ now settlers ≡ settlersOf events (inTables (now relations)) ⌝ }
+    ensures { λ r. ⌜ r ≡ foundOf events (inTables (now (relations .entry))) left m ⌝ }
+{
+    if left == 0 {
+        let there = step::is_accepting(m);
+        return Found {
+            there,
+            way: Way::NONE,
+        };
+    }
+    let live = settle::candidates(events, settlers, m, left);
+    let mut a = open_from(live, events, relations, m, 0);
+    while a.0 < Activity::LIMIT {
+        let rest = first_way(
+            events,
+            relations,
+            settlers,
+            step::next(relations, m, a),
+            left - 1,
+        );
+        if rest.there {
+            return rest.ahead(a);
+        }
+        a = open_from(live, events, relations, m, a.0 + 1);
+    }
+    Found::NOWHERE
+}
+
+// The way with the fewest steps, from 0 up to the limit.
+fn shortest<'a>(events: Set, relations: &'a Relations, settlers: &'a Rows, m: Marking) -> Finished
+    requires { ⌜ now settlers ≡ settlersOf events (inTables (now relations)) ⌝ }
+    ensures { λ r. ⌜ r ≡ shortestOf events (inTables (now (relations .entry))) m ⌝ }
+{
+    let mut steps: u8 = 0;
+    while steps <= Way::LIMIT {
+        let found = first_way(events, relations, settlers, m, steps);
+        if found.there {
+            let way = found.way;
+            return Finished {
+                answer: Answer::Done,
+                way,
+            };
+        }
+        steps += 1;
+    }
+    Finished {
+        answer: Answer::NoWayOut,
+        way: Way::NONE,
+    }
+}
+
+// The way out on any graph from any marking: the refusals of both, then 17 where there is none.
+pub fn finish(g: Graph, m: Marking) -> Finished
+    ensures { λ r. ⌜ r ≡ finishOf g m ⌝ }
+{
+    let head = g.head;
+    let answer = judge::judge_beside(head, &g.relations, m);
+    if !answer.is_done() {
+        return Finished {
+            answer,
+            way: Way::NONE,
+        };
+    }
+    let settlers = settle::settlers(head.events, &g.relations);
+    shortest(head.events, &g.relations, &settlers, m)
+}

@@ -1,0 +1,127 @@
+-- What the calls of a way out ensure, put together. Assumes nothing.
+use mathlib.Core.Path.{_≡_, refl, sym, ap, ap₂, _∙_}
+use mathlib.Core.Bool.{Bool, true, false, not}
+use mathlib.Core.List.{List, [], _∷_}
+use Prim.Native.Nat.{ℕ, _≤_, _<_}
+use borrow.Author.Tests.{not-true, not-false, lt-ltb, le-ltb}
+use lib.Dec.{ltb}
+use lib.ListN.{length}
+use lib.Seq.{sets}
+use Rattle.sets.specs.Tests.{non, when_then_else_}
+use Rattle.sets.specs.Answers.{numberOf, isDone}
+use Rattle.sets.specs.declared.answer.Answer.{Answer}
+use Rattle.sets.specs.declared.answer.Answer.the-variants.{BufferTooSmall}
+use Rattle.engine.specs.Relations.{relationsOf}
+use Rattle.engine.specs.declared.marking.Marking.{Marking}
+use Rattle.graphfile.specs.Held.{readOf}
+use Rattle.graphfile.specs.Markings.{markingFrom}
+use Rattle.graphfile.specs.declared.reader.Reading.{Reading}
+use Rattle.finish.specs.Ways.{finishedBy, finishOf}
+use Rattle.finish.specs.Shut.{nothing, shutBy}
+use Rattle.finish.specs.declared.search.Way.{Way}
+use Rattle.finish.specs.declared.search.Finished.{Finished}
+use Rattle.port.specs.Port.{packedOf}
+use Rattle.port.specs.WayOut.{wayInto, finishIn, finishNumber, finishBytes, shutNumber}
+
+-- ---- a way put down
+
+module _ (w : Way) (bytes : List ℕ) where
+  abbrev fourSet : List ℕ
+  fourSet = sets bytes 0 (w .first .0 ∷ w .second .0 ∷ w .third .0 ∷ w .fourth .0 ∷ [])
+
+  pub way-put : 4 ≤ length bytes → fourSet ≡ wayInto w bytes
+  unfolding wayInto
+  way-put l = sym (ap (λ (b : Bool). when b then bytes else fourSet) (le-ltb (length bytes) 4 l))
+
+  pub way-short : length bytes < 4 → bytes ≡ wayInto w bytes
+  unfolding wayInto
+  way-short l = sym (ap (λ (b : Bool). when b then bytes else fourSet) (lt-ltb (length bytes) 4 l))
+
+-- ---- the search on a file
+
+module _ (file marking : List ℕ) (room : ℕ) where
+  -- what it gives where the file is refused or not, and where the marking or the room is short or not
+  abbrev chosen : Bool → Bool → Bool → Finished
+  chosen d short narrow =
+      when non d then finishedBy (readOf file .answer) []
+      else when short then finishedBy BufferTooSmall []
+      else when narrow then finishedBy BufferTooSmall []
+      else finishOf (readOf file .graph) (markingFrom marking)
+
+  module _ (r : Reading) (d : Bool) (hr : r ≡ readOf file) (hd : d ≡ isDone (r .answer)) where
+    choice : (t short narrow : Bool) → d ≡ t → ltb (length marking) 24 ≡ short → ltb room 4 ≡ narrow
+        → chosen t short narrow ≡ finishIn file marking room
+    unfolding finishIn
+    choice t short narrow e l n =
+        sym
+        (ap₂ (λ (x y : Bool). chosen x y (ltb room 4)) (ap (λ (x : Reading). isDone (x .answer)) (sym hr) ∙ sym hd ∙ e) l
+        ∙ ap (chosen t short) n)
+
+    pub finish-refused : not d ≡ true → finishedBy (r .answer) [] ≡ finishIn file marking room
+    unfolding non
+    finish-refused n = ap (λ (x : Reading). finishedBy (x .answer) []) hr ∙ choice false _ _ (not-true d n) refl refl
+
+    pub finish-short : not d ≡ false → length marking < 24 → finishedBy BufferTooSmall [] ≡ finishIn file marking room
+    unfolding non
+    finish-short n l = choice true true _ (not-false d n) (lt-ltb (length marking) 24 l) refl
+
+    pub finish-narrow : not d ≡ false → 24 ≤ length marking → room < 4 → finishedBy BufferTooSmall [] ≡ finishIn file marking room
+    unfolding non
+    finish-narrow n l k = choice true false true (not-false d n) (le-ltb (length marking) 24 l) (lt-ltb room 4 k)
+
+    pub finish-searched : (m : Marking) (f : Finished) → not d ≡ false → 24 ≤ length marking → 4 ≤ room → m ≡ markingFrom marking
+        → f ≡ finishOf (r .graph) m → f ≡ finishIn file marking room
+    unfolding non
+    finish-searched m f n l k hm hf =
+        hf
+        ∙ ap₂ (λ (x : Reading) (y : Marking). finishOf (x .graph) y) hr hm
+        ∙ choice true false false (not-false d n) (le-ltb (length marking) 24 l) (le-ltb room 4 k)
+
+pub ruleset finding = (finish-refused, finish-short, finish-narrow, finish-searched)
+
+-- ---- its number and its bytes
+
+module _ (file marking way : List ℕ) (f : Finished) (hf : f ≡ finishIn file marking (length way)) where
+  pub finish-number : (n : ℕ) → n ≡ numberOf (f .answer) → n ≡ finishNumber file marking (length way)
+  finish-number n e = e ∙ ap (λ (x : Finished). numberOf (x .answer)) hf
+
+  abbrev left : Bool → List ℕ
+  left t = when t then wayInto (finishIn file marking (length way) .way) way else way
+
+  tested : (t x : Bool) → t ≡ isDone (f .answer) → t ≡ x → isDone (finishIn file marking (length way) .answer) ≡ x
+  tested t x ht e = sym (ap (λ (y : Finished). isDone (y .answer)) hf) ∙ sym ht ∙ e
+
+  pub way-given : (t : Bool) (way′ : List ℕ) → t ≡ isDone (f .answer) → not t ≡ false → way′ ≡ wayInto (f .way) way
+      → way′ ≡ finishBytes file marking way
+  unfolding finishBytes
+  way-given t way′ ht y e = e ∙ ap (λ (x : Finished). wayInto (x .way) way) hf ∙ sym (ap left (tested t true ht (not-false t y)))
+
+  pub way-kept : (t : Bool) → t ≡ isDone (f .answer) → not t ≡ true → way ≡ finishBytes file marking way
+  unfolding finishBytes
+  way-kept t ht y = sym (ap left (tested t false ht (not-true t y)))
+
+pub ruleset finishing = (finish-number, way-given, way-kept)
+
+-- ---- what shut a step out
+
+module _ (file trace : List ℕ) (a : ℕ) (r : Reading) (d : Bool) (hr : r ≡ readOf file) (hd : d ≡ isDone (r .answer)) where
+  abbrev packedWhere : Bool → ℕ
+  packedWhere t = packedOf (readOf file .answer) (when t then shutBy (relationsOf (readOf file .graph)) trace a else nothing)
+
+  tested-read : (t : Bool) → d ≡ t → isDone (readOf file .answer) ≡ t
+  tested-read t e = sym (ap (λ (x : Reading). isDone (x .answer)) hr) ∙ sym hd ∙ e
+
+  pub shut-refused : (n : ℕ) → not d ≡ true → n ≡ packedOf (r .answer) 255 → n ≡ shutNumber file trace a
+  unfolding shutNumber
+  shut-refused n t e = e ∙ ap (λ (x : Reading). packedOf (x .answer) 255) hr ∙ sym (ap packedWhere (tested-read false (not-true d t)))
+
+  pub shut-told : (n by : ℕ) → not d ≡ false → by ≡ shutBy (relationsOf (r .graph)) trace a → n ≡ packedOf (r .answer) by
+      → n ≡ shutNumber file trace a
+  unfolding shutNumber
+  shut-told n by t h e =
+      e
+      ∙ ap (packedOf (r .answer)) h
+      ∙ ap (λ (x : Reading). packedOf (x .answer) (shutBy (relationsOf (x .graph)) trace a)) hr
+      ∙ sym (ap packedWhere (tested-read true (not-false d t)))
+
+pub ruleset shut-out = (shut-refused, shut-told)

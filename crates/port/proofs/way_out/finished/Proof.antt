@@ -1,0 +1,10 @@
+use borrow.Author.Needs.{needs}
+use Rattle.port.proofs.WayOut.{finding}
+use Rattle.port.proofs.way_out.finished.Statement.{statement}
+use Rattle.port.proofs.way_out.finished.Tie as tie
+
+pub finished-spec : {M : Type 1} → statement M
+finished-spec =
+    tie.close
+    (tie.spec (λ c κs. search needs) (λ c κs. search needs) (λ c. search (finding, needs)) (λ c. search (finding, needs))
+    (λ c. search (finding, needs)) (λ c κs. search needs) (λ c κs. search needs) (λ c. search (finding, needs)))
