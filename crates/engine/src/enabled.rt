@@ -14,22 +14,11 @@ use crate::step;
 use sets::Activity;
 use sets::Set;
 
-// The set of the activity where a test holds; else empty.
-fn one_if(test: bool, a: Activity) -> Set
-    ensures { λ r. ⌜ r ≡ those (λ b. test and eqb b (a .0)) ⌝ }
-{
-    if test {
-        Set::one(a)
-    } else {
-        Set::EMPTY
-    }
-}
-
 // The set with the activity, where that is enabled.
 fn with_enabled(events: Set, relations: &Relations, s: State, a: Activity, out: Set) -> Set
     ensures { λ r. ⌜ r ≡ those (λ b. mem out b or isDone (enabled events (inTables (now (relations .entry))) s (a .0)) and eqb b (a .0)) ⌝ }
 {
-    let one = one_if(step::ask(events, relations, s, a).is_done(), a);
+    let one = Set::one_if(step::ask(events, relations, s, a).is_done(), a);
     out.union(one)
 }
 
