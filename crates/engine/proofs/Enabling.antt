@@ -11,7 +11,7 @@ use Rattle.sets.specs.declared.set.Set.{Set}
 use Rattle.sets.specs.declared.answer.Answer.{Answer}
 use Rattle.sets.specs.declared.answer.Answer.the-variants.{Done, NoEvent, NotIncluded, Waiting}
 use Rattle.sets.proofs.Tests.{T-ext, T-eq, and-l, and-r, and-i}
-use Rattle.sets.proofs.Members.{Fits, is-those, those-ext, those-of, within-i, within-e, mem-those}
+use Rattle.sets.proofs.Members.{Whole, those-ext, those-of, within-i, within-e, mem-those}
 use Rattle.sets.proofs.Loops.{Gathered, gather-end}
 use Rattle.engine.specs.declared.marking.State.{State}
 use Rattle.engine.specs.declared.marking.Marking.{Marking}
@@ -84,6 +84,7 @@ module _ (events : Set) (r : Relations) where
         ∙ mem-those (λ e. isDone (enabled events r (m .state) e)) a l
 
     -- so what is true was worked out, or could have been
-    pub true-marked : Fits (m .enabled) → m ≡ marked events r (m .state)
+    pub true-marked : Whole (m .enabled) → m ≡ marked events r (m .state)
     unfolding enabledSet
-    true-marked f j = markingOf (m .state) (is-those (m .enabled) (λ e. isDone (enabled events r (m .state) e)) f true-says j)
+    true-marked w j =
+        markingOf (m .state) ((sym w ∙ those-ext (mem (m .enabled)) (λ e. isDone (enabled events r (m .state) e)) true-says) j)

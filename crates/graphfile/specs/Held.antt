@@ -26,7 +26,7 @@ relationsIn bytes (suc r) = withRelation bytes (relationsIn bytes r) r
 
 -- the graph of an accepted file
 unfoldable pub graphIn : List ℕ → Graph
-graphIn bytes = graphOf (headIn bytes) (relationsIn bytes relationCount)
+graphIn bytes = graphOf (headIn bytes (relationsIn bytes relationCount)) (relationsIn bytes relationCount)
 
 -- a read: the file's answer, and its graph; the empty graph where refused (01, "Nothing else")
 unfoldable pub readOf : List ℕ → Reading
