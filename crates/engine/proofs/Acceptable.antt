@@ -1,7 +1,7 @@
 -- What an acceptable graph gives the crates above: its parts are within the events, a step keeps a marking there, and what
 -- is judged once need not be judged again. Assumes nothing.
-use mathlib.Core.Path.{_≡_, sym, subst}
-use mathlib.Core.Bool.{Bool, true, false}
+use mathlib.Core.Path.{_≡_, refl, sym, subst}
+use mathlib.Core.Bool.{true, false}
 use mathlib.Core.List.{List}
 use Prim.Native.Nat.{ℕ, _≤_, _<_}
 use borrow.Author.Tests.{ltb-false, lt-ltb, le-ltb}
@@ -14,7 +14,7 @@ use Rattle.sets.specs.Tables.{tableAt}
 use Rattle.sets.specs.Answers.{isDone}
 use Rattle.sets.specs.declared.set.Set.{Set}
 use Rattle.sets.specs.declared.answer.Answer.the-variants.{Done, AboveLimit}
-use Rattle.sets.proofs.Tests.{and-l, and-r, and-i, or-e, or-true, neither, nor, either}
+use Rattle.sets.proofs.Tests.{and-l, and-r, and-i, or-e, or-true, neither, nor, true→T, either}
 use Rattle.engine.proofs.Judging.{found-none, none-found}
 use Rattle.engine.proofs.Enabling.{marked-true}
 use Rattle.sets.proofs.Members.{those-e, within-e, within-i}
@@ -22,10 +22,10 @@ use Rattle.sets.proofs.Below.{every-e}
 use Rattle.engine.specs.declared.marking.State.{State}
 use Rattle.engine.specs.declared.marking.Marking.{Marking}
 use Rattle.engine.specs.declared.graph.Graph.{Graph}
-use Rattle.engine.specs.Relations.{relationCount, relationsOf}
+use Rattle.engine.specs.Relations.{relationCount, inTables, relationsOf}
 use Rattle.engine.specs.Steps.{enabled, after}
 use Rattle.engine.specs.Judged.{stateWithin, rowWithin, rowsWithin, relationsWithin, graphWithin, trueOn, found, judgedFor, judged, judgedWith}
-use Rattle.engine.specs.Enabled.{marked}
+use Rattle.engine.specs.Enabled.{marked, graphAt}
 use Rattle.sets.specs.Sizes.{mostActivities, longestTrace}
 use Rattle.engine.specs.Replay.{enabledOf, steppedOf, ending, replayFrom, replayOf}
 use Rattle.engine.specs.Markings.{emptyMarking}
@@ -48,6 +48,12 @@ module _ (g : Graph) (n : ℕ) (h : judgedFor g n ≡ Done) where
 
   pub judged-true : T (trueOn g (g .head .opening))
   judged-true = tests .2
+
+-- a graph that opens at a state is acceptable where 3 and 5 don't refuse it
+pub judged-at : (A : ℕ) (events : Set) (s : State) (tables : List ℕ)
+    → ltb mostActivities A ≡ false → graphWithin (graphAt A events s tables) ≡ true → judged (graphAt A events s tables) ≡ Done
+unfolding judgedFor
+judged-at A events s tables a i = none-found _ _ _ (nor _ _ a refl) (true→T i) (marked-true events (inTables tables) s)
 
 -- a marking that an acceptable graph is handed without a refusal
 pub record Kept (g : Graph) (m : Marking) : Type 0 where

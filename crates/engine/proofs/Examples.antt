@@ -4,11 +4,9 @@ use mathlib.Core.Path.{_≡_, refl}
 use mathlib.Core.Bool.{Bool, true, false}
 use mathlib.Core.List.{List, [], _∷_}
 use Prim.Native.Nat.{ℕ}
-use lib.Dec.{eqb, ltb, lit≤}
+use lib.Dec.{eqb, lit≤}
 use lib.ListN.{getD}
 use Rattle.sets.specs.Tests.{_and_, _or_, non}
-use Rattle.sets.specs.Sizes.{mostActivities}
-use Rattle.sets.proofs.Tests.{nor, true→T}
 use Rattle.sets.specs.Members.{bit, bitsOf, someBelow, leastBelow, everyBelow, isEmpty, within, mem, those}
 use Rattle.sets.specs.Rows.{rowAt, inRow}
 use Rattle.sets.specs.Tables.{noTables, tableAt, withRowIn}
@@ -18,22 +16,16 @@ use Rattle.sets.specs.declared.answer.Answer.the-variants.{Done, NotIncluded, W
 use Rattle.engine.specs.declared.marking.State.{State}
 use Rattle.engine.specs.declared.graph.Graph.{Graph}
 use Rattle.engine.specs.Markings.{stateOf}
-use Rattle.engine.specs.Relations.{relationCount, headOf, graphOf, inTables, relationsOf}
+use Rattle.engine.specs.Relations.{relationCount, relationsOf}
 use Rattle.engine.specs.Steps.{waits, blocker, enabled, after, accepting}
 use Rattle.engine.specs.Judged.{stateWithin, rowWithin, rowsWithin, relationsWithin, graphWithin, judgedFor, judged}
 use Rattle.engine.specs.Replay.{steppedOf, ending, replayFrom, replayOf}
-use Rattle.engine.specs.Enabled.{marked}
-use Rattle.engine.proofs.Judging.{none-found}
-use Rattle.engine.proofs.Enabling.{marked-true}
-use Rattle.engine.proofs.Acceptable.{opening-kept, stepped-judged, replay-judged}
+use Rattle.engine.specs.Enabled.{marked, graphAt}
+use Rattle.engine.proofs.Acceptable.{judged-at, opening-kept, stepped-judged, replay-judged}
 
 -- a set that is printed as a row of digits, read from the left: digit a is 1 where a is a member
 abbrev pub printed : List ℕ → Set
 printed ds = those (λ a. eqb (getD ds a 0) 1)
-
--- a graph that opens at a state, with the set of what is enabled there
-abbrev graphWith : ℕ → Set → State → List ℕ → Graph
-graphWith activities events s tables = graphOf (headOf activities events (marked events (inTables tables) s)) tables
 
 -- ---- Table 3
 
@@ -56,7 +48,7 @@ table3-after =
 abbrev pub table3 : Graph
 table3 =
     let all = printed (1 ∷ 1 ∷ 1 ∷ 1 ∷ 1 ∷ 1 ∷ 1 ∷ 1 ∷ []) in
-    graphWith 8 all table3-before
+    graphAt 8 all table3-before
     (withRowIn
     (withRowIn
     (withRowIn (noTables relationCount) 1 4 (printed (0 ∷ 0 ∷ 1 ∷ 0 ∷ 0 ∷ 0 ∷ 0 ∷ 0 ∷ [])))
@@ -74,7 +66,7 @@ conditions = withRowIn (withRowIn (noTables relationCount) 0 0 (abcd 0 1 0 0)) 0
 -- a is pending, b is not included; conditions and responses between a and b both ways, c includes b, d excludes b and d
 abbrev pub paper : Graph
 paper =
-    graphWith 4 (abcd 1 1 1 1) (stateOf (abcd 0 0 0 0) (abcd 1 0 0 0) (abcd 1 0 1 1))
+    graphAt 4 (abcd 1 1 1 1) (stateOf (abcd 0 0 0 0) (abcd 1 0 0 0) (abcd 1 0 1 1))
     (withRowIn
     (withRowIn
     (withRowIn (withRowIn conditions 1 0 (abcd 0 1 0 0)) 1 1 (abcd 1 0 0 0))
@@ -85,22 +77,15 @@ paper =
 abbrev pub locked : State
 locked = stateOf (abcd 0 0 1 1) (abcd 1 0 0 0) (abcd 1 1 1 0)
 
--- 3, 5 and 16 of a graph that opens so
-judged-opening : (n : ℕ) (events : Set) (s : State) (tables : List ℕ)
-    → ltb mostActivities n ≡ false → graphWithin (graphWith n events s tables) ≡ true → judged (graphWith n events s tables) ≡ Done
-unfolding judgedFor
-judged-opening n events s tables a i =
-    none-found _ _ _ (nor _ _ a refl) (true→T i) (marked-true events (inTables tables) s)
-
 pub table-judged : judged table3 ≡ Done
 unfolding graphWithin relationsWithin rowsWithin rowWithin stateWithin within isEmpty everyBelow
     bitsOf bit mem those _and_ _or_ non rowAt tableAt withRowIn
-table-judged = judged-opening 8 (table3 .head .events) table3-before (table3 .relations) refl refl
+table-judged = judged-at 8 (table3 .head .events) table3-before (table3 .relations) refl refl
 
 paper-judged : judged paper ≡ Done
 unfolding graphWithin relationsWithin rowsWithin rowWithin stateWithin within isEmpty everyBelow
     bitsOf bit mem those _and_ _or_ non rowAt tableAt withRowIn
-paper-judged = judged-opening 4 (paper .head .events) (paper .head .opening .state) (paper .relations) refl refl
+paper-judged = judged-at 4 (paper .head .events) (paper .head .opening .state) (paper .relations) refl refl
 
 -- 10, blocked by b
 abbrev pub waitingFor : ℕ → Answer

@@ -18,15 +18,14 @@ use Rattle.sets.specs.Sizes.{mostActivities}
 use Rattle.sets.specs.Files.{littleEndian}
 use Rattle.sets.specs.declared.set.Set.{Set}
 use Rattle.sets.specs.declared.answer.Answer.the-variants.{Done}
-use Rattle.sets.proofs.Tests.{split, T→true, true→T, false→F, and-i, or-r, eqb-of, nor}
+use Rattle.sets.proofs.Tests.{split, T→true, true→T, false→F, and-i, or-r, eqb-of}
 use Rattle.sets.proofs.Below.{every-i}
 use Rattle.sets.proofs.Members.{mem-none, empty-noSet, within-i, whole-low}
 use Rattle.sets.proofs.RowLaws.{row-none, row-put-other, length-put}
 use Rattle.sets.proofs.Files.{opens-is}
-use Rattle.engine.specs.Relations.{relationCount, inTables}
+use Rattle.engine.specs.Relations.{relationCount}
 use Rattle.engine.specs.Judged.{rowWithin, rowsWithin, relationsWithin, graphWithin, judgedFor, judged}
-use Rattle.engine.proofs.Judging.{none-found}
-use Rattle.engine.proofs.Enabling.{marked-true}
+use Rattle.engine.proofs.Acceptable.{judged-at}
 use Rattle.graphfile.specs.Layout.{letters, headLength, rowLength, activitiesIn, eventsIn, stateIn, headIn, offsetIn, countIn, sumOf}
 use Rattle.graphfile.specs.Layout.{earlierRows, keyIn, rowIn}
 use Rattle.graphfile.specs.Refusals.{judgedRow}
@@ -212,9 +211,8 @@ module _ (bytes : List ℕ) (small : Bytes bytes) (ok : Accepted bytes) where
 
   -- the graph of an accepted file is acceptable
   pub graph-back : judged (graphIn bytes) ≡ Done
-  unfolding judgedFor graphWithin relationsWithin graphIn
+  unfolding graphWithin relationsWithin graphIn
   graph-back =
       let head = head-done bytes (ok .head) in
-      none-found _ _ _ (nor _ _ (le-ltb mostActivities (activitiesIn bytes) (head .few)) refl)
-      (and-i _ _ (and-i _ _ (head .events) (head .marking)) (every-i relationCount _ inside-back))
-      (marked-true (eventsIn bytes) (inTables tables) (stateIn bytes))
+      judged-at (activitiesIn bytes) (eventsIn bytes) (stateIn bytes) tables (le-ltb mostActivities (activitiesIn bytes) (head .few))
+      (T→true _ (and-i _ _ (and-i _ _ (head .events) (head .marking)) (every-i relationCount _ inside-back)))

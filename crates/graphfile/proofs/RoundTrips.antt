@@ -14,8 +14,9 @@ use Rattle.sets.specs.Tables.{tableAt, tablesOf}
 use Rattle.sets.specs.Answers.{isDone}
 use Rattle.sets.specs.declared.answer.Answer.{Answer}
 use Rattle.sets.specs.declared.answer.Answer.the-variants.{Done, BufferTooSmall}
-use Rattle.engine.specs.Enabled.{openingMarking}
-use Rattle.engine.specs.Relations.{relationCount, headOf, graphOf, inTables, emptyGraph, tablesFrom}
+use Rattle.engine.specs.Enabled.{graphAt}
+use Rattle.engine.specs.Markings.{openingOf}
+use Rattle.engine.specs.Relations.{relationCount, emptyGraph, tablesFrom}
 use Rattle.engine.specs.declared.graph.Graph.{Graph}
 use Rattle.engine.specs.Judged.{judged}
 use Rattle.graphfile.specs.declared.reader.Reading.{Reading}
@@ -117,7 +118,7 @@ tablesOfG =
     })
 
 abbrev pub exampleG : Graph
-exampleG = graphOf (headOf 3 (those (λ a. ltb a 3)) (openingMarking (those (λ a. ltb a 3)) (inTables tablesOfG))) tablesOfG
+exampleG = graphAt 3 (those (λ a. ltb a 3)) (openingOf (those (λ a. ltb a 3))) tablesOfG
 
 abbrev pub fileOfG : List ℕ
 fileOfG =

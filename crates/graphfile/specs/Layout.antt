@@ -7,8 +7,8 @@ use Rattle.engine.specs.declared.marking.State.{State}
 use Rattle.engine.specs.declared.marking.Marking.{Marking}
 use Rattle.engine.specs.declared.graph.Head.{Head}
 use Rattle.engine.specs.Markings.{stateOf, markingOf}
-use Rattle.engine.specs.Relations.{relationCount, headOf, inTables}
-use Rattle.engine.specs.Enabled.{marked}
+use Rattle.engine.specs.Relations.{relationCount, headOf}
+use Rattle.engine.specs.Enabled.{graphAt}
 use Rattle.sets.specs.Files.{numberAt}
 
 -- the two letters and the edition
@@ -49,10 +49,9 @@ markingAt bytes at = markingOf (stateAt bytes at) (setAt bytes (at + 24))
 abbrev pub headAt : List ℕ → ℕ → Head
 headAt bytes at = headOf (getD bytes at 0) (setAt bytes (at + 1)) (markingAt bytes (at + 9))
 
--- A, the events and the marking of a file whose relations are these tables: its enabled activities follow from them (02, 6/12: "The graph
--- file doesn't store it")
+-- A, the events and the marking of a file whose relations are these tables
 abbrev pub headIn : List ℕ → List ℕ → Head
-headIn bytes tables = headOf (activitiesIn bytes) (eventsIn bytes) (marked (eventsIn bytes) (inTables tables) (stateIn bytes))
+headIn bytes tables = graphAt (activitiesIn bytes) (eventsIn bytes) (stateIn bytes) tables .head
 
 -- entry r: an offset, then the number of rows
 abbrev pub offsetIn : List ℕ → ℕ → ℕ
