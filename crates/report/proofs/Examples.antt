@@ -10,7 +10,7 @@ use Rattle.sets.specs.Rows.{rowAt, inRow, listFrom, rowsOf}
 use Rattle.sets.specs.Tables.{tableAt, tablesOf}
 use Rattle.engine.specs.declared.graph.Graph.{Graph}
 use Rattle.engine.specs.Steps.{waits, enabled, after, accepting}
-use Rattle.engine.specs.Judged.{markingWithin, rowWithin, rowsWithin, relationsWithin, graphWithin, judgedFor}
+use Rattle.engine.specs.Judged.{stateWithin, rowWithin, rowsWithin, relationsWithin, graphWithin, judgedFor}
 use Rattle.engine.specs.Replay.{replayFrom, replayOf}
 use Rattle.sets.specs.Files.{valueOf, numberAt, opensWith}
 use Rattle.calllog.specs.Layout.{activitiesIn, tracesIn, offsetAt, lengthAt, bodiesStart, eventsBefore}
@@ -91,7 +91,7 @@ graphs = (refl, refl)
 lines : (linesOf G L ≡ printed) × (linesOf lightG L ≡ printedLight)
 unfolding L G lightG printed printedLight listing first
     _and_ _or_ non bit mem those bitsOf someBelow everyBelow countBelow isEmpty within rowAt tableAt inRow listFrom
-    waits enabled after accepting markingWithin rowWithin rowsWithin relationsWithin graphWithin judgedFor replayFrom replayOf
+    waits enabled after accepting stateWithin rowWithin rowsWithin relationsWithin graphWithin judgedFor replayFrom replayOf
     figures line passing pairsFrom firstLine pairLine pairLines traceLine traceLines relationLines linesOf
 lines = (refl, refl)
 

@@ -6,7 +6,7 @@ use Rattle.miner.proofs.mining.graph_found.Tie as tie
 
 returns : tie.Need-returns
 returns c =
-    let ten = c .before .before in
+    let ten = c .before .before .before in
     let nine = ten .before .before in
     let eight = nine .before .before in
     let a = eight .before .before .before .args in
