@@ -133,7 +133,7 @@ module _ (g : Graph) where
       turned-pairs
 
   -- a graph that was judged need not be judged at each replay
-  replays-are : judged g ≡ Done → (k : ℕ) (L : Traces) → ((σ : List ℕ) → List·Memᴰ σ L → length σ ≤ longestTrace)
+  pub replays-are : judged g ≡ Done → (k : ℕ) (L : Traces) → ((σ : List ℕ) → List·Memᴰ σ L → length σ ≤ longestTrace)
       → traceLines (replayFrom (g .head .events) (relationsOf g) (g .head .opening .state) 0) k L ≡ traceLines (replayOf g) k L
   unfolding traceLines
   replays-are d k [] h = refl
