@@ -27,7 +27,7 @@ use Rattle.engine.specs.Steps.{enabled, after}
 use Rattle.engine.specs.Judged.{stateWithin, rowWithin, rowsWithin, relationsWithin, graphWithin, trueOn, found, judgedFor, judged, judgedWith}
 use Rattle.engine.specs.Enabled.{marked, graphAt}
 use Rattle.sets.specs.Sizes.{mostActivities, longestTrace}
-use Rattle.engine.specs.Replay.{enabledOf, steppedOf, ending, replayFrom, replayOf}
+use Rattle.engine.specs.Replay.{enabledOf, nextMarking, steppedOf, ending, replayFrom, replayOf}
 use Rattle.engine.specs.Markings.{emptyMarking}
 
 -- ---- what was judged
@@ -85,14 +85,14 @@ module _ (g : Graph) (h : judged g ≡ Done) where
       → steppedOf g m e ≡ record {
         answer = enabled (g .head .events) (relationsOf g) (m .state) e;
         marking = when isDone
-            (enabled (g .head .events) (relationsOf g) (m .state) e) then marked (g .head .events) (relationsOf g) (after (relationsOf g) (m .state) e) else m;
+            (enabled (g .head .events) (relationsOf g) (m .state) e) then nextMarking g m e else m;
       }
   unfolding steppedOf
   stepped-judged m k e j =
       record {
         answer = enabled-judged m k e j;
         marking = when isDone
-            (enabled-judged m k e j) then marked (g .head .events) (relationsOf g) (after (relationsOf g) (m .state) e) else m;
+            (enabled-judged m k e j) then nextMarking g m e else m;
       }
 
   pub replay-judged : (trace : List ℕ) → length trace ≤ longestTrace

@@ -24,12 +24,16 @@ use Rattle.engine.specs.Judged.{judgedFor, judgedWith}
 unfoldable pub enabledOf : Graph → Marking → ℕ → Answer
 enabledOf g m e = thenAsk (judgedWith g m) (enabled (g .head .events) (relationsOf g) (m .state) e)
 
--- the step: the marking after it, with its own set of enabled activities, or as it was where refused
+-- the marking after a step, with its own set of enabled activities
+abbrev pub nextMarking : Graph → Marking → ℕ → Marking
+nextMarking g m e = marked (g .head .events) (relationsOf g) (after (relationsOf g) (m .state) e)
+
+-- the step: the marking after it, or as it was where refused
 unfoldable pub steppedOf : Graph → Marking → ℕ → Stepped
 steppedOf g m e =
     record {
       answer = enabledOf g m e;
-      marking = when isDone (enabledOf g m e) then marked (g .head .events) (relationsOf g) (after (relationsOf g) (m .state) e) else m;
+      marking = when isDone (enabledOf g m e) then nextMarking g m e else m;
     }
 
 -- accepting: no where refused
