@@ -79,7 +79,7 @@ module _ (events : Set) (q r : Relations) (same : Agree q r) where
   pub replay-same : (s : State) (i : ℕ) (trace : List ℕ) → ((k : ℕ) → getD trace k 0 < 256)
       → replayFrom events q s i trace ≡ replayFrom events r s i trace
   unfolding replayFrom
-  replay-same s i [] bytes j = ending Done i (marked-same s j) (accepting s)
+  replay-same s i [] bytes = λ j. ending Done i (marked-same s j) (accepting s)
   replay-same s i (e ∷ es) bytes =
       let l : e < 256 = bytes 0 in
       let asked = enabled-same s e l in
