@@ -10,8 +10,8 @@ use Rattle.sets.specs.declared.answer.Answer.{Answer}
 use Rattle.sets.specs.declared.answer.Answer.the-variants.{Done, BufferTooSmall}
 use Rattle.engine.specs.declared.step.Stepped.{Stepped}
 use Rattle.graphfile.specs.Held.{readOf}
-use Rattle.graphfile.specs.Heads.{headFrom}
-use Rattle.graphfile.specs.Markings.{markingFrom}
+use Rattle.graphfile.specs.Heads.{loneHeadLength, headFrom}
+use Rattle.graphfile.specs.Markings.{markingLength, markingFrom}
 use Rattle.plain.specs.Graphs.{PlainGraph, plainOf, plainJudgedFor}
 use Rattle.plain.specs.Results.{plainSteppedOf, plainAcceptingOf, plainReplayOf}
 use Rattle.plain.specs.Filling.{relationAt, filledOf, memoryAfter}
@@ -25,8 +25,8 @@ handed head c r i x = plainOf (headFrom head) c r i x
 -- for a marking
 unfoldable pub judgedHanded : List ℕ → List ℕ → List ℕ → List ℕ → List ℕ → List ℕ → Answer
 judgedHanded head c r i x marking =
-    when ltb (length head) 33 then BufferTooSmall
-    else thenAsk (plainJudgedFor (handed head c r i x) 0) (when ltb (length marking) 24 then BufferTooSmall else Done)
+    when ltb (length head) loneHeadLength then BufferTooSmall
+    else thenAsk (plainJudgedFor (handed head c r i x) 0) (when ltb (length marking) markingLength then BufferTooSmall else Done)
 
 -- skelfora_plain_step: these, then what the step gives
 unfoldable pub plainStepOf : List ℕ → List ℕ → List ℕ → List ℕ → List ℕ → List ℕ → ℕ → Stepped
@@ -49,7 +49,7 @@ plainAcceptingNumber head c r i x marking =
 -- skelfora_plain_replay: 7 where there are too few bytes for a head, then the replay's
 unfoldable pub plainReplayNumber : List ℕ → List ℕ → List ℕ → List ℕ → List ℕ → List ℕ → ℕ
 plainReplayNumber head c r i x trace =
-    when ltb (length head) 33 then blockedOf BufferTooSmall 0 false
+    when ltb (length head) loneHeadLength then blockedOf BufferTooSmall 0 false
     else blockedOf (plainReplayOf (handed head c r i x) trace .answer) (plainReplayOf (handed head c r i x) trace .place .0)
     (plainReplayOf (handed head c r i x) trace .accepting)
 

@@ -1,5 +1,5 @@
-// The plain engine's functions (02, 1/12). The head of a graph comes as 33 bytes, A, events, executed, pending, included; its relations as
-// four lists of pairs.
+// The plain engine's functions (02, 1/12). The head of a graph comes as 41 bytes, A, events, executed, pending, included, enabled; its
+// relations as four lists of pairs.
 ghost use mathlib.Core.Path.{_≡_};
 ghost use Rattle.port.specs.Port.{stepNumber};
 ghost use Rattle.port.specs.Classroom.{judgedHanded, plainStepOf, plainStepBytes, plainAcceptingNumber, plainReplayNumber};
@@ -64,7 +64,7 @@ fn plain_stepped<'a>(
     plain::step::step(h, conditions, responses, includes, excludes, m, a)
 }
 
-// One step at a marking of 24 lent bytes; they stay as they were where it is refused.
+// One step at a marking of 32 lent bytes; they stay as they were where it is refused.
 #[no_mangle]
 pub extern "C" fn skelfora_plain_step<'a, 'm>(
     head: &'a [u8],
@@ -92,7 +92,7 @@ pub extern "C" fn skelfora_plain_step<'a, 'm>(
     store(s, marking)
 }
 
-// Whether a marking of 24 bytes is accepting: the number, and 2^32 where it is.
+// Whether a marking of 32 bytes is accepting: the number, and 2^32 where it is.
 #[no_mangle]
 pub extern "C" fn skelfora_plain_accepting<'a>(
     head: &'a [u8],
