@@ -8,17 +8,17 @@ use native.Mathlib.Omega.{arith}
 use borrow.Author.Tests.{le-ltb, ltb-true, ltb-false}
 use lib.Dec.{T, eqb, ltb}
 use lib.ListN.{length, getD, replicate, length-replicate, getD-replicate}
-use Rattle.sets.specs.Sizes.{mostActivities, longestTrace}
-use Rattle.sets.specs.Tests.{_and_, _or_, non, when_then_else_}
+use Rattle.sets.specs.Tests.{_and_, non, when_then_else_}
 use Rattle.sets.specs.Members.{everyBelow, leastBelow}
 use Rattle.sets.specs.Answers.{numberOf, isDone, thenAsk}
 use Rattle.sets.specs.declared.answer.Answer.{Answer}
-use Rattle.sets.specs.declared.answer.Answer.the-variants.{Done, AboveLimit, Outside, FalseEnabled, BufferTooSmall, NoPlaceFree, NotOpen}
+use Rattle.sets.specs.declared.answer.Answer.the-variants.{Done, BufferTooSmall, NoPlaceFree, NotOpen}
 use Rattle.sets.proofs.Tests.{T→true, true→T, F→false, false→F, non-e, non-false, split, either, and-false}
 use Rattle.sets.proofs.Below.{every-i, every-e, least-is, least-before}
 use Rattle.sets.proofs.Asking.{done-is, ask-on, ask-stop}
 use Rattle.engine.specs.Markings.{emptyMarking}
-use Rattle.engine.specs.Judged.{graphWithin, trueOn, found, judgedFor, judged}
+use Rattle.engine.specs.Judged.{judgedFor, judged}
+use Rattle.engine.proofs.Judging.{found-one}
 use Rattle.engine.specs.Replay.{enabledOf, nextMarking}
 use Rattle.engine.specs.declared.marking.Marking.{Marking}
 use Rattle.engine.specs.declared.graph.Graph.{Graph}
@@ -155,16 +155,9 @@ module _ (g : Graph) where
         ∙ ap (λ (t : Bool). when t then NoPlaceFree else Done) (T→true (everyBelow placeCount (isOpen table)) (every-i placeCount (isOpen table) (λ p l. true→T (all p l))))
 
     judged-not : numberOf (judged g) ≡ 13 → T false
-    unfolding judgedFor found
-    judged-not =
-        by (ltb mostActivities (g .head .activities) or ltb longestTrace 0) (non (graphWithin g)) (non (trueOn g (g .head .opening)))
-      where
-        by : (a b c : Bool)
-            → numberOf (when a then AboveLimit else when b then Outside else when c then FalseEnabled else Done) ≡ 13 → T false
-        by true b c h = true→T (ap (λ (n : ℕ). eqb n 13) h)
-        by false true c h = true→T (ap (λ (n : ℕ). eqb n 13) h)
-        by false false true h = true→T (ap (λ (n : ℕ). eqb n 13) h)
-        by false false false h = true→T (ap (λ (n : ℕ). eqb n 13) h)
+    unfolding judgedFor
+    judged-not = let no : (n : ℕ) → eqb n 13 ≡ false → n ≡ 13 → T false = λ n f h. false→F f (true→T (ap (λ (k : ℕ). eqb k 13) h)) in
+        found-one _ _ _ (λ x. numberOf x ≡ 13 → T false) (no 3 refl) (no 5 refl) (no 16 refl) (no 0 refl)
 
     abbrev Full : Type 0
     Full = (p : ℕ) → p < placeCount → isOpen table p ≡ true

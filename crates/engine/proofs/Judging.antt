@@ -40,6 +40,17 @@ module _ (a i t : Bool) where
   none-found x y z j =
       when x j then AboveLimit else when non (T→true i y j) then Outside else when non (T→true t z j) then FalseEnabled else Done
 
+  -- nothing else is found
+  pub found-one : (P : Answer → Type 0) → P AboveLimit → P Outside → P FalseEnabled → P Done → P (found a i t)
+  unfolding found
+  found-one P three five sixteen done = by a (non i) (non t)
+    where
+      by : (x y z : Bool) → P (when x then AboveLimit else when y then Outside else when z then FalseEnabled else Done)
+      by true y z = three
+      by false true z = five
+      by false false true = sixteen
+      by false false false = done
+
   -- the three tests, as they were made
   pub found-by : (a′ i′ t′ : Bool) (r : Answer) → a′ ≡ a → i′ ≡ i → t′ ≡ t → r ≡ found a′ i′ t′ → r ≡ found a i t
   found-by a′ i′ t′ r ha hi ht h = h ∙ (λ j. found (ha j) (hi j) (ht j))

@@ -160,7 +160,7 @@ unfolding part2 file L listing G
     afterFive afterSix afterSeven afterEight mined graphFrom minedGraph
 same2 = refl
 
-judged-G : judged G ≡ Done
+pub judged-G : judged G ≡ Done
 unfolding G graphWithin relationsWithin rowsWithin rowWithin stateWithin within isEmpty everyBelow bitsOf bit mem those _and_ _or_ non rowAt tableAt listFrom
 judged-G = judged-at 3 (G .head .events) (G .head .opening .state) (G .relations) refl refl
 
