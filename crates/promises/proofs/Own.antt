@@ -33,6 +33,7 @@ use Rattle.calllog.specs.declared.trace.Found.{Found}
 use Rattle.calllog.proofs.Given.{log-answer}
 use Rattle.calllog.proofs.Finding.{found-answer, found-below}
 use Rattle.calllog.proofs.Traces.{traces-number, trace-accepted, found-trace}
+use Rattle.rules.specs.Traces.{Traces}
 use Rattle.rules.specs.Mined.{graphFrom, minedGraph}
 use Rattle.rules.proofs.Acceptable.{acceptable}
 use Rattle.rules.specs.declared.Profile.{Profile}
@@ -134,19 +135,19 @@ module _ (log : List ℕ) (k : ℕ) (f : Found) (t : Bool) (hf : f ≡ foundOf l
       )
 
   module _ (y : not t ≡ false) where
-    found : f .answer ≡ Done
-    found = done-is (f .answer) (sym ht ∙ not-false t y)
+    was-found : f .answer ≡ Done
+    was-found = done-is (f .answer) (sym ht ∙ not-false t y)
 
     pub own-within : f .start + f .length ≤ length log
-    own-within = found-trace log k f hf found .0
+    own-within = found-trace log k f hf was-found .0
 
     pub own-done : (p : Profile) (m : Mined) (r : Replayed) → m ≡ minedOf log p → r ≡ replayOf (m .graph) (take (f .start + f .length - f .start) (drop (f .start) log)) → OwnReplayed log p k r
     unfolding ownReplay
     own-done p m r hm hr =
         let n : f .start + f .length - f .start ≡ f .length = omega arith in
-        let finding : findingOf log k ≡ Done = sym the-answer ∙ found in
+        let finding : findingOf log k ≡ Done = sym the-answer ∙ was-found in
         let trace : take (f .start + f .length - f .start) (drop (f .start) log) ≡ traceOf log k =
-        ap (λ (i : ℕ). take i (drop (f .start) log)) n ∙ found-trace log k f hf found .1 in
+        ap (λ (i : ℕ). take i (drop (f .start) log)) n ∙ found-trace log k f hf was-found .1 in
         let same : r ≡ replayOf (m .graph) (traceOf log k) = hr ∙ ap (replayOf (m .graph)) trace in
         let d = own-through log p k m r hm (finds-below log k finding) same in (
           same
