@@ -1,8 +1,8 @@
--- 02, 6/12, KEEP THE ENABLED STEPS WITH THE MARKING, of the steps and replays of both engines, as theorems about the public functions. Assumes
--- nothing.
+-- 02, 6/12, KEEP THE ENABLED STEPS WITH THE MARKING, of the steps and replays of both engines, as theorems about the public functions.
+-- Assumes nothing.
 --
--- Every marking that they give back is true: its set has just the events to which the step rules say yes (engine/proofs/Enabling `true-says`). Else
--- the call was refused, and the marking is the one that was handed over; of a replay it is then the empty one.
+-- Every marking that they give back is true: its set has just the events to which the step rules say yes (engine/proofs/Enabling
+-- `true-says`). Else the call was refused, and the marking is the one that was handed over; of a replay it is then the empty one.
 use mathlib.Core.Path.{_≡_, refl, sym, subst}
 use mathlib.Core.Bool.{Bool, true, false}
 use mathlib.Core.List.{List, [], _∷_}
@@ -44,7 +44,8 @@ module _ (events : Set) (r : Relations) where
   stepped : (a : Answer) (m : Marking) (s : State) → Keeps events r a m (when isDone a then marked events r s else m)
   stepped a m s = by (isDone a)
     where
-      by : (t : Bool) → T (isTrue events r (when t then marked events r s else m)) ⊎ ((t ≡ false) × ((when t then marked events r s else m) ≡ m))
+      by : (t : Bool) → T (isTrue events r (when t then marked events r s else m))
+          ⊎ ((t ≡ false) × ((when t then marked events r s else m) ≡ m))
       by true = inl (marked-true events r s)
       by false = inr (refl, refl)
 
@@ -55,7 +56,8 @@ module _ (events : Set) (r : Relations) where
   on-the-way s i (e ∷ σ) = by (isDone (enabled events r s e)) (on-the-way (after r s e) (i + 1) σ)
     where
       by : (t : Bool) → T (isTrue events r (replayFrom events r (after r s e) (i + 1) σ .marking))
-          → T (isTrue events r ((when t then replayFrom events r (after r s e) (i + 1) σ else ending (enabled events r s e) i (marked events r s) false) .marking))
+          → T (isTrue events r ((when t then replayFrom events r (after r s e) (i + 1) σ
+          else ending (enabled events r s e) i (marked events r s) false) .marking))
       by true h = h
       by false h = marked-true events r s
 
@@ -116,7 +118,8 @@ module _ (head : Head) (c r i x : List ℕ) where
     pub plain-execute-keeps : (a : Answer) (n : Marking) → plain-execute-gives head c r i x m e a n → PlainKept a m n
     plain-execute-keeps a n h = plain-said-keeps (record { answer = a; marking = n }) (plain-execute-said head c r i x m e a n h)
 
-  pub plain-replay-keeps : (σ : List ℕ) (y : Replayed) → plain-replay-gives head c r i x σ y → PlainKept (y .answer) emptyMarking (y .marking)
+  pub plain-replay-keeps : (σ : List ℕ) (y : Replayed) → plain-replay-gives head c r i x σ y
+      → PlainKept (y .answer) emptyMarking (y .marking)
   unfolding plainReplayOf
   plain-replay-keeps σ y h =
       subst (λ (z : Replayed). PlainKept (z .answer) emptyMarking (z .marking)) (sym (plain-replay-said head c r i x σ y h))
