@@ -11,7 +11,6 @@ pub mod Demands
 pub mod StandIns
 pub mod Counts
 pub mod PlainEngine
-pub mod Keeping
 pub mod Blocker
 pub mod Light
 pub mod Desk

@@ -51,13 +51,11 @@ use Rattle.engine.proofs.replay.run.Reads as run
 use Rattle.engine.proofs.replay.replay.Reads as replay
 use Rattle.engine.proofs.judge.head_within.Reads as head-within
 use Rattle.plain.proofs.judge.judge_for.Reads as plain-judge-for
-use Rattle.plain.proofs.enabled.marked.Reads as plain-marked
 use Rattle.plain.proofs.step.enabled.Reads as plain-enabled
 use Rattle.plain.proofs.step.step.Reads as plain-step
 use Rattle.plain.proofs.step.accepting.Reads as plain-accepting
 use Rattle.plain.proofs.replay.replay.Reads as plain-replay
 use Rattle.plain.proofs.fill.fill.Reads as plain-fill
-use Rattle.finish.proofs.search.way_out.Reads as way-out
 use Rattle.finish.proofs.search.finish.Reads as finish
 use Rattle.finish.proofs.shut.shut_by.Reads as shut-by
 use Rattle.calllog.proofs.judge.judge_log.Reads as judge-log
@@ -279,9 +277,6 @@ replay-once κ a r r′ s s′ h h′ = h ∙ sym h′
 pub plain-judge-for-once : Once plain-judge-for.Post
 plain-judge-for-once κ a r r′ s s′ h h′ = h ∙ sym h′
 
-pub plain-marked-once : Once plain-marked.Post
-plain-marked-once κ a r r′ s s′ h h′ = h ∙ sym h′
-
 pub plain-enabled-once : Once plain-enabled.Post
 plain-enabled-once κ a r r′ s s′ h h′ = h ∙ sym h′
 
@@ -301,9 +296,6 @@ pub plain-fill-once : OnceLent plain-fill.Post (λ κ s. now (s .1 .1 .0))
 plain-fill-once κ a r r′ s s′ h h′ = (h .0 ∙ sym (h′ .0), h .1 ∙ sym (h′ .1))
 
 -- ---- finish
-
-pub way-out-once : Once way-out.Post
-way-out-once κ a r r′ s s′ h h′ = h ∙ sym h′
 
 pub finish-once : Once finish.Post
 finish-once κ a r r′ s s′ h h′ = h ∙ sym h′
