@@ -20,6 +20,7 @@ use Rattle.sets.specs.Tests.{_and_, _or_, non, when_then_else_}
 use Rattle.sets.specs.Sizes.{mostActivities, longestTrace}
 use Rattle.sets.specs.Members.{width, mem, someBelow, leastBelow}
 use Rattle.sets.specs.Answers.{numberOf, blockerOf, isDone, thenAsk}
+use Rattle.sets.specs.declared.activity.Activity.{Activity}
 use Rattle.sets.specs.declared.set.Set.{Set}
 use Rattle.sets.specs.declared.answer.Answer.{Answer}
 use Rattle.sets.specs.declared.answer.Answer.the-variants.{Done, AboveLimit, Outside, BufferTooSmall, NoEvent, NotIncluded, Waiting, FalseEnabled}
@@ -90,13 +91,13 @@ module _ (g : Graph) (m : Marking) (ok : numberOf (judgedWith g m) ≡ 0) where
 ran-true : (events : Set) (r : Relations) (s : State) (i : ℕ) (σ : List ℕ) → T (isTrue events r (replayFrom events r s i σ .marking))
 unfolding replayFrom
 ran-true events r s i [] = marked-true events r s
-ran-true events r s i (e ∷ σ) = by (isDone (enabled events r s e))
+ran-true events r s i (e ∷ σ) = by (isDone (enabled events r s e)) (ran-true events r (after r s e) (i + 1) σ)
   where
-    by : (t : Bool)
+    by : (t : Bool) → T (isTrue events r (replayFrom events r (after r s e) (i + 1) σ .marking))
         → T (isTrue events r
         ((when t then replayFrom events r (after r s e) (i + 1) σ else ending (enabled events r s e) i (marked events r s) false) .marking))
-    by true = ran-true events r (after r s e) (i + 1) σ
-    by false = marked-true events r s
+    by true rest = rest
+    by false rest = marked-true events r s
 
 true-or-none : (events : Set) (r : Relations) (s : State) (σ : List ℕ) (x : Answer) (t : Bool) (end : Replayed)
     → end ≡ (when t then replayFrom events r s 0 σ else ending x 0 emptyMarking false)
@@ -107,7 +108,9 @@ true-or-none events r s σ x false end h = inr (ap (λ (y : Replayed). y .markin
 module _ (g : Graph) where
   pub replay-true : (σ : List ℕ) (r : Replayed) → replay-gives g σ r → T (trueOn g (r .marking)) ⊎ (r .marking ≡ emptyMarking)
   unfolding replayOf
-  replay-true σ r c = true-or-none (g .head .events) (relationsOf g) (g .head .opening .state) σ _ _ r (replay-said g σ r c)
+  replay-true σ r c =
+      true-or-none (g .head .events) (relationsOf g) (g .head .opening .state) σ (judgedFor g (length σ)) (isDone (judgedFor g (length σ))) r
+      (replay-said g σ r c)
 
 -- the opening marking of a graph that is read or mined; of a refused one the graph is empty, and so is its marking
 pub read-true : (bytes : List ℕ) (r : Reading) → read-gives bytes r → T (trueOn (r .graph) (r .graph .head .opening))
@@ -156,7 +159,8 @@ module _ (head : Head) (c r i x : List ℕ) where
       → T (plainTrue given (end .marking)) ⊎ (end .marking ≡ emptyMarking)
   unfolding plainReplayOf
   plain-replay-true σ end h =
-      true-or-none (head .events) (plainRelations given) (head .opening .state) σ _ _ end (plain.plain-replay-said head c r i x σ end h)
+      true-or-none (head .events) (plainRelations given) (head .opening .state) σ (plainJudgedFor given (length σ))
+      (isDone (plainJudgedFor given (length σ))) end (plain.plain-replay-said head c r i x σ end h)
 
 -- ---- the desk: what stands at a place after open, and after a step
 
@@ -167,7 +171,7 @@ module _ (g : Graph) (before left : List ℕ) where
   open-true w r c d =
       let said = desk.open-said g before r left c .0 in
       let done = done-is (openAnswer g before) (ap (λ (x : Opened). isDone (x .answer)) (sym said) ∙ ap (λ (n : ℕ). eqb n 0) d) in
-      subst (λ (m : Marking). T (trueOn g m)) (sym (desk.open-opens g before left r c w d .1)) (judged-true g 0 (open-accepted before g done))
+      subst (λ (m : Marking). T (trueOn g m)) (sym (desk.open-opens g before r left c w d .1)) (judged-true g 0 (open-accepted before g done))
 
   pub desk-step-true : (p a : ℕ) (x : Answer) → desk.step-gives g before p a x left → numberOf x ≡ 0 → T (trueOn g (markingAtPlace left p))
   desk-step-true p a x c d =
@@ -323,15 +327,14 @@ module _ (g : Graph) (ok : judged g ≡ Done) (w : Whole (g .head .events)) wher
   from-state (e ∷ σ) s i h =
       ap (λ (x : Stepped). when isDone (x .answer) then bySteps g (x .marking) (i + 1) σ else ending (x .answer) i (at s) false)
       (stepped-judged g ok (at s) (kept-at s h) e)
-      ∙ by (isDone (enabled events q s e)) refl
+      ∙ by (isDone (enabled events q s e)) refl (from-state σ (after q s e) (i + 1))
     where
       by : (t : Bool) → isDone (enabled events q s e) ≡ t
+          → (T (stateWithin events (after q s e)) → bySteps g (at (after q s e)) (i + 1) σ ≡ replayFrom events q (after q s e) (i + 1) σ)
           → (when t then bySteps g (when t then at (after q s e) else at s) (i + 1) σ else ending (enabled events q s e) i (at s) false)
           ≡ (when t then replayFrom events q (after q s e) (i + 1) σ else ending (enabled events q s e) i (at s) false)
-      by true d =
-          let ev = an-event s e d in
-          from-state σ (after q s e) (i + 1) (after-kept g ok s e (whole-low events w e ev) ev h .inside)
-      by false d = refl
+      by true d rest = let ev = an-event s e d in rest (after-kept g ok s e (whole-low events w e ev) ev h .inside)
+      by false d rest = refl
 
   pub replay-by-steps : Whole (g .head .opening .enabled) → (σ : List ℕ) (r : Replayed) → replay-gives g σ r → length σ ≤ longestTrace
       → r ≡ bySteps g (g .head .opening) 0 σ
@@ -347,16 +350,18 @@ low-blocker : (r : Relations) (s : State) (e : ℕ) → waits r s e ≡ true →
 unfolding waits blocker
 low-blocker r s e h = omega (arith, least-lt width (blocking r s e) (true→T h))
 
+-- the rules' answer by their three tests
+abbrev answer : Activity → Bool → Bool → Bool → Answer
+answer b x y z = when x then NoEvent else when y then NotIncluded else when z then Waiting b else Done
+
 no-blocker : (r : Relations) (s : State) (e : ℕ) (events : Set) → blockerOf (enabled events r s e) ≡ 255
     → (enabled events r s e ≡ Done) ⊎ ((numberOf (enabled events r s e) ≡ 8) ⊎ (numberOf (enabled events r s e) ≡ 9))
 unfolding enabled
 no-blocker r s e events = by (non (mem events e)) (non (mem (s .included) e)) (waits r s e) refl
   where
-    abbrev answer : Bool → Bool → Bool → Answer
-    answer x y z = when x then NoEvent else when y then NotIncluded else when z then Waiting (blocker r s e) else Done
-
-    by : (x y z : Bool) → waits r s e ≡ z → blockerOf (answer x y z) ≡ 255
-        → (answer x y z ≡ Done) ⊎ ((numberOf (answer x y z) ≡ 8) ⊎ (numberOf (answer x y z) ≡ 9))
+    by : (x y z : Bool) → waits r s e ≡ z → blockerOf (answer (blocker r s e) x y z) ≡ 255
+        → (answer (blocker r s e) x y z ≡ Done)
+        ⊎ ((numberOf (answer (blocker r s e) x y z) ≡ 8) ⊎ (numberOf (answer (blocker r s e) x y z) ≡ 9))
     by true y z w h = inr (inl refl)
     by false true z w h = inr (inr refl)
     by false false true w h = let low = low-blocker r s e w in absurd (omega (arith, h))

@@ -33,7 +33,6 @@ use Rattle.calllog.specs.declared.trace.Found.{Found}
 use Rattle.calllog.proofs.Given.{log-answer}
 use Rattle.calllog.proofs.Finding.{found-answer, found-below}
 use Rattle.calllog.proofs.Traces.{traces-number, trace-accepted, found-trace}
-use Rattle.rules.specs.Traces.{Traces}
 use Rattle.rules.specs.Mined.{graphFrom, minedGraph}
 use Rattle.rules.proofs.Acceptable.{acceptable}
 use Rattle.rules.specs.declared.Profile.{Profile}
@@ -64,11 +63,8 @@ pub mined-pending : (bytes : List ℕ) (p : Profile) → minedOf bytes p .graph 
 unfolding minedGraph graphFrom
 mined-pending bytes p =
     either (split (isDone (judgedLog bytes)))
-    (λ y. ap (λ (g : Graph). g .head .opening .state .pending) (mined-graph bytes p (done-is _ (T→true _ y))) ∙ at-opening _ _)
+    (λ y. ap (λ (g : Graph). g .head .opening .state .pending) (mined-graph bytes p (done-is _ (T→true _ y))))
     (λ n. ap (λ (g : Graph). g .head .opening .state .pending) (mined-nothing bytes p (F→false _ n)))
-  where
-    at-opening : (A : ℕ) (L : Traces) → minedGraph A L p .head .opening .state .pending ≡ noSet
-    at-opening A L = refl
 
 -- the empty graph is no reason to refuse
 pub empty-judged : judged emptyGraph ≡ Done
