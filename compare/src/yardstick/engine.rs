@@ -1,9 +1,16 @@
 //! The engine on words.
+use super::rows::Bits;
 use super::{below, bit, index};
 use crate::value::{Answer, GraphValue, MarkingValue, Replayed};
 
-/// 3 for A, then 5 for the graph.
+/// 3 for A, 5 for the graph, 16 for its opening marking.
 pub fn judge(graph: &GraphValue) -> Result<(), u8> {
+    judge_sets(graph)?;
+    judge_truth(graph, &graph.marking)
+}
+
+/// 3 and 5 alone.
+pub fn judge_sets(graph: &GraphValue) -> Result<(), u8> {
     if graph.a > 64 {
         return Err(3);
     }
@@ -28,15 +35,49 @@ fn judge_members(graph: &GraphValue) -> Result<(), u8> {
     Ok(())
 }
 
+/// 3, every 5, then 16 for the graph's marking or for the one beside it.
 fn judge_beside(graph: &GraphValue, m: &MarkingValue) -> Result<(), u8> {
-    judge(graph)?;
+    judge_sets(graph)?;
+    within(graph, m)?;
+    judge_truth(graph, &graph.marking)?;
+    judge_truth(graph, m)
+}
+
+/// 5 for a marking that leaves the events; the enabled ones are not looked at.
+#[inline(always)]
+pub fn within(graph: &GraphValue, m: &MarkingValue) -> Result<(), u8> {
     if (m.executed | m.pending | m.included) & !graph.events != 0 {
         return Err(5);
     }
     Ok(())
 }
 
-/// 8, 9, 10, or the marking after e.
+/// 16 for a false set.
+#[inline(always)]
+pub fn judge_truth(graph: &GraphValue, m: &MarkingValue) -> Result<(), u8> {
+    if m.enabled != enabled_set(graph, m) {
+        return Err(16);
+    }
+    Ok(())
+}
+
+/// What is included and waits for nothing, for a graph and a marking within the events.
+#[inline(always)]
+pub fn enabled_set(graph: &GraphValue, m: &MarkingValue) -> u64 {
+    let holding_up = m.included & !m.executed;
+    Bits(m.included)
+        .filter(|&e| graph.conditions[e] & holding_up == 0)
+        .fold(0, |set, e| set | 1 << e)
+}
+
+/// The marking with its set worked out.
+#[inline(always)]
+pub fn kept(graph: &GraphValue, m: MarkingValue) -> MarkingValue {
+    let enabled = enabled_set(graph, &m);
+    MarkingValue { enabled, ..m }
+}
+
+/// 8, 9, 10, or the marking after e, whose set is left as it stood.
 #[inline(always)]
 pub fn step(graph: &GraphValue, m: MarkingValue, e: u8) -> Result<MarkingValue, Answer> {
     if e >= 64 || graph.events & bit(e) == 0 {
@@ -57,7 +98,14 @@ pub fn step(graph: &GraphValue, m: MarkingValue, e: u8) -> Result<MarkingValue, 
         executed: m.executed | bit(e),
         pending: m.pending & !bit(e) | graph.responses[k],
         included: m.included & !graph.excludes[k] | graph.includes[k],
+        enabled: m.enabled,
     })
+}
+
+/// A step that keeps the set.
+#[inline(always)]
+pub fn step_keeping(graph: &GraphValue, m: MarkingValue, e: u8) -> Result<MarkingValue, Answer> {
+    Ok(kept(graph, step(graph, m, e)?))
 }
 
 pub fn enabled(graph: &GraphValue, marking: &MarkingValue, e: u8) -> Result<(), Answer> {
@@ -67,7 +115,7 @@ pub fn enabled(graph: &GraphValue, marking: &MarkingValue, e: u8) -> Result<(), 
 
 pub fn execute(graph: &GraphValue, marking: &mut MarkingValue, e: u8) -> Result<(), Answer> {
     judge_beside(graph, marking)?;
-    *marking = step(graph, *marking, e)?;
+    *marking = step_keeping(graph, *marking, e)?;
     Ok(())
 }
 
@@ -85,13 +133,20 @@ pub fn replay(graph: &GraphValue, trace: &[u8]) -> Replayed {
     if graph.a > 64 || trace.len() > 512 {
         return Replayed::refused(3);
     }
-    match judge_members(graph) {
+    match judge(graph) {
         Err(number) => Replayed::refused(number),
-        Ok(()) => replay_judged(graph, trace),
+        Ok(()) => {
+            let done = replay_judged(graph, trace);
+            Replayed {
+                marking: kept(graph, done.marking),
+                ..done
+            }
+        }
     }
 }
 
-/// For a graph that was judged or mined, and a trace within its limit.
+/// For a graph that was judged or mined, and a trace within its limit. No step keeps the set, and
+/// the marking given back has none: who hands it on works it out, once.
 #[inline]
 pub fn replay_judged(graph: &GraphValue, trace: &[u8]) -> Replayed {
     let mut marking = graph.marking;
