@@ -17,8 +17,8 @@ fn right(file: &[u8], table: &mut [u8], request: Request) -> u64 {
 fn found(mutant: Desk) -> Option<u64> {
     for seed in 0..SEEDS {
         let mut prng = Prng::new(seed);
-        let (file, events) = desk::file(&mut prng);
-        let mut table = desk::table(&mut prng, events);
+        let (file, graph) = desk::file(&mut prng);
+        let mut table = desk::table(&mut prng, &graph);
         for _ in 0..40 {
             let a = file.get(3).copied().unwrap_or(0);
             let request = desk::request(&mut prng, &table, a);
