@@ -61,13 +61,23 @@ pub fn judge_truth(graph: &GraphValue, m: &MarkingValue) -> Result<(), u8> {
     Ok(())
 }
 
+/// What holds up those that have it as a condition.
+#[inline(always)]
+fn holding_up(m: &MarkingValue) -> u64 {
+    m.included & !m.executed
+}
+
+/// The members of a set that pass, without a branch.
+#[inline(always)]
+fn those(set: u64, passes: impl Fn(usize) -> bool) -> u64 {
+    Bits(set).fold(0, |all, k| all | u64::from(passes(k)) << k)
+}
+
 /// What is included and waits for nothing, for a graph and a marking within the events.
 #[inline(always)]
 pub fn enabled_set(graph: &GraphValue, m: &MarkingValue) -> u64 {
-    let holding_up = m.included & !m.executed;
-    Bits(m.included)
-        .filter(|&e| graph.conditions[e] & holding_up == 0)
-        .fold(0, |set, e| set | 1 << e)
+    let up = holding_up(m);
+    those(m.included, |k| graph.conditions[k] & up == 0)
 }
 
 /// The marking with its set worked out.
@@ -102,10 +112,33 @@ pub fn step(graph: &GraphValue, m: MarkingValue, e: u8) -> Result<MarkingValue, 
     })
 }
 
-/// A step that keeps the set.
+/// A step that keeps the set, of a marking whose set is true: only what the step can have changed
+/// is asked again. That is quicker than working the set out anew.
 #[inline(always)]
 pub fn step_keeping(graph: &GraphValue, m: MarkingValue, e: u8) -> Result<MarkingValue, Answer> {
-    Ok(kept(graph, step(graph, m, e)?))
+    let after = step(graph, m, e)?;
+    let enabled = still_enabled(graph, &m, &after) | newly_enabled(graph, &m, &after);
+    Ok(MarkingValue { enabled, ..after })
+}
+
+/// What was enabled and is still included, but for what waits for something that was let in.
+#[inline(always)]
+fn still_enabled(graph: &GraphValue, m: &MarkingValue, after: &MarkingValue) -> u64 {
+    let stays = m.enabled & after.included;
+    let anew = holding_up(after) & !holding_up(m);
+    if anew == 0 {
+        return stays;
+    }
+    those(stays, |k| graph.conditions[k] & anew == 0)
+}
+
+/// What was let in; and what has waited, where something was executed or shut out that held up.
+#[inline(always)]
+fn newly_enabled(graph: &GraphValue, m: &MarkingValue, after: &MarkingValue) -> u64 {
+    let up = holding_up(after);
+    let frees = holding_up(m) & !up != 0;
+    let asked = after.included & !if frees { m.enabled } else { m.included };
+    those(asked, |k| graph.conditions[k] & up == 0)
 }
 
 pub fn enabled(graph: &GraphValue, marking: &MarkingValue, e: u8) -> Result<(), Answer> {
