@@ -14,7 +14,7 @@ use std::collections::BTreeSet;
 type Reading = fn(&PlainGraph) -> Result<PlainGraph, u8>;
 
 /// The seeded inputs of the comparison: sound, then damaged graphs, with the borders first.
-fn graphs_of(seed: u64) -> Vec<PlainGraph> {
+pub fn graphs_of(seed: u64) -> Vec<PlainGraph> {
     let mut prng = Prng::new(seed);
     let value = graphs::value(&mut prng);
     let mut graph = plain::of(&value);
