@@ -276,7 +276,10 @@ fn every_five_before_any_sixteen() {
         let mut sets = marking_of(&from);
         let mut words = from;
         assert_eq!(judge::engine::enabled(&graph_of(graph), &sets, 3), wanted);
-        assert_eq!(judge::engine::execute(&graph_of(graph), &mut sets, 3), wanted);
+        assert_eq!(
+            judge::engine::execute(&graph_of(graph), &mut sets, 3),
+            wanted
+        );
         assert_eq!(yardstick::engine::execute(graph, &mut words, 3), wanted);
         assert_eq!((marking_value(&sets), words), (from, from));
         let done = if number == 8 { Ok(true) } else { Err(number) };

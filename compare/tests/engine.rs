@@ -12,12 +12,7 @@ fn set(members: &[u8]) -> u64 {
 }
 
 /// What is enabled then stands in `tests/enabled.rs` by hand; here it is worked out.
-fn marking(
-    graph: &GraphValue,
-    executed: &[u8],
-    pending: &[u8],
-    included: &[u8],
-) -> MarkingValue {
+fn marking(graph: &GraphValue, executed: &[u8], pending: &[u8], included: &[u8]) -> MarkingValue {
     let sets = MarkingValue {
         executed: set(executed),
         pending: set(pending),

@@ -103,7 +103,10 @@ pub fn false_set(prng: &mut Prng, graph: &GraphValue, set: u64) -> u64 {
 
 /// One of these alone, or none of none.
 fn member(prng: &mut Prng, of: u64) -> u64 {
-    let members: Vec<u64> = (0..64).map(|a| 1 << a).filter(|bit| of & bit != 0).collect();
+    let members: Vec<u64> = (0..64)
+        .map(|a| 1 << a)
+        .filter(|bit| of & bit != 0)
+        .collect();
     if members.is_empty() {
         return 0;
     }

@@ -327,16 +327,32 @@ fn openings() -> Vec<(u8, PlainGraph)> {
         (16, with(7 + (1 << 63), nothing)),
         (16, with(u64::MAX, nothing)),
         // 2 is no event and below A
-        (16, with(7, |graph| (graph.head[1], graph.head[INCLUDED]) = (3, 3))),
-        (0, with(3, |graph| (graph.head[1], graph.head[INCLUDED]) = (3, 3))),
+        (
+            16,
+            with(7, |graph| (graph.head[1], graph.head[INCLUDED]) = (3, 3)),
+        ),
+        (
+            0,
+            with(3, |graph| (graph.head[1], graph.head[INCLUDED]) = (3, 3)),
+        ),
         // 2 is shut out
         (16, with(7, |graph| graph.head[INCLUDED] = 3)),
         (0, with(3, |graph| graph.head[INCLUDED] = 3)),
         // 1 waits for 0, and then 0 was done
         (16, with(7, |graph| graph.lists[0] = vec![1])),
         (0, with(5, |graph| graph.lists[0] = vec![1])),
-        (16, with(5, |graph| (graph.lists[0], graph.head[HEAD_MARKING]) = (vec![1], 1))),
-        (0, with(7, |graph| (graph.lists[0], graph.head[HEAD_MARKING]) = (vec![1], 1))),
+        (
+            16,
+            with(5, |graph| {
+                (graph.lists[0], graph.head[HEAD_MARKING]) = (vec![1], 1)
+            }),
+        ),
+        (
+            0,
+            with(7, |graph| {
+                (graph.lists[0], graph.head[HEAD_MARKING]) = (vec![1], 1)
+            }),
+        ),
         (5, with(0, |graph| graph.head[INCLUDED] = 15)),
         (5, with(0, |graph| graph.lists[3] = vec![65535])),
         (3, with(0, |graph| graph.head[0] = 65)),

@@ -26,13 +26,19 @@ fn with_set(
 /// The sources of a step's conditions.
 fn sources(graph: &Graph, target: u8) -> impl Iterator<Item = &u8> {
     let conditions = graph.relations.conditions.iter();
-    conditions.filter(move |pair| pair.1 == target).map(|pair| &pair.0)
+    conditions
+        .filter(move |pair| pair.1 == target)
+        .map(|pair| &pair.0)
 }
 
 const STEPS: [(&str, Execute); 8] = [
     ("forgets what a step lets in", |g, m, e| {
         with_set(g, m, e, |_, before, after| {
-            after.enabled.intersection(&before.included).copied().collect()
+            after
+                .enabled
+                .intersection(&before.included)
+                .copied()
+                .collect()
         })
     }),
     ("forgets what a step shuts out", |g, m, e| {
@@ -52,7 +58,12 @@ const STEPS: [(&str, Execute); 8] = [
         with_set(g, m, e, |graph, before, after| {
             let left = |s: &u8| before.included.contains(s) && !after.included.contains(s);
             let freed = |a: &u8| sources(graph, *a).any(|s| left(s) && !after.executed.contains(s));
-            after.enabled.iter().filter(|a| !freed(a)).copied().collect()
+            after
+                .enabled
+                .iter()
+                .filter(|a| !freed(a))
+                .copied()
+                .collect()
         })
     }),
     ("forgets what waits for something let in", |g, m, e| {
@@ -221,7 +232,8 @@ type OnLists = fn(&PlainGraph, &[u8]) -> u64;
 
 /// Whether the graph by itself has a false set.
 fn false_opening(graph: &PlainGraph) -> bool {
-    plain::read(graph, 0).is_ok_and(|graph| enabled_events(&graph, &graph.marking) != graph.marking.enabled)
+    plain::read(graph, 0)
+        .is_ok_and(|graph| enabled_events(&graph, &graph.marking) != graph.marking.enabled)
 }
 
 /// The graph with its set put right, where it has nothing else against it.
@@ -348,12 +360,13 @@ const WRITES: [(&str, Write); 4] = [
         };
         graph_file::write(&graph, lent)
     }),
-    ("a write gives 5 for a set outside the events", |graph, lent| {
-        match graph_file::write(graph, lent) {
+    (
+        "a write gives 5 for a set outside the events",
+        |graph, lent| match graph_file::write(graph, lent) {
             Err(16) if !graph.marking.enabled.is_subset(&graph.events) => Err(5),
             given => given,
-        }
-    }),
+        },
+    ),
 ];
 
 #[test]
