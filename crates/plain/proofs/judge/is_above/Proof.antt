@@ -5,8 +5,11 @@ use Rattle.plain.proofs.PairLaws.{is-not}
 use Rattle.plain.proofs.judge.is_above.Statement.{statement}
 use Rattle.plain.proofs.judge.is_above.Tie as tie
 
+returns : tie.Need-returns
+returns c = unfold plainAbove in search (conjunction, needs)
+
 pub is-above-spec : {M : Type 1} → statement M
 is-above-spec =
     tie.close
-    (tie.spec (λ c κs. search needs) (λ c. unfold plainAbove in search (conjunction, needs)) (λ c κs. search needs)
+    (tie.spec (λ c κs. search needs) returns (λ c κs. search needs)
     (λ c. unfold plainAbove in search (conjunction, is-not, needs)))

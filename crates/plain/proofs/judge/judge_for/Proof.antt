@@ -7,6 +7,9 @@ use Rattle.plain.proofs.Stepping.{true-alone}
 use Rattle.plain.proofs.judge.judge_for.Statement.{statement}
 use Rattle.plain.proofs.judge.judge_for.Tie as tie
 
+returns-2 : tie.Need-returns-2
+returns-2 c = unfold plainJudgedFor in search (found-by, choice, true-alone, needs)
+
 pub judge-for-spec : {M : Type 1} → statement M
 judge-for-spec =
     tie.close
@@ -16,4 +19,4 @@ judge-for-spec =
     (λ c κs. search needs)
     (λ c κs. search needs)
     (λ c κs. search needs)
-    (λ c. unfold plainJudgedFor in search (found-by, choice, true-alone, needs)))
+    returns-2)
