@@ -40,7 +40,7 @@ use Rattle.desk.proofs.Serving.{open-done, step-done, close-done}
 whole-those : (p : ℕ → Bool) → Whole (those p)
 whole-those p = those-ext (mem (those p)) p (λ a l. mem-those p a l)
 
-whole-next : (g : Graph) (m : Marking) (a : ℕ) → WholeMarking (nextMarking g m a)
+pub whole-next : (g : Graph) (m : Marking) (a : ℕ) → WholeMarking (nextMarking g m a)
 unfolding after enabledSet
 whole-next g m a = record { executed = whole-those _; pending = whole-those _; included = whole-those _; enabled = whole-those _ }
 

@@ -26,9 +26,9 @@ use Rattle.graphfile.proofs.LoneMarkings.{WholeMarking}
 use Rattle.desk.specs.Places.{placeCount, placeStart, tableLength, isOpen, markingAtPlace, SameAt, withMarking, withPlace, lowestFree}
 use Rattle.desk.specs.Desk.{onTable, opening, openAnswer, noPlace, openedOf, tableOpened, stepAnswer, tableStepped, closing, closeAnswer, tableClosed}
 use Rattle.desk.specs.Histories.{Fresh}
-use Rattle.desk.proofs.Placing.{open-below, open-kept, marking-kept, length-marked, length-placed, placed-open, placed-marking, else-open, else-marking}
+use Rattle.desk.proofs.Placing.{open-below, open-kept, marking-kept, marking-same, length-marked, length-placed, placed-open, placed-marking, else-open, else-marking}
 use Rattle.desk.proofs.Serving.{open-done, step-done, close-done}
-use Rattle.desk.proofs.Isolation.{whole-empty, opening-ext, lowest-ext}
+use Rattle.desk.proofs.Isolation.{whole-empty, whole-next, opening-ext, lowest-ext}
 
 -- ---- a table of zeros is fresh
 
@@ -128,6 +128,17 @@ module _ (g : Graph) where
     opened-marking whole d =
         ap (λ (t : Bool). markingAtPlace (when t then withPlace table lowest 1 (g .head .opening) else table) lowest) (ap isDone d)
         ∙ (let there = open-done table g d in placed-marking table lowest 1 (g .head .opening) (there .0) (there .1) whole)
+
+    -- ---- step: the place holds the marking after it
+
+    pub stepped-marking : (p a : ℕ) → stepAnswer g table p a ≡ Done
+        → markingAtPlace (tableStepped g table p a) p ≡ nextMarking g (markingAtPlace table p) a
+    unfolding tableStepped
+    stepped-marking p a d =
+        let there = step-done table g p a d in
+        ap (λ (t : Bool). markingAtPlace (when t then withMarking table p (nextMarking g (markingAtPlace table p) a) else table) p) (ap isDone d)
+        ∙ marking-same table (there .0) p (open-below table p (there .1)) (nextMarking g (markingAtPlace table p) a)
+        (whole-next g (markingAtPlace table p) a)
 
     -- ---- close: the place is free, and holds the empty marking
 

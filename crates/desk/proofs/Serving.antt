@@ -109,6 +109,11 @@ module _ (table : List ℕ) where
         by true e all h = ltb-true (lowestFree (isOpen table)) placeCount e
         by false e all h = absurd (true→T (ap isDone (ap (λ (t : Bool). when t then NoPlaceFree else Done) (sym (all ∙ ap non e)) ∙ h)))
 
+    -- and the graph was accepted
+    pub open-accepted : openAnswer g table ≡ Done → judged g ≡ Done
+    unfolding openAnswer opening
+    open-accepted h = both (judged g) _ (on-table (opening g (isOpen table)) h .1) .0
+
     pub step-done : (p a : ℕ) → stepAnswer g table p a ≡ Done → (tableLength ≤ length table) × (T (isOpen table p))
     unfolding stepAnswer
     step-done p a h =

@@ -151,8 +151,8 @@ fn shortest<'a>(events: Set, relations: &'a Relations, settlers: &'a Rows, s: St
     }
 }
 
-// The way out on lent relations from any marking: the refusals of the graph and of the marking, then 17 where there is none. The search goes by
-// the state; no step on the way needs a set of enabled activities (02, 6/12).
+// The way out on lent relations from any marking: the refusals of the graph and of the marking, then 17 where there is none. The search
+// goes by the state; no step on the way needs a set of enabled activities (02, 6/12).
 pub fn way_out(head: Head, relations: &Relations, m: Marking) -> Finished
     ensures { λ r. ⌜ r ≡ finishOf (graphOf head (now (relations .entry))) m ⌝ }
 {

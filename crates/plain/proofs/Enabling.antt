@@ -4,13 +4,13 @@ use mathlib.Core.Bool.{Bool}
 use mathlib.Core.List.{List, []}
 use Prim.Native.Nat.{ℕ, _≤_, _<_}
 use native.Mathlib.Omega.{arith}
-use lib.Dec.{T, eqb, eqb→eq, eqb-refl}
+use lib.Dec.{T, eqb, eqb→eq}
 use lib.ListN.{length, getD}
 use Rattle.sets.specs.Tests.{_and_, _or_, non}
 use Rattle.sets.specs.Members.{width, mem, those, noSet}
 use Rattle.sets.specs.Answers.{isDone}
 use Rattle.sets.specs.declared.set.Set.{Set}
-use Rattle.sets.proofs.Tests.{and-l, and-r, and-i, or-false, false-or, T-ext, eqb-of}
+use Rattle.sets.proofs.Tests.{and-l, and-r, and-i, or-false, T-ext, eqb-of}
 use Rattle.sets.proofs.Below.{some-i, some-e}
 use Rattle.sets.proofs.Members.{Fits, those-ext, those-of, those-mem, whole-low, mem-none}
 use Rattle.sets.proofs.MadeSets.{is-those, less}
@@ -21,7 +21,7 @@ use Rattle.engine.proofs.Enabling.{done-parts}
 use Rattle.plain.specs.Pairs.{pairOf, sourceOf, targetOf, someIn, isAmong, blocks}
 use Rattle.plain.specs.Graphs.{inLists}
 use Rattle.plain.proofs.PairLaws.{stands}
-use Rattle.plain.proofs.Stepping.{or-more, soFar, targets-begin, targets-next, targets-end, from-pair, to-pair}
+use Rattle.plain.proofs.Stepping.{or-more, soFar, targets-end, from-pair, to-pair}
 
 -- pair p keeps b waiting
 abbrev pub keeps : State → ℕ → ℕ → Bool
@@ -47,7 +47,8 @@ module _ (s : State) (p t : ℕ) (h : t ≡ targetOf p) where
       (λ b l. ap (λ (z : Bool). mem out b or z) (ap (λ (z : Bool). z and eqb b t) hy ∙ target-alone b))
 
 -- the walk ends with those that some condition keeps waiting
-pub waiting-end : (c : List ℕ) (s : State) (i : ℕ) (out : Set) → length c ≤ i → i ≤ length c → out ≡ soFar _or_ or-false or-more keeps noSet c s i
+pub waiting-end : (c : List ℕ) (s : State) (i : ℕ) (out : Set) → length c ≤ i → i ≤ length c
+    → out ≡ soFar _or_ or-false or-more keeps noSet c s i
     → out ≡ those (λ b. someIn c (blocks s b))
 unfolding _or_
 waiting-end c s i out l g h =

@@ -13,9 +13,8 @@ use Rattle.sets.specs.Tests.{_and_, _or_, non, when_then_else_}
 use Rattle.sets.specs.Members.{width, mem, everyBelow, isEmpty}
 use Rattle.sets.specs.Rows.{Relation, rowAt, inRow}
 use Rattle.sets.specs.Tables.{tableAt}
-use Rattle.sets.specs.Answers.{isDone, thenAsk}
+use Rattle.sets.specs.Answers.{isDone}
 use Rattle.sets.specs.declared.set.Set.{Set}
-use Rattle.sets.specs.declared.answer.Answer.{Answer}
 use Rattle.sets.proofs.Tests.{and-l, and-r, and-i, or-e, or-l, or-r, T-ext, T-eq, T→true, F→false, true→T, false→F, non-i, non-e, split}
 use Rattle.sets.proofs.Tests.{either, and-true, true-and, false-and, or-false}
 use Rattle.sets.proofs.Below.{every-i, every-e}

@@ -26,7 +26,9 @@ unfoldable pub plainSteppedOf : PlainGraph → Marking → ℕ → Stepped
 plainSteppedOf g m e =
     record {
       answer = plainEnabledOf g m e;
-      marking = when isDone (plainEnabledOf g m e) then marked (g .head .events) (plainRelations g) (after (plainRelations g) (m .state) e) else m;
+      marking = when isDone (plainEnabledOf g m e)
+          then marked (g .head .events) (plainRelations g) (after (plainRelations g) (m .state) e)
+          else m;
     }
 
 -- accepting: no where refused

@@ -1,11 +1,13 @@
-// When a graph of lists, a trace's length or a marking beside it is refused: every 3 before any 5 (02, 1/12), every 5 before any 16 (02, 6/12).
+// When a graph of lists, a trace's length or a marking beside it is refused: every 3 before any 5 (02, 1/12), every 5 before any 16
+// (02, 6/12).
 ghost use mathlib.Core.Path.{_≡_};
 ghost use mathlib.Core.List.{[]};
 ghost use Rattle.plain.specs.Pairs.{pairWithin, pairsWithin};
 ghost use Rattle.sets.specs.Tests.{_and_};
 ghost use Rattle.engine.specs.Judged.{stateWithin};
 ghost use Rattle.engine.specs.Enabled.{isTrue};
-ghost use Rattle.plain.specs.Graphs.{plainOf, inLists, listsFit, listsWithin, plainWithin, plainAbove, plainJudgedFor, plainJudgedWith};
+ghost use Rattle.plain.specs.Graphs.{plainOf, inLists, listsFit, listsWithin, plainWithin};
+ghost use Rattle.plain.specs.Graphs.{plainAbove, plainJudgedFor, plainJudgedWith};
 use crate::enabled::is_true;
 use crate::pairs::LIMIT;
 use crate::pairs::source;

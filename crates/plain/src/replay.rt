@@ -14,8 +14,8 @@ use sets::Activity;
 use sets::Answer;
 use sets::Place;
 
-// A whole trace from the opening marking, on lists that have been judged. The set of enabled activities is worked out once, for the marking that
-// is given back (02, 6/12).
+// A whole trace from the opening marking, on lists that have been judged. The set of enabled activities is worked out once, for the
+// marking that is given back (02, 6/12).
 fn run<'a>(
     head: Head,
     conditions: &'a [u16],
@@ -25,8 +25,8 @@ fn run<'a>(
     trace: &'a [u8],
 ) -> Replayed
     ensures { λ r. ⌜ r ≡ replayFrom (head .events)
-        (inLists (now (conditions .entry)) (now (responses .entry)) (now (includes .entry)) (now (excludes .entry))) (head .opening .state) 0
-        (now (trace .entry)) ⌝ }
+        (inLists (now (conditions .entry)) (now (responses .entry)) (now (includes .entry)) (now (excludes .entry)))
+        (head .opening .state) 0 (now (trace .entry)) ⌝ }
 {
     let mut s = head.opening.state;
     let mut i: usize = 0;

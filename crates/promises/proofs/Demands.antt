@@ -10,6 +10,7 @@
 -- Blocker, 2/12: 10 carries the smallest activity that blocks, every other number 255.
 -- Light, 3/12: what the profiles are, what the listing program's arguments mean, what 12 leaves, what the summary counts.
 -- Desk, 5/12: what the call desk answers at a place depends on that place's own call alone; open; a freed place.
+-- Enabled, 6/12: every marking given back has the true set of enabled activities; 16 exactly where a set is false; a replay is its steps.
 -- Finish, 8/12: a way out is a finishing sequence, the shortest and the first of these; 17 exactly where there is none.
 -- ShutOut, 8/12: what is said to have shut a step out is an event of the call that excludes it.
 use mathlib.Core.Path.{_≡_, refl, sym, ap, subst, _∙_}
@@ -24,7 +25,7 @@ use Rattle.sets.specs.Answers.{numberOf, blockerOf, isDone, thenAsk}
 use Rattle.sets.specs.declared.activity.Activity.{Activity}
 use Rattle.sets.specs.declared.answer.Answer.{Answer}
 use Rattle.sets.specs.declared.answer.Answer.the-variants.{Done, TooShort, WrongLetters, AboveLimit, WrongOffset, Outside, BadRow, BufferTooSmall, NoEvent, NotIncluded, Waiting, NoTrace, WrongArgument}
-use Rattle.sets.specs.declared.answer.Answer.the-variants.{NoPlaceFree, NotOpen, NotAccepting, NoWayOut}
+use Rattle.sets.specs.declared.answer.Answer.the-variants.{NoPlaceFree, NotOpen, NotAccepting, FalseEnabled, NoWayOut}
 use Rattle.sets.proofs.Members.{mem-those}
 use Rattle.sets.proofs.Asking.{done-is}
 use Rattle.sets.specs.Members.{noSet}
@@ -74,16 +75,16 @@ use Rattle.promises.proofs.Early.{replay-runs, early-nothing}
 abbrev cases : Activity → List Answer
 cases b =
     Done ∷ TooShort ∷ WrongLetters ∷ AboveLimit ∷ WrongOffset ∷ Outside ∷ BadRow ∷ BufferTooSmall ∷ NoEvent ∷ NotIncluded ∷ Waiting b ∷ NoTrace
-    ∷ WrongArgument ∷ NoPlaceFree ∷ NotOpen ∷ NotAccepting ∷ NoWayOut ∷ []
+    ∷ WrongArgument ∷ NoPlaceFree ∷ NotOpen ∷ NotAccepting ∷ FalseEnabled ∷ NoWayOut ∷ []
 
 -- 01's table, "Numbers given back", and 02's numbers: the number of each
-pub numbers : (b : Activity) → map numberOf (cases b) ≡ 0 ∷ 1 ∷ 2 ∷ 3 ∷ 4 ∷ 5 ∷ 6 ∷ 7 ∷ 8 ∷ 9 ∷ 10 ∷ 11 ∷ 12 ∷ 13 ∷ 14 ∷ 15 ∷ 17 ∷ []
+pub numbers : (b : Activity) → map numberOf (cases b) ≡ 0 ∷ 1 ∷ 2 ∷ 3 ∷ 4 ∷ 5 ∷ 6 ∷ 7 ∷ 8 ∷ 9 ∷ 10 ∷ 11 ∷ 12 ∷ 13 ∷ 14 ∷ 15 ∷ 16 ∷ 17 ∷ []
 numbers b = refl
 
 -- 02, 2/12: the blocker beside each
 pub blockers : (b : Activity)
     → map blockerOf (cases b)
-    ≡ 255 ∷ 255 ∷ 255 ∷ 255 ∷ 255 ∷ 255 ∷ 255 ∷ 255 ∷ 255 ∷ 255 ∷ b .0 ∷ 255 ∷ 255 ∷ 255 ∷ 255 ∷ 255 ∷ 255 ∷ []
+    ≡ 255 ∷ 255 ∷ 255 ∷ 255 ∷ 255 ∷ 255 ∷ 255 ∷ 255 ∷ 255 ∷ 255 ∷ b .0 ∷ 255 ∷ 255 ∷ 255 ∷ 255 ∷ 255 ∷ 255 ∷ 255 ∷ []
 blockers b = refl
 
 -- that is the number which the function `number` gives

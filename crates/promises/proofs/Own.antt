@@ -63,11 +63,8 @@ pub mined-pending : (bytes : List ℕ) (p : Profile) → minedOf bytes p .graph 
 unfolding minedGraph graphFrom
 mined-pending bytes p =
     either (split (isDone (judgedLog bytes)))
-    (λ y. ap (λ (g : Graph). g .head .opening .state .pending) (mined-graph bytes p (done-is _ (T→true _ y))) ∙ at-opening _ _)
+    (λ y. ap (λ (g : Graph). g .head .opening .state .pending) (mined-graph bytes p (done-is _ (T→true _ y))))
     (λ n. ap (λ (g : Graph). g .head .opening .state .pending) (mined-nothing bytes p (F→false _ n)))
-  where
-    at-opening : (A : ℕ) (L : Traces) → minedGraph A L p .head .opening .state .pending ≡ noSet
-    at-opening A L = refl
 
 -- the empty graph is no reason to refuse
 pub empty-judged : judged emptyGraph ≡ Done
@@ -134,19 +131,19 @@ module _ (log : List ℕ) (k : ℕ) (f : Found) (t : Bool) (hf : f ≡ foundOf l
       )
 
   module _ (y : not t ≡ false) where
-    found : f .answer ≡ Done
-    found = done-is (f .answer) (sym ht ∙ not-false t y)
+    was-found : f .answer ≡ Done
+    was-found = done-is (f .answer) (sym ht ∙ not-false t y)
 
     pub own-within : f .start + f .length ≤ length log
-    own-within = found-trace log k f hf found .0
+    own-within = found-trace log k f hf was-found .0
 
     pub own-done : (p : Profile) (m : Mined) (r : Replayed) → m ≡ minedOf log p → r ≡ replayOf (m .graph) (take (f .start + f .length - f .start) (drop (f .start) log)) → OwnReplayed log p k r
     unfolding ownReplay
     own-done p m r hm hr =
         let n : f .start + f .length - f .start ≡ f .length = omega arith in
-        let finding : findingOf log k ≡ Done = sym the-answer ∙ found in
+        let finding : findingOf log k ≡ Done = sym the-answer ∙ was-found in
         let trace : take (f .start + f .length - f .start) (drop (f .start) log) ≡ traceOf log k =
-        ap (λ (i : ℕ). take i (drop (f .start) log)) n ∙ found-trace log k f hf found .1 in
+        ap (λ (i : ℕ). take i (drop (f .start) log)) n ∙ found-trace log k f hf was-found .1 in
         let same : r ≡ replayOf (m .graph) (traceOf log k) = hr ∙ ap (replayOf (m .graph)) trace in
         let d = own-through log p k m r hm (finds-below log k finding) same in (
           same

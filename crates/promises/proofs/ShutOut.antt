@@ -18,6 +18,7 @@ use Rattle.engine.specs.Markings.{emptyMarking}
 use Rattle.engine.specs.Relations.{Relations, inTables, relationsOf}
 use Rattle.engine.specs.Steps.{enabled, after}
 use Rattle.engine.specs.Judged.{judgedFor}
+use Rattle.engine.specs.Enabled.{marked}
 use Rattle.engine.specs.Replay.{ending, replayFrom, replayOf}
 use Rattle.engine.specs.declared.marking.State.{State}
 use Rattle.engine.specs.declared.marking.Marking.{Marking}
@@ -81,8 +82,8 @@ module _ (events : Set) (r : Relations) (a : ℕ) (l : a < width) where
   told [] m i last ok out = inr (out, refl)
   told (e ∷ σ) m i last ok out =
       next σ m e last
-      (branch (isDone (enabled events r m e)) (enabled events r m e) (replayFrom events r (after r m e) (i + 1) σ) i m refl ok out
-      (told σ (after r m e) (i + 1) (shutAfter r a last e)))
+      (branch (isDone (enabled events r m e)) (enabled events r m e) (replayFrom events r (after r m e) (i + 1) σ) i
+      (marked events r m) refl ok out (told σ (after r m e) (i + 1) (shutAfter r a last e)))
 
   -- after a replay that was done, from a marking that includes a to one that does not, it is an event of the trace that excludes a
   pub shut-event : (σ : List ℕ) (m : State) → isDone (replayFrom events r m 0 σ .answer) ≡ true → mem (m .included) a ≡ true

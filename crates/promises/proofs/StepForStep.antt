@@ -15,6 +15,7 @@ use Rattle.sets.proofs.Tests.{T→true, F→false, split, either, true→T, fal
 use Rattle.sets.proofs.Asking.{done-is}
 use Rattle.engine.specs.Relations.{Relations}
 use Rattle.engine.specs.Steps.{enabled, after, accepting}
+use Rattle.engine.specs.Enabled.{marked}
 use Rattle.engine.specs.Replay.{ending, replayFrom}
 use Rattle.engine.specs.declared.marking.State.{State}
 use Rattle.engine.specs.declared.replay.Replayed.{Replayed}
@@ -29,11 +30,11 @@ module _ (events : Set) (r : Relations) where
   module _ (m : State) (i e : ℕ) (es : List ℕ) where
     goes-on : enabled events r m e ≡ Done → ran m i (e ∷ es) ≡ ran (after r m e) (i + 1) es
     unfolding replayFrom
-    goes-on h = ap (λ (a : Answer). when isDone a then ran (after r m e) (i + 1) es else ending a i m false) h
+    goes-on h = ap (λ (a : Answer). when isDone a then ran (after r m e) (i + 1) es else ending a i (marked events r m) false) h
 
-    stops : Refused (enabled events r m e) → ran m i (e ∷ es) ≡ ending (enabled events r m e) i m false
+    stops : Refused (enabled events r m e) → ran m i (e ∷ es) ≡ ending (enabled events r m e) i (marked events r m) false
     unfolding replayFrom
-    stops h = ap (λ (t : Bool). when t then ran (after r m e) (i + 1) es else ending (enabled events r m e) i m false) h
+    stops h = ap (λ (t : Bool). when t then ran (after r m e) (i + 1) es else ending (enabled events r m e) i (marked events r m) false) h
 
   by-event : (m : State) (e : ℕ) {C : Type 0} → (enabled events r m e ≡ Done → C) → (Refused (enabled events r m e) → C) → C
   by-event m e f g = either (split (isDone (enabled events r m e))) (λ y. f (done-is _ (T→true _ y))) (λ n. g (F→false _ n))

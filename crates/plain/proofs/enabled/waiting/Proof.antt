@@ -16,13 +16,16 @@ Inv-loop conditions s out₀ i₀ out i = (i ≤ length conditions) × (out ≡ 
 abbrev μ-loop : tie.MeasureT-loop
 μ-loop conditions s out₀ i₀ out i = length conditions - i
 
+loop-holds : tie.Need-loop-holds Inv-loop μ-loop
+loop-holds c = search (targets-begin _or_ or-false or-more keeps, needs)
+
 pub waiting-spec : {M : Type 1} → statement M
 waiting-spec =
     tie.close
     (tie.spec
     Inv-loop
     μ-loop
-    (λ c. search (targets-begin _or_ or-false or-more keeps, needs))
+    loop-holds
     (λ c. search needs)
     (λ c. search needs)
     (λ c κs. search needs)

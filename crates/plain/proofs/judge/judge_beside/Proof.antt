@@ -7,6 +7,10 @@ use Rattle.plain.proofs.Stepping.{both-alone}
 use Rattle.plain.proofs.judge.judge_beside.Statement.{statement}
 use Rattle.plain.proofs.judge.judge_beside.Tie as tie
 
+returns-2 : tie.Need-returns-2
+unfolding plainJudgedWith
+returns-2 c = search (found-by, choice, both-alone, needs)
+
 pub judge-beside-spec : {M : Type 1} → statement M
 judge-beside-spec =
     tie.close
@@ -16,4 +20,4 @@ judge-beside-spec =
     (λ c κs. search needs)
     (λ c κs. search needs)
     (λ c κs. search needs)
-    (λ c. unfold plainJudgedWith in search (found-by, choice, both-alone, needs)))
+    returns-2)

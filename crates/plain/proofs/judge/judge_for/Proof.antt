@@ -8,7 +8,8 @@ use Rattle.plain.proofs.judge.judge_for.Statement.{statement}
 use Rattle.plain.proofs.judge.judge_for.Tie as tie
 
 returns-2 : tie.Need-returns-2
-returns-2 c = unfold plainJudgedFor in search (found-by, choice, true-alone, needs)
+unfolding plainJudgedFor
+returns-2 c = search (found-by, choice, true-alone, needs)
 
 pub judge-for-spec : {M : Type 1} → statement M
 judge-for-spec =
