@@ -10,7 +10,7 @@ use borrow.Author.Tests.{eqb-true, eqb-false, eq-eqb, ne-eqb, le-ltb}
 use lib.Dec.{T, eqb, ltb}
 use lib.ListN.{length}
 use Rattle.sets.specs.Tests.{_and_, non, when_then_else_}
-use Rattle.sets.specs.Members.{width, mem, those, everyBelow, leastBelow}
+use Rattle.sets.specs.Members.{mem, those, noSet, everyBelow, leastBelow}
 use Rattle.sets.specs.Answers.{isDone, thenAsk}
 use Rattle.sets.specs.declared.set.Set.{Set}
 use Rattle.sets.specs.declared.answer.Answer.{Answer}
@@ -20,10 +20,10 @@ use Rattle.sets.proofs.Below.{every-ext, least-ext}
 use Rattle.sets.proofs.Members.{Whole, those-ext, mem-those, mem-none, none-those}
 use Rattle.sets.proofs.Asking.{done-is}
 use Rattle.engine.specs.Markings.{emptyMarking}
-use Rattle.engine.specs.Relations.{Relations, relationsOf}
+use Rattle.engine.specs.Enabled.{enabledSet}
 use Rattle.engine.specs.Steps.{after}
 use Rattle.engine.specs.Judged.{judged}
-use Rattle.engine.specs.Replay.{enabledOf}
+use Rattle.engine.specs.Replay.{enabledOf, nextMarking}
 use Rattle.engine.specs.declared.marking.Marking.{Marking}
 use Rattle.engine.specs.declared.graph.Graph.{Graph}
 use Rattle.graphfile.proofs.LoneMarkings.{WholeMarking}
@@ -40,15 +40,15 @@ use Rattle.desk.proofs.Serving.{open-done, step-done, close-done}
 whole-those : (p : ℕ → Bool) → Whole (those p)
 whole-those p = those-ext (mem (those p)) p (λ a l. mem-those p a l)
 
-whole-after : (r : Relations) (m : Marking) (a : ℕ) → WholeMarking (after r m a)
-unfolding after
-whole-after r m a = record { executed = whole-those _; pending = whole-those _; included = whole-those _ }
+pub whole-next : (g : Graph) (m : Marking) (a : ℕ) → WholeMarking (nextMarking g m a)
+unfolding after enabledSet
+whole-next g m a = record { executed = whole-those _; pending = whole-those _; included = whole-those _; enabled = whole-those _ }
 
 pub whole-empty : WholeMarking emptyMarking
-whole-empty = record { executed = nothing; pending = nothing; included = nothing }
+whole-empty = record { executed = nothing; pending = nothing; included = nothing; enabled = nothing }
   where
-    nothing : Whole (emptyMarking .executed)
-    nothing = sym (none-those (mem (emptyMarking .executed)) (λ a l. mem-none a))
+    nothing : Whole noSet
+    nothing = sym (none-those (mem noSet) (λ a l. mem-none a))
 
 -- ---- which places are taken decides open
 
@@ -143,20 +143,20 @@ module _ (g : Graph) where
               (else-open table n 1 (g .head .opening) p other) (else-marking table n 1 (g .head .opening) p other) (holds .each p)
 
       stepped-holds : (q a : ℕ) (done : Bool) → isDone (stepAnswer g table q a) ≡ done → (p : ℕ)
-          → HoldsAt (when done then withMarking table q (after (relationsOf g) (markingAtPlace table q) a) else table) p
+          → HoldsAt (when done then withMarking table q (nextMarking g (markingAtPlace table q) a) else table) p
           (when eqb p q then stepped g (calls p) a else calls p)
       unfolding markingAfter
       stepped-holds q a done d p = by done d (eqb p q) refl
         where
           new : Marking
-          new = after (relationsOf g) (markingAtPlace table q) a
+          new = nextMarking g (markingAtPlace table q) a
 
           own : (c : Call) → HoldsAt table q c → T (isOpen table q) → HoldsAt (withMarking table q new) q (withStep a c)
           own none h t = absurd (false→F h t)
           own (since past) h t = (
             open-kept table q q new ∙ h .0,
-            marking-same table (holds .long) q (open-below table q t) new (whole-after (relationsOf g) (markingAtPlace table q) a)
-                ∙ ap (λ (m : Marking). after (relationsOf g) m a) (h .1),
+            marking-same table (holds .long) q (open-below table q t) new (whole-next g (markingAtPlace table q) a)
+                ∙ ap (λ (m : Marking). nextMarking g m a) (h .1),
           )
 
           here : (done : Bool) → isDone (stepAnswer g table q a) ≡ done → q ≡ p
@@ -219,7 +219,7 @@ module _ (g : Graph) where
   unfolding tableServed tableOpened tableStepped tableClosed
   served-length table Open = kept-length (isDone (openAnswer g table)) table _ (length-placed table (lowestFree (isOpen table)) 1 (g .head .opening))
   served-length table (Step p a) =
-      kept-length (isDone (stepAnswer g table p a)) table _ (length-marked table p (after (relationsOf g) (markingAtPlace table p) a))
+      kept-length (isDone (stepAnswer g table p a)) table _ (length-marked table p (nextMarking g (markingAtPlace table p) a))
   served-length table (Close p) = kept-length (isDone (closeAnswer g table p)) table _ (length-placed table p 0 emptyMarking)
 
   -- ---- a history

@@ -12,24 +12,23 @@ use Rattle.sets.specs.Tests.{_and_, non, when_then_else_}
 use Rattle.sets.specs.Members.{everyBelow, leastBelow}
 use Rattle.sets.specs.Answers.{numberOf, isDone, thenAsk}
 use Rattle.sets.specs.declared.answer.Answer.{Answer}
-use Rattle.sets.specs.declared.answer.Answer.the-variants.{Done, AboveLimit, Outside, BufferTooSmall, NoPlaceFree, NotOpen}
+use Rattle.sets.specs.declared.answer.Answer.the-variants.{Done, BufferTooSmall, NoPlaceFree, NotOpen}
 use Rattle.sets.proofs.Tests.{T→true, true→T, F→false, false→F, non-e, non-false, split, either, and-false}
 use Rattle.sets.proofs.Below.{every-i, every-e, least-is, least-before}
 use Rattle.sets.proofs.Asking.{done-is, ask-on, ask-stop}
 use Rattle.engine.specs.Markings.{emptyMarking}
-use Rattle.engine.specs.Relations.{relationsOf}
-use Rattle.engine.specs.Steps.{after}
-use Rattle.engine.specs.Judged.{graphWithin, judgedFor, judged}
-use Rattle.engine.specs.Replay.{enabledOf}
+use Rattle.engine.specs.Judged.{judgedFor, judged}
+use Rattle.engine.proofs.Judging.{found-one}
+use Rattle.engine.specs.Replay.{enabledOf, nextMarking}
 use Rattle.engine.specs.declared.marking.Marking.{Marking}
 use Rattle.engine.specs.declared.graph.Graph.{Graph}
 use Rattle.graphfile.proofs.LoneMarkings.{WholeMarking}
 use Rattle.desk.specs.Places.{placeCount, placeStart, tableLength, isOpen, markingAtPlace, SameAt, withMarking, withPlace, lowestFree}
 use Rattle.desk.specs.Desk.{onTable, opening, openAnswer, noPlace, openedOf, tableOpened, stepAnswer, tableStepped, closing, closeAnswer, tableClosed}
 use Rattle.desk.specs.Histories.{Fresh}
-use Rattle.desk.proofs.Placing.{open-below, open-kept, marking-kept, length-marked, length-placed, placed-open, placed-marking, else-open, else-marking}
+use Rattle.desk.proofs.Placing.{open-below, open-kept, marking-kept, marking-same, length-marked, length-placed, placed-open, placed-marking, else-open, else-marking}
 use Rattle.desk.proofs.Serving.{open-done, step-done, close-done}
-use Rattle.desk.proofs.Isolation.{whole-empty, opening-ext, lowest-ext}
+use Rattle.desk.proofs.Isolation.{whole-empty, whole-next, opening-ext, lowest-ext}
 
 -- ---- a table of zeros is fresh
 
@@ -80,7 +79,7 @@ module _ (g : Graph) where
     pub stepped-elsewhere : (q a : ℕ) → q ≢ p → SameAt p table (tableStepped g table q a)
     unfolding tableStepped
     stepped-elsewhere q a n =
-        let new = after (relationsOf g) (markingAtPlace table q) a in
+        let new = nextMarking g (markingAtPlace table q) a in
         same-or (isDone (stepAnswer g table q a)) (withMarking table q new)
         (record { long = length-marked table q new; opens = open-kept table q p new; marking = marking-kept table q p new n })
 
@@ -130,6 +129,17 @@ module _ (g : Graph) where
         ap (λ (t : Bool). markingAtPlace (when t then withPlace table lowest 1 (g .head .opening) else table) lowest) (ap isDone d)
         ∙ (let there = open-done table g d in placed-marking table lowest 1 (g .head .opening) (there .0) (there .1) whole)
 
+    -- ---- step: the place holds the marking after it
+
+    pub stepped-marking : (p a : ℕ) → stepAnswer g table p a ≡ Done
+        → markingAtPlace (tableStepped g table p a) p ≡ nextMarking g (markingAtPlace table p) a
+    unfolding tableStepped
+    stepped-marking p a d =
+        let there = step-done table g p a d in
+        ap (λ (t : Bool). markingAtPlace (when t then withMarking table p (nextMarking g (markingAtPlace table p) a) else table) p) (ap isDone d)
+        ∙ marking-same table (there .0) p (open-below table p (there .1)) (nextMarking g (markingAtPlace table p) a)
+        (whole-next g (markingAtPlace table p) a)
+
     -- ---- close: the place is free, and holds the empty marking
 
     module _ (p : ℕ) (d : closeAnswer g table p ≡ Done) where
@@ -157,13 +167,8 @@ module _ (g : Graph) where
 
     judged-not : numberOf (judged g) ≡ 13 → T false
     unfolding judgedFor
-    judged-not = by (ltb 64 (g .head .activities)) (non (graphWithin g))
-      where
-        by : (a b : Bool)
-            → numberOf (when a then AboveLimit else when ltb 512 0 then AboveLimit else when b then Outside else Done) ≡ 13 → T false
-        by true b h = true→T (ap (λ (n : ℕ). eqb n 13) h)
-        by false true h = true→T (ap (λ (n : ℕ). eqb n 13) h)
-        by false false h = true→T (ap (λ (n : ℕ). eqb n 13) h)
+    judged-not = let no : (n : ℕ) → eqb n 13 ≡ false → n ≡ 13 → T false = λ n f h. false→F f (true→T (ap (λ (k : ℕ). eqb k 13) h)) in
+        found-one _ _ _ (λ x. numberOf x ≡ 13 → T false) (no 3 refl) (no 5 refl) (no 16 refl) (no 0 refl)
 
     abbrev Full : Type 0
     Full = (p : ℕ) → p < placeCount → isOpen table p ≡ true

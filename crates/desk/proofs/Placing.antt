@@ -17,8 +17,8 @@ use Rattle.sets.proofs.Ways.{above, not-above, stops-l, goes, failed, held, pas
 use Rattle.sets.proofs.Below.{least-only, least-le, some-least, non-some, every-ext}
 use Rattle.engine.specs.declared.marking.Marking.{Marking}
 use Rattle.graphfile.specs.Layout.{markingAt}
-use Rattle.graphfile.specs.Writing.{markingBytes}
-use Rattle.graphfile.specs.Markings.{markingLength, markingHeld, markingPut}
+use Rattle.graphfile.specs.Writing.{stateBytes}
+use Rattle.graphfile.specs.Markings.{markingLength, markingBytes, markingHeld, markingPut}
 use Rattle.graphfile.proofs.LoneMarkings.{held-there, put-there, Apart, getD-apart, marking-apart, marking-back, WholeMarking}
 use Rattle.desk.specs.Places.{placeCount, placeLength, tableLength, placeStart, isOpen, markingAtPlace, withMarking, withPlace, lowestFree}
 
@@ -100,7 +100,7 @@ apart p q n =
 module _ (table : List ℕ) (p q : ℕ) where
   module _ (m : Marking) where
     pub open-kept : isOpen (withMarking table p m) q ≡ isOpen table q
-    unfolding isOpen withMarking markingBytes littleEndian
+    unfolding isOpen withMarking markingBytes stateBytes littleEndian
     open-kept =
         ap (λ (x : ℕ). ltb q placeCount and non (eqb x 0))
         (getD-apart table (placeStart q) (placeStart p + 1) (markingBytes m)
@@ -109,7 +109,7 @@ module _ (table : List ℕ) (p q : ℕ) where
         (λ h. let k = ltb-false p q (F→false _ h) in inl (omega arith))))
 
     pub marking-kept : p ≢ q → markingAtPlace (withMarking table p m) q ≡ markingAtPlace table q
-    unfolding markingAtPlace withMarking markingBytes littleEndian
+    unfolding markingAtPlace withMarking markingBytes stateBytes littleEndian
     marking-kept n =
         marking-apart table (placeStart q + 1) (placeStart p + 1) (markingBytes m)
         (either (apart p q n) (λ l. inr (omega arith)) (λ l. inl (omega arith)))

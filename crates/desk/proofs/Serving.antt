@@ -14,10 +14,12 @@ use Rattle.sets.specs.declared.answer.Answer.the-variants.{Done, BufferTooSmall
 use Rattle.sets.proofs.Tests.{true→T, non-e}
 use Rattle.sets.proofs.Asking.{done-is, both}
 use Rattle.sets.proofs.Ways.{failed, held, taken, passed-by, not-above}
-use Rattle.engine.specs.Relations.{Relations}
+use Rattle.engine.specs.Relations.{relationsOf}
+use Rattle.engine.specs.Enabled.{marked}
 use Rattle.engine.specs.Steps.{after}
 use Rattle.engine.specs.Judged.{judged}
-use Rattle.engine.specs.Replay.{enabledOf}
+use Rattle.engine.specs.Replay.{enabledOf, nextMarking}
+use Rattle.engine.specs.declared.marking.State.{State}
 use Rattle.engine.specs.declared.marking.Marking.{Marking}
 use Rattle.engine.specs.declared.graph.Graph.{Graph}
 use Rattle.desk.specs.declared.requests.Opened.{Opened}
@@ -69,10 +71,13 @@ module _ (x a : Answer) (d : Bool) (h : a ≡ x) (k : d ≡ isDone a) where
 pub opened-to : (table table′ : List ℕ) (p n b : ℕ) (m : Marking) → p ≡ n → table′ ≡ withPlace table p b m → table′ ≡ withPlace table n b m
 opened-to table table′ p n b m same e = e ∙ ap (λ (k : ℕ). withPlace table k b m) same
 
-pub stepped-to : (r : Relations) (table table′ : List ℕ) (p e : ℕ) (m n : Marking) → m ≡ markingAtPlace table p → n ≡ after r m e
-    → table′ ≡ withMarking table p n → table′ ≡ withMarking table p (after r (markingAtPlace table p) e)
-stepped-to r table table′ p e m n hm hn ht =
-    ht ∙ ap (withMarking table p) (hn ∙ ap (λ (k : Marking). after r k e) hm)
+pub stepped-to : (g : Graph) (table table′ : List ℕ) (p e : ℕ) (m n : Marking) (s : State) → m ≡ markingAtPlace table p
+    → s ≡ after (relationsOf g) (m .state) e → n ≡ marked (g .head .events) (relationsOf g) s
+    → table′ ≡ withMarking table p n → table′ ≡ withMarking table p (nextMarking g (markingAtPlace table p) e)
+stepped-to g table table′ p e m n s hm hs hn ht =
+    ht
+    ∙ ap (withMarking table p)
+    (hn ∙ ap (marked (g .head .events) (relationsOf g)) hs ∙ ap (λ (k : Marking). nextMarking g k e) hm)
 
 -- ---- where a request is done, the table is one and the place is there
 
@@ -103,6 +108,11 @@ module _ (table : List ℕ) where
             → (when everyBelow placeCount (isOpen table) then NoPlaceFree else Done) ≡ Done → lowestFree (isOpen table) < placeCount
         by true e all h = ltb-true (lowestFree (isOpen table)) placeCount e
         by false e all h = absurd (true→T (ap isDone (ap (λ (t : Bool). when t then NoPlaceFree else Done) (sym (all ∙ ap non e)) ∙ h)))
+
+    -- and the graph was accepted
+    pub open-accepted : openAnswer g table ≡ Done → judged g ≡ Done
+    unfolding openAnswer opening
+    open-accepted h = both (judged g) _ (on-table (opening g (isOpen table)) h .1) .0
 
     pub step-done : (p a : ℕ) → stepAnswer g table p a ≡ Done → (tableLength ≤ length table) × (T (isOpen table p))
     unfolding stepAnswer

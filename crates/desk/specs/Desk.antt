@@ -10,22 +10,21 @@ use Rattle.sets.specs.Answers.{isDone, thenAsk}
 use Rattle.sets.specs.declared.answer.Answer.{Answer}
 use Rattle.sets.specs.declared.answer.Answer.the-variants.{Done, BufferTooSmall, NoPlaceFree, NotOpen, NotAccepting}
 use Rattle.engine.specs.Markings.{emptyMarking}
-use Rattle.engine.specs.Relations.{relationsOf}
-use Rattle.engine.specs.Steps.{after, accepting}
+use Rattle.engine.specs.Steps.{accepting}
 use Rattle.engine.specs.Judged.{judged, judgedWith}
-use Rattle.engine.specs.Replay.{enabledOf}
+use Rattle.engine.specs.Replay.{enabledOf, nextMarking}
 use Rattle.engine.specs.declared.marking.Marking.{Marking}
 use Rattle.engine.specs.declared.graph.Graph.{Graph}
 use Rattle.desk.specs.declared.requests.Opened.{Opened}
 use Rattle.desk.specs.Places.{placeCount, tableLength, isOpen, markingAtPlace, withMarking, withPlace, lowestFree}
 
--- a table of fewer than 800 bytes is none: 7, before everything else
+-- a table of too few bytes is none: 7, before everything else
 abbrev pub onTable : List ℕ → Answer → Answer
 onTable table answer = when ltb (length table) tableLength then BufferTooSmall else answer
 
 -- ---- open
 
--- 3 and 5 for the graph, then 13 where all 32 places are taken, by a test of those that are
+-- 3, 5 and 16 for the graph, then 13 where all 32 places are taken, by a test of those that are
 unfoldable pub opening : Graph → (ℕ → Bool) → Answer
 opening g taken = thenAsk (judged g) (when everyBelow placeCount taken then NoPlaceFree else Done)
 
@@ -49,7 +48,7 @@ unfoldable pub tableOpened : Graph → List ℕ → List ℕ
 tableOpened g table =
     when isDone (openAnswer g table) then withPlace table (lowestFree (isOpen table)) 1 (g .head .opening) else table
 
--- ---- step: 14, then as the engine's enabled has it at the place's own marking: 3, 5, 8, 9, and 10 with the blocker
+-- ---- step: 14, then as the engine's enabled has it at the place's own marking: 3, 5, 16, 8, 9, and 10 with the blocker
 
 unfoldable pub stepAnswer : Graph → List ℕ → ℕ → ℕ → Answer
 stepAnswer g table p a = onTable table (when non (isOpen table p) then NotOpen else enabledOf g (markingAtPlace table p) a)
@@ -57,12 +56,12 @@ stepAnswer g table p a = onTable table (when non (isOpen table p) then NotOpen e
 -- the place has the marking after the step
 unfoldable pub tableStepped : Graph → List ℕ → ℕ → ℕ → List ℕ
 tableStepped g table p a =
-    when isDone (stepAnswer g table p a) then withMarking table p (after (relationsOf g) (markingAtPlace table p) a) else table
+    when isDone (stepAnswer g table p a) then withMarking table p (nextMarking g (markingAtPlace table p) a) else table
 
--- ---- close: 14, then at the place's own marking 3, 5, and 15 where it is not accepting
+-- ---- close: 14, then at the place's own marking 3, 5, 16, and 15 where it is not accepting
 
 unfoldable pub closing : Graph → Marking → Answer
-closing g m = thenAsk (judgedWith g m) (when non (accepting m) then NotAccepting else Done)
+closing g m = thenAsk (judgedWith g m) (when non (accepting (m .state)) then NotAccepting else Done)
 
 unfoldable pub closeAnswer : Graph → List ℕ → ℕ → Answer
 closeAnswer g table p = onTable table (when non (isOpen table p) then NotOpen else closing g (markingAtPlace table p))

@@ -10,9 +10,7 @@ use Rattle.sets.specs.Tests.{_and_, when_then_else_}
 use Rattle.sets.specs.Answers.{isDone}
 use Rattle.sets.specs.declared.answer.Answer.{Answer}
 use Rattle.sets.specs.declared.answer.Answer.the-variants.{NotOpen}
-use Rattle.engine.specs.Relations.{relationsOf}
-use Rattle.engine.specs.Steps.{after}
-use Rattle.engine.specs.Replay.{enabledOf}
+use Rattle.engine.specs.Replay.{enabledOf, nextMarking}
 use Rattle.engine.specs.declared.marking.Marking.{Marking}
 use Rattle.engine.specs.declared.graph.Graph.{Graph}
 use Rattle.desk.specs.Places.{tableLength, isOpen, lowestFree}
@@ -51,7 +49,7 @@ isTaken (since past) = true
 -- the marking after these steps, from the opening state
 unfoldable pub markingAfter : Graph → List ℕ → Marking
 markingAfter g [] = g .head .opening
-markingAfter g (a ∷ past) = after (relationsOf g) (markingAfter g past) a
+markingAfter g (a ∷ past) = nextMarking g (markingAfter g past) a
 
 -- what step and close answer, by the graph and the call alone
 unfoldable pub stepBy : Graph → Call → ℕ → Answer

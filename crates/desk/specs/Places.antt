@@ -10,8 +10,7 @@ use Rattle.sets.specs.Tests.{_and_, non}
 use Rattle.sets.specs.Members.{leastBelow}
 use Rattle.engine.specs.declared.marking.Marking.{Marking}
 use Rattle.graphfile.specs.Layout.{markingAt}
-use Rattle.graphfile.specs.Writing.{markingBytes}
-use Rattle.graphfile.specs.Markings.{markingLength}
+use Rattle.graphfile.specs.Markings.{markingLength, markingBytes}
 
 abbrev pub placeCount : ℕ
 placeCount = 32

@@ -6,6 +6,7 @@ use crate::table;
 use engine::Head;
 use engine::Marking;
 use engine::Relations;
+use engine::enabled;
 use engine::judge;
 use engine::step as rules;
 use sets::Activity;
@@ -20,7 +21,7 @@ pub struct Opened {
     pub place: usize,
 }
 
-// 7 where the bytes are too few for a table, 3 and 5 for the graph, then 13.
+// 7 where the bytes are too few for a table, 3, 5 and 16 for the graph, then 13.
 fn judge_open<'a>(head: Head, relations: &'a Relations, table: &'a [u8]) -> Answer
     ensures { λ r. ⌜ r ≡ openAnswer (graphOf head (now (relations .entry))) (now (table .entry)) ⌝ }
 {
@@ -54,7 +55,7 @@ pub fn open(head: Head, relations: &Relations, table: &mut [u8]) -> Opened
     Opened { answer, place }
 }
 
-// 7 and 14, then 3, 5, 8, 9, 10 at the place's own marking.
+// 7 and 14, then 3, 5, 16, 8, 9, 10 at the place's own marking.
 fn judge_step<'a>(
     head: Head,
     relations: &'a Relations,
@@ -90,12 +91,12 @@ pub fn step(
         return answer;
     }
     let m = table::marking_at(table, place);
-    let after = rules::next(relations, m, a);
-    table::put_marking(table, place, after);
+    let after = rules::next(relations, m.state, a);
+    table::put_marking(table, place, enabled::marked(head.events, relations, after));
     answer
 }
 
-// 3 and 5 for the graph and the marking of a call, then 15.
+// 3, 5 and 16 for the graph and the marking of a call, then 15.
 fn ask_closing(head: Head, relations: &Relations, m: Marking) -> Answer
     ensures { λ r. ⌜ r ≡ closing (graphOf head (now (relations .entry))) m ⌝ }
 {
@@ -103,13 +104,13 @@ fn ask_closing(head: Head, relations: &Relations, m: Marking) -> Answer
     if !answer.is_done() {
         return answer;
     }
-    if !rules::is_accepting(m) {
+    if !rules::is_accepting(m.state) {
         return Answer::NotAccepting;
     }
     Answer::Done
 }
 
-// 7 and 14, then 3, 5, 15 at the place's own marking.
+// 7 and 14, then 3, 5, 16, 15 at the place's own marking.
 fn judge_close<'a>(head: Head, relations: &'a Relations, table: &'a [u8], place: usize) -> Answer
     ensures { λ r. ⌜ r ≡ closeAnswer (graphOf head (now (relations .entry))) (now (table .entry)) place ⌝ }
 {

@@ -13,14 +13,15 @@ use Rattle.sets.specs.Tables.{noTables, tableAt, withRowIn}
 use Rattle.sets.specs.declared.set.Set.{Set}
 use Rattle.sets.specs.declared.answer.Answer.{Answer}
 use Rattle.sets.specs.declared.answer.Answer.the-variants.{Done, NotIncluded, Waiting}
-use Rattle.engine.specs.declared.marking.Marking.{Marking}
+use Rattle.engine.specs.declared.marking.State.{State}
 use Rattle.engine.specs.declared.graph.Graph.{Graph}
-use Rattle.engine.specs.Markings.{markingOf}
-use Rattle.engine.specs.Relations.{relationCount, headOf, graphOf}
+use Rattle.engine.specs.Markings.{stateOf}
+use Rattle.engine.specs.Relations.{relationCount, relationsOf}
 use Rattle.engine.specs.Steps.{waits, blocker, enabled, after, accepting}
-use Rattle.engine.specs.Judged.{markingWithin, rowWithin, rowsWithin, relationsWithin, graphWithin, judgedFor, judged}
+use Rattle.engine.specs.Judged.{stateWithin, rowWithin, rowsWithin, relationsWithin, graphWithin, judgedFor, judged}
 use Rattle.engine.specs.Replay.{steppedOf, ending, replayFrom, replayOf}
-use Rattle.engine.proofs.Acceptable.{judged-within, stepped-judged, replay-judged, opening-inside}
+use Rattle.engine.specs.Enabled.{marked, graphAt}
+use Rattle.engine.proofs.Acceptable.{judged-at, opening-kept, stepped-judged, replay-judged}
 
 -- a set that is printed as a row of digits, read from the left: digit a is 1 where a is a member
 abbrev pub printed : List ℕ → Set
@@ -28,17 +29,17 @@ printed ds = those (λ a. eqb (getD ds a 0) 1)
 
 -- ---- Table 3
 
-abbrev pub table3-before : Marking
+abbrev pub table3-before : State
 table3-before =
-    markingOf
+    stateOf
     (printed (1 ∷ 0 ∷ 0 ∷ 0 ∷ 0 ∷ 0 ∷ 0 ∷ 0 ∷ []))
     (printed (0 ∷ 1 ∷ 0 ∷ 0 ∷ 1 ∷ 0 ∷ 0 ∷ 0 ∷ []))
     (printed (0 ∷ 1 ∷ 0 ∷ 0 ∷ 1 ∷ 0 ∷ 0 ∷ 1 ∷ []))
 
 -- the table prints 01101001 for included at the end, against its own operations: event 4 has excluded 7
-abbrev pub table3-after : Marking
+abbrev pub table3-after : State
 table3-after =
-    markingOf
+    stateOf
     (printed (1 ∷ 0 ∷ 0 ∷ 0 ∷ 1 ∷ 0 ∷ 0 ∷ 0 ∷ []))
     (printed (0 ∷ 1 ∷ 1 ∷ 0 ∷ 0 ∷ 0 ∷ 0 ∷ 0 ∷ []))
     (printed (0 ∷ 1 ∷ 1 ∷ 0 ∷ 1 ∷ 0 ∷ 0 ∷ 0 ∷ []))
@@ -46,7 +47,8 @@ table3-after =
 -- event 4 has response 2, include 2 and exclude 7
 abbrev pub table3 : Graph
 table3 =
-    graphOf (headOf 8 (printed (1 ∷ 1 ∷ 1 ∷ 1 ∷ 1 ∷ 1 ∷ 1 ∷ 1 ∷ [])) table3-before)
+    let all = printed (1 ∷ 1 ∷ 1 ∷ 1 ∷ 1 ∷ 1 ∷ 1 ∷ 1 ∷ []) in
+    graphAt 8 all table3-before
     (withRowIn
     (withRowIn
     (withRowIn (noTables relationCount) 1 4 (printed (0 ∷ 0 ∷ 1 ∷ 0 ∷ 0 ∷ 0 ∷ 0 ∷ 0 ∷ [])))
@@ -64,7 +66,7 @@ conditions = withRowIn (withRowIn (noTables relationCount) 0 0 (abcd 0 1 0 0)) 0
 -- a is pending, b is not included; conditions and responses between a and b both ways, c includes b, d excludes b and d
 abbrev pub paper : Graph
 paper =
-    graphOf (headOf 4 (abcd 1 1 1 1) (markingOf (abcd 0 0 0 0) (abcd 1 0 0 0) (abcd 1 0 1 1)))
+    graphAt 4 (abcd 1 1 1 1) (stateOf (abcd 0 0 0 0) (abcd 1 0 0 0) (abcd 1 0 1 1))
     (withRowIn
     (withRowIn
     (withRowIn (withRowIn conditions 1 0 (abcd 0 1 0 0)) 1 1 (abcd 1 0 0 0))
@@ -72,31 +74,32 @@ paper =
     3 3 (abcd 0 1 0 1))
 
 -- after c, d, c: a and b wait for each other, and d is not included
-abbrev pub locked : Marking
-locked = markingOf (abcd 0 0 1 1) (abcd 1 0 0 0) (abcd 1 1 1 0)
+abbrev pub locked : State
+locked = stateOf (abcd 0 0 1 1) (abcd 1 0 0 0) (abcd 1 1 1 0)
 
 pub table-judged : judged table3 ≡ Done
-unfolding judgedFor graphWithin relationsWithin rowsWithin rowWithin markingWithin within isEmpty everyBelow
+unfolding graphWithin relationsWithin rowsWithin rowWithin stateWithin within isEmpty everyBelow
     bitsOf bit mem those _and_ _or_ non rowAt tableAt withRowIn
-table-judged = refl
+table-judged = judged-at 8 (table3 .head .events) table3-before (table3 .relations) refl refl
 
 paper-judged : judged paper ≡ Done
-unfolding judgedFor graphWithin relationsWithin rowsWithin rowWithin markingWithin within isEmpty everyBelow
+unfolding graphWithin relationsWithin rowsWithin rowWithin stateWithin within isEmpty everyBelow
     bitsOf bit mem those _and_ _or_ non rowAt tableAt withRowIn
-paper-judged = refl
+paper-judged = judged-at 4 (paper .head .events) (paper .head .opening .state) (paper .relations) refl refl
 
 -- 10, blocked by b
 abbrev pub waitingFor : ℕ → Answer
 waitingFor b = Waiting (record { 0 = b })
 
-abbrev pub run : List ℕ → Answer → ℕ → Marking → Bool → Type 0
-run trace a i m accepts = replayOf paper trace ≡ ending a i m accepts
+abbrev pub run : List ℕ → Answer → ℕ → State → Bool → Type 0
+run trace a i s accepts = replayOf paper trace ≡ ending a i (marked (paper .head .events) (relationsOf paper) s) accepts
 
 pub examples :
-    (steppedOf table3 table3-before 4 ≡ record { answer = Done; marking = table3-after })
-    × run [] Done 0 (paper .head .opening) false
-    × run (0 ∷ []) Done 1 (markingOf (abcd 1 0 0 0) (abcd 0 1 0 0) (abcd 1 0 1 1)) true
-    × run (0 ∷ 2 ∷ 1 ∷ 3 ∷ 0 ∷ []) Done 5 (markingOf (abcd 1 1 1 1) (abcd 0 1 0 0) (abcd 1 0 1 0)) true
+    (steppedOf table3 (table3 .head .opening) 4
+    ≡ record { answer = Done; marking = marked (table3 .head .events) (relationsOf table3) table3-after })
+    × run [] Done 0 (paper .head .opening .state) false
+    × run (0 ∷ []) Done 1 (stateOf (abcd 1 0 0 0) (abcd 0 1 0 0) (abcd 1 0 1 1)) true
+    × run (0 ∷ 2 ∷ 1 ∷ 3 ∷ 0 ∷ []) Done 5 (stateOf (abcd 1 1 1 1) (abcd 0 1 0 0) (abcd 1 0 1 0)) true
     × run (2 ∷ 3 ∷ 2 ∷ []) Done 3 locked false
     × run (2 ∷ 3 ∷ 2 ∷ 0 ∷ []) (waitingFor 1) 3 locked false
     × run (2 ∷ 3 ∷ 2 ∷ 1 ∷ []) (waitingFor 0) 3 locked false
@@ -104,7 +107,7 @@ pub examples :
 unfolding replayFrom enabled waits blocker after accepting someBelow leastBelow bitsOf bit mem those _and_ _or_ non rowAt tableAt withRowIn inRow
 examples =
     let on = paper-judged in (
-      stepped-judged table3 table-judged table3-before (opening-inside table3 (judged-within table3 0 table-judged)) 4,
+      stepped-judged table3 table-judged (table3 .head .opening) (opening-kept table3 table-judged) 4,
       replay-judged paper on _ (lit≤ tt),
       replay-judged paper on _ (lit≤ tt),
       replay-judged paper on _ (lit≤ tt),

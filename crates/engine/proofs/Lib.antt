@@ -2,5 +2,6 @@
 pub mod Judging
 pub mod Stepping
 pub mod Running
+pub mod Enabling
 pub mod Acceptable
 pub mod Examples

@@ -1,5 +1,5 @@
 -- The answers of the public functions, and a replay one event further. Assumes nothing.
-use mathlib.Core.Path.{_≡_, refl, sym, ap, _∙_}
+use mathlib.Core.Path.{_≡_, refl, sym, ap, ap₂, _∙_}
 use mathlib.Core.Bool.{Bool, true, false, not}
 use mathlib.Core.List.{List}
 use Prim.Native.Nat.{ℕ, suc, _+_, _≤_, _<_}
@@ -11,6 +11,7 @@ use Rattle.sets.specs.Answers.{isDone}
 use Rattle.sets.specs.declared.set.Set.{Set}
 use Rattle.sets.specs.declared.answer.Answer.{Answer}
 use Rattle.sets.specs.declared.answer.Answer.the-variants.{Done}
+use Rattle.engine.specs.declared.marking.State.{State}
 use Rattle.engine.specs.declared.marking.Marking.{Marking}
 use Rattle.engine.specs.declared.step.Stepped.{Stepped}
 use Rattle.engine.specs.declared.step.Verdict.{Verdict}
@@ -18,6 +19,7 @@ use Rattle.engine.specs.declared.replay.Replayed.{Replayed}
 use Rattle.engine.specs.Markings.{emptyMarking}
 use Rattle.engine.specs.Relations.{Relations}
 use Rattle.engine.specs.Steps.{enabled, after, accepting}
+use Rattle.engine.specs.Enabled.{marked}
 use Rattle.engine.specs.Replay.{ending, replayFrom}
 use Rattle.sets.proofs.Ways.{failed, held, taken, passed-by, stops-l, goes}
 
@@ -34,9 +36,10 @@ module _ (x a : Answer) (r : Bool) (h : a ≡ x) (k : r ≡ isDone a) where
       → _≡_ {A = Stepped} (record { answer = a; marking = m }) (record { answer = x; marking = when isDone x then m′ else m })
   step-refused m m′ t j = record { answer = h j; marking = passed-by (isDone x) m′ m m (undone x a r h k t) refl j }
 
-  pub step-done : (m m′ n : Marking) → not r ≡ false → n ≡ m′
-      → _≡_ {A = Stepped} (record { answer = a; marking = n }) (record { answer = x; marking = when isDone x then m′ else m })
-  step-done m m′ n t e j = record { answer = h j; marking = taken (isDone x) m′ m n (done x a r h k t) e j }
+  pub step-done : (m n : Marking) (events : Set) (q : Relations) (s s′ : State) → not r ≡ false → s′ ≡ s → n ≡ marked events q s′
+      → _≡_ {A = Stepped} (record { answer = a; marking = n }) (record { answer = x; marking = when isDone x then marked events q s else m })
+  step-done m n events q s s′ t hs e j =
+      record { answer = h j; marking = taken (isDone x) (marked events q s) m n (done x a r h k t) (e ∙ ap (marked events q) hs) j }
 
   pub verdict-refused : (y : Bool) → not r ≡ true
       → _≡_ {A = Verdict} (record { answer = a; accepting = false }) (record { answer = x; accepting = isDone x and y })
@@ -55,31 +58,33 @@ module _ (x a : Answer) (r : Bool) (h : a ≡ x) (k : r ≡ isDone a) where
 
 -- ---- the replay
 
-module _ (events : Set) (q : Relations) (m : Marking) (n : ℕ) (trace : List ℕ) (R : Replayed) where
+module _ (events : Set) (q : Relations) (s : State) (n : ℕ) (trace : List ℕ) (R : Replayed) where
   -- the next event's part of the replay
-  opened : n < length trace → replayFrom events q m n (drop n trace) ≡ R
-      → (when isDone (enabled events q m (getD trace n 0)) then replayFrom events q (after q m (getD trace n 0)) (n + 1)
+  opened : n < length trace → replayFrom events q s n (drop n trace) ≡ R
+      → (when isDone (enabled events q s (getD trace n 0)) then replayFrom events q (after q s (getD trace n 0)) (n + 1)
       (drop (suc n) trace)
-      else ending (enabled events q m (getD trace n 0)) n m false)
+      else ending (enabled events q s (getD trace n 0)) n (marked events q s) false)
       ≡ R
   unfolding replayFrom
-  opened l inv = ap (replayFrom events q m n) (sym (drop-cons trace n 0 l)) ∙ inv
+  opened l inv = ap (replayFrom events q s n) (sym (drop-cons trace n 0 l)) ∙ inv
 
-  module _ (a : Answer) (t : Bool) (l : n < length trace) (ha : a ≡ enabled events q m (getD trace n 0)) (ht : t ≡ isDone a) where
-    pub run-next : (m′ : Marking) → not t ≡ false → m′ ≡ after q m (getD trace n 0) → replayFrom events q m n (drop n trace) ≡ R
-        → replayFrom events q m′ (n + 1) (drop (n + 1) trace) ≡ R
-    run-next m′ z hm inv =
-        ap (λ (k : ℕ). replayFrom events q m′ (n + 1) (drop k trace)) (add-one n)
-        ∙ ap (λ (k : Marking). replayFrom events q k (n + 1) (drop (suc n) trace)) hm
-        ∙ taken (isDone (enabled events q m (getD trace n 0))) _ _ _ (done _ a t ha ht z) refl
+  module _ (a : Answer) (t : Bool) (l : n < length trace) (ha : a ≡ enabled events q s (getD trace n 0)) (ht : t ≡ isDone a) where
+    pub run-next : (s′ : State) → not t ≡ false → s′ ≡ after q s (getD trace n 0) → replayFrom events q s n (drop n trace) ≡ R
+        → replayFrom events q s′ (n + 1) (drop (n + 1) trace) ≡ R
+    run-next s′ z hs inv =
+        ap (λ (k : ℕ). replayFrom events q s′ (n + 1) (drop k trace)) (add-one n)
+        ∙ ap (λ (k : State). replayFrom events q k (n + 1) (drop (suc n) trace)) hs
+        ∙ taken (isDone (enabled events q s (getD trace n 0))) _ _ _ (done _ a t ha ht z) refl
         ∙ opened l inv
 
-    pub run-stop : not t ≡ true → replayFrom events q m n (drop n trace) ≡ R → ending a n m false ≡ R
-    run-stop z inv =
-        ap (λ (b : Answer). ending b n m false) ha
-        ∙ passed-by (isDone (enabled events q m (getD trace n 0))) _ _ _ (undone _ a t ha ht z) refl
+    pub run-stop : (m : Marking) → m ≡ marked events q s → not t ≡ true → replayFrom events q s n (drop n trace) ≡ R → ending a n m false ≡ R
+    run-stop m hm z inv =
+        ap₂ (λ (b : Answer) (k : Marking). ending b n k false) ha hm
+        ∙ passed-by (isDone (enabled events q s (getD trace n 0))) _ _ _ (undone _ a t ha ht z) refl
         ∙ opened l inv
 
-  pub run-end : (s : Bool) → length trace ≤ n → s ≡ accepting m → replayFrom events q m n (drop n trace) ≡ R → ending Done n m s ≡ R
+  pub run-end : (m : Marking) (y : Bool) → length trace ≤ n → m ≡ marked events q s → y ≡ accepting s
+      → replayFrom events q s n (drop n trace) ≡ R → ending Done n m y ≡ R
   unfolding replayFrom
-  run-end s l h inv = ap (ending Done n m) h ∙ ap (replayFrom events q m n) (sym (drop-of-length-le trace l)) ∙ inv
+  run-end m y l hm h inv =
+      ap₂ (λ (k : Marking) (b : Bool). ending Done n k b) hm h ∙ ap (replayFrom events q s n) (sym (drop-of-length-le trace l)) ∙ inv

@@ -13,8 +13,8 @@ use Rattle.sets.specs.declared.set.Set.{Set}
 use Rattle.sets.specs.declared.answer.Answer.the-variants.{Waiting}
 use Rattle.sets.proofs.Tests.{not-non, non-non}
 use Rattle.sets.proofs.Members.{those-of, some-of, least-of, empty-none}
-use Rattle.engine.specs.declared.marking.Marking.{Marking}
-use Rattle.engine.specs.Markings.{markingOf}
+use Rattle.engine.specs.declared.marking.State.{State}
+use Rattle.engine.specs.Markings.{stateOf}
 use Rattle.engine.specs.Relations.{inTables}
 use Rattle.engine.specs.Steps.{blocking, waits, blocker, after, accepting}
 
@@ -26,12 +26,12 @@ pub changed-by : (s lost gained u v : Set) → u ≡ those (λ a. mem s a and no
     → v ≡ those (λ a. mem s a and non (mem lost a) or mem gained a)
 changed-by s lost gained u v h k = k ∙ those-of u (λ a. mem s a and non (mem lost a)) (λ a t. t or mem gained a) h
 
-pub accepting-by : (m : Marking) (u : Set) (r : Bool) → u ≡ those (λ a. mem (m .pending) a and mem (m .included) a) → r ≡ isEmpty u
+pub accepting-by : (m : State) (u : Set) (r : Bool) → u ≡ those (λ a. mem (m .pending) a and mem (m .included) a) → r ≡ isEmpty u
     → r ≡ accepting m
 unfolding accepting
 accepting-by m u r h k = k ∙ none-pass u (λ a. mem (m .pending) a and mem (m .included) a) h
 
-module _ (tables : List ℕ) (m : Marking) (e : ℕ) where
+module _ (tables : List ℕ) (m : State) (e : ℕ) where
   pub blocking-by : (sources live left : Set) → sources ≡ rowAt (tableAt tables 0) e
       → live ≡ those (λ s. mem sources s and mem (m .included) s) → left ≡ those (λ s. mem live s and non (mem (m .executed) s))
       → left ≡ those (blocking (inTables tables) m e)
@@ -56,16 +56,16 @@ module _ (tables : List ℕ) (m : Marking) (e : ℕ) where
   unfolding blocker
   blocker-by left b h k = let same = k ∙ least-of left (blocking (inTables tables) m e) h in λ i. Waiting (record { 0 = same i })
 
-  pub next-by : (one ex r p x i n : Set) (m′ : Marking) → one ≡ those (λ b. eqb b e) → ex ≡ those (λ a. mem (m .executed) a or mem one a)
+  pub next-by : (one ex r p x i n : Set) (m′ : State) → one ≡ those (λ b. eqb b e) → ex ≡ those (λ a. mem (m .executed) a or mem one a)
       → r ≡ rowAt (tableAt tables 1) e → p ≡ those (λ a. mem (m .pending) a and non (mem one a) or mem r a)
       → x ≡ rowAt (tableAt tables 3) e → i ≡ rowAt (tableAt tables 2) e
       → n ≡ those (λ a. mem (m .included) a and non (mem x a) or mem i a)
-      → m′ ≡ markingOf ex p n → m′ ≡ after (inTables tables) m e
+      → m′ ≡ stateOf ex p n → m′ ≡ after (inTables tables) m e
   unfolding after inRow
   next-by one ex r p x i n m′ ho hex hr hp hx hi hn hm =
       hm
       ∙ (λ j.
-      markingOf
+      stateOf
       ((hex ∙ those-of one (λ b. eqb b e) (λ a t. mem (m .executed) a or t) ho) j)
       ((hp
       ∙ those-of one (λ b. eqb b e) (λ a t. mem (m .pending) a and non t or mem r a) ho

@@ -1,4 +1,5 @@
--- When a graph that is handed over as a value, and a marking beside it, are refused (01, "Numbers given back": 3, then 5).
+-- When a graph that is handed over as a value, and a marking beside it, are refused (01, "Numbers given back": 3, then 5;
+-- 02, 6/12: then 16).
 use mathlib.Core.Bool.{Bool}
 use mathlib.Core.List.{List}
 use Prim.Native.Nat.{ℕ}
@@ -8,18 +9,20 @@ use Rattle.sets.specs.Tests.{_and_, _or_, non, when_then_else_}
 use Rattle.sets.specs.Members.{width, mem, those, everyBelow, isEmpty, within}
 use Rattle.sets.specs.Rows.{rowAt}
 use Rattle.sets.specs.Tables.{tableAt}
-use Rattle.sets.specs.Answers.{thenAsk}
 use Rattle.sets.specs.declared.set.Set.{Set}
 use Rattle.sets.specs.declared.answer.Answer.{Answer}
-use Rattle.sets.specs.declared.answer.Answer.the-variants.{Done, AboveLimit, Outside}
+use Rattle.sets.specs.declared.answer.Answer.the-variants.{Done, AboveLimit, Outside, FalseEnabled}
+use Rattle.engine.specs.declared.marking.State.{State}
 use Rattle.engine.specs.declared.marking.Marking.{Marking}
 use Rattle.engine.specs.declared.graph.Head.{Head}
 use Rattle.engine.specs.declared.graph.Graph.{Graph}
-use Rattle.engine.specs.Relations.{relationCount}
+use Rattle.engine.specs.Relations.{relationCount, relationsOf}
+use Rattle.engine.specs.Enabled.{isTrue}
 
--- executed, pending and included are within the events
-unfoldable pub markingWithin : Set → Marking → Bool
-markingWithin events m = within (m .executed) events and within (m .pending) events and within (m .included) events
+-- executed, pending and included are within the events; of a marking no more is asked here (02, 6/12: "an enabled set that leaves the events
+-- is a false one")
+unfoldable pub stateWithin : Set → State → Bool
+stateWithin events s = within (s .executed) events and within (s .pending) events and within (s .included) events
 
 -- the row s of a is within the events, and where it is not empty a is an event
 unfoldable pub rowWithin : Set → ℕ → Set → Bool
@@ -35,24 +38,32 @@ relationsWithin events tables = everyBelow relationCount (λ k. rowsWithin event
 
 -- each event is below A, and the opening marking is within the events: what any graph is asked, however it keeps its relations
 abbrev pub headWithin : Head → Bool
-headWithin head = within (head .events) (those (λ a. ltb a (head .activities))) and markingWithin (head .events) (head .opening)
+headWithin head = within (head .events) (those (λ a. ltb a (head .activities))) and stateWithin (head .events) (head .opening .state)
 
 -- and the relations are too
 unfoldable pub graphWithin : Graph → Bool
 graphWithin g = headWithin (g .head) and relationsWithin (g .head .events) (g .relations)
 
--- 3 for A, then 3 for the length of a trace beside it, then 5 for the graph
+-- a marking is true on the graph
+abbrev pub trueOn : Graph → Marking → Bool
+trueOn g m = isTrue (g .head .events) (relationsOf g) m
+
+-- 3 where something is above its limit, then 5 where not all is within the events, then 16 where not every marking is true: all 5s come before
+-- any 16
+unfoldable pub found : Bool → Bool → Bool → Answer
+found above inside truthful = when above then AboveLimit else when non inside then Outside else when non truthful then FalseEnabled else Done
+
+-- the graph, with the length of a trace beside it
 unfoldable pub judgedFor : Graph → ℕ → Answer
 judgedFor g length =
-    when ltb mostActivities (g .head .activities) then AboveLimit
-    else when ltb longestTrace length then AboveLimit
-    else when non (graphWithin g) then Outside
-    else Done
+    found (ltb mostActivities (g .head .activities) or ltb longestTrace length) (graphWithin g) (trueOn g (g .head .opening))
 
 -- the graph alone
 abbrev pub judged : Graph → Answer
 judged g = judgedFor g 0
 
--- the graph, then 5 for a marking handed beside it
+-- the graph, with a marking beside it
 unfoldable pub judgedWith : Graph → Marking → Answer
-judgedWith g m = thenAsk (judged g) (when markingWithin (g .head .events) m then Done else Outside)
+judgedWith g m =
+    found (ltb mostActivities (g .head .activities)) (graphWithin g and stateWithin (g .head .events) (m .state))
+    (trueOn g (g .head .opening) and trueOn g m)

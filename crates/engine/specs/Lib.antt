@@ -1,5 +1,6 @@
 pub mod Markings
 pub mod Relations
 pub mod Steps
+pub mod Enabled
 pub mod Judged
 pub mod Replay

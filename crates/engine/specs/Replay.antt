@@ -8,6 +8,7 @@ use Rattle.sets.specs.Answers.{isDone, thenAsk}
 use Rattle.sets.specs.declared.set.Set.{Set}
 use Rattle.sets.specs.declared.answer.Answer.{Answer}
 use Rattle.sets.specs.declared.answer.Answer.the-variants.{Done}
+use Rattle.engine.specs.declared.marking.State.{State}
 use Rattle.engine.specs.declared.marking.Marking.{Marking}
 use Rattle.engine.specs.declared.graph.Graph.{Graph}
 use Rattle.engine.specs.declared.step.Stepped.{Stepped}
@@ -16,37 +17,43 @@ use Rattle.engine.specs.declared.replay.Replayed.{Replayed}
 use Rattle.engine.specs.Markings.{emptyMarking}
 use Rattle.engine.specs.Relations.{Relations, relationsOf}
 use Rattle.engine.specs.Steps.{enabled, after, accepting}
+use Rattle.engine.specs.Enabled.{marked}
 use Rattle.engine.specs.Judged.{judgedFor, judgedWith}
 
--- enabled: 3 and 5, then 8, 9, 10
+-- enabled: 3, 5 and 16, then 8, 9, 10
 unfoldable pub enabledOf : Graph → Marking → ℕ → Answer
-enabledOf g m e = thenAsk (judgedWith g m) (enabled (g .head .events) (relationsOf g) m e)
+enabledOf g m e = thenAsk (judgedWith g m) (enabled (g .head .events) (relationsOf g) (m .state) e)
+
+-- the marking after a step, with its own set of enabled activities
+abbrev pub nextMarking : Graph → Marking → ℕ → Marking
+nextMarking g m e = marked (g .head .events) (relationsOf g) (after (relationsOf g) (m .state) e)
 
 -- the step: the marking after it, or as it was where refused
 unfoldable pub steppedOf : Graph → Marking → ℕ → Stepped
 steppedOf g m e =
     record {
       answer = enabledOf g m e;
-      marking = when isDone (enabledOf g m e) then after (relationsOf g) m e else m;
+      marking = when isDone (enabledOf g m e) then nextMarking g m e else m;
     }
 
 -- accepting: no where refused
 unfoldable pub acceptingOf : Graph → Marking → Verdict
-acceptingOf g m = record { answer = judgedWith g m; accepting = isDone (judgedWith g m) and accepting m }
+acceptingOf g m = record { answer = judgedWith g m; accepting = isDone (judgedWith g m) and accepting (m .state) }
 
 -- the result of a replay
 abbrev pub ending : Answer → ℕ → Marking → Bool → Replayed
 ending a i m accepts = record { answer = a; place = record { 0 = i }; marking = m; accepting = accepts }
 
--- the rest of a trace, from the marking m at place i: it stops at the first refusal, with the marking before it
-unfoldable pub replayFrom : Set → Relations → Marking → ℕ → List ℕ → Replayed
-replayFrom events r m i [] = ending Done i m (accepting m)
-replayFrom events r m i (e ∷ es) =
-    when isDone (enabled events r m e) then replayFrom events r (after r m e) (i + 1) es
-    else ending (enabled events r m e) i m false
+-- the rest of a trace, from the state s at place i: it stops at the first refusal, with the marking before it. The set of enabled activities
+-- is that of the marking given back; none is kept on the way
+unfoldable pub replayFrom : Set → Relations → State → ℕ → List ℕ → Replayed
+replayFrom events r s i [] = ending Done i (marked events r s) (accepting s)
+replayFrom events r s i (e ∷ es) =
+    when isDone (enabled events r s e) then replayFrom events r (after r s e) (i + 1) es
+    else ending (enabled events r s e) i (marked events r s) false
 
--- the replay of a trace: from the opening marking; refused with 3 or 5 it gives place 0 and the empty marking
+-- the replay of a trace: from the opening marking; refused with 3, 5 or 16 it gives place 0 and the empty marking
 unfoldable pub replayOf : Graph → List ℕ → Replayed
 replayOf g trace =
-    when isDone (judgedFor g (length trace)) then replayFrom (g .head .events) (relationsOf g) (g .head .opening) 0 trace
+    when isDone (judgedFor g (length trace)) then replayFrom (g .head .events) (relationsOf g) (g .head .opening .state) 0 trace
     else ending (judgedFor g (length trace)) 0 emptyMarking false

@@ -2,6 +2,7 @@
 ghost use mathlib.Core.Path.{_≡_};
 ghost use Rattle.engine.specs.Relations.{inTables};
 ghost use Rattle.engine.specs.Replay.{replayFrom, replayOf};
+use crate::enabled;
 use crate::graph::Graph;
 use crate::graph::Head;
 use crate::graph::Relations;
@@ -21,31 +22,32 @@ pub struct Replayed {
     pub accepting: bool,
 }
 
-// A whole trace on lent relations, from the opening marking: for callers that have judged the graph.
+// A whole trace on lent relations, from the opening marking: for callers that have judged the graph. The set of enabled activities is worked
+// out once, for the marking that is given back (02, 6/12).
 pub fn run(head: Head, relations: &Relations, trace: &[u8]) -> Replayed
-    ensures { λ r. ⌜ r ≡ replayFrom (head .events) (inTables (now (relations .entry))) (head .opening) 0 (now (trace .entry)) ⌝ }
+    ensures { λ r. ⌜ r ≡ replayFrom (head .events) (inTables (now (relations .entry))) (head .opening .state) 0 (now (trace .entry)) ⌝ }
 {
-    let mut m = head.opening;
+    let mut s = head.opening.state;
     let mut i: usize = 0;
     while i < trace.len() {
         let a = Activity(trace[i]);
-        let answer = step::ask(head.events, relations, m, a);
+        let answer = step::ask(head.events, relations, s, a);
         if !answer.is_done() {
             return Replayed {
                 answer,
                 place: Place(i),
-                marking: m,
+                marking: enabled::marked(head.events, relations, s),
                 accepting: false,
             };
         }
-        m = step::next(relations, m, a);
+        s = step::next(relations, s, a);
         i += 1;
     }
     Replayed {
         answer: Answer::Done,
         place: Place(i),
-        marking: m,
-        accepting: step::is_accepting(m),
+        marking: enabled::marked(head.events, relations, s),
+        accepting: step::is_accepting(s),
     }
 }
 

@@ -5,6 +5,7 @@ ghost use Rattle.sets.specs.Members.{mem, those};
 ghost use Rattle.engine.specs.Relations.{graphOf, inTables};
 ghost use Rattle.engine.specs.Steps as rules;
 ghost use Rattle.engine.specs.Replay.{enabledOf, steppedOf, acceptingOf};
+use crate::enabled;
 use crate::graph::CONDITIONS;
 use crate::graph::EXCLUDES;
 use crate::graph::Graph;
@@ -14,6 +15,7 @@ use crate::graph::RESPONSES;
 use crate::graph::Relations;
 use crate::judge;
 use crate::marking::Marking;
+use crate::marking::State;
 use sets::Activity;
 use sets::Answer;
 use sets::Set;
@@ -32,25 +34,25 @@ pub struct Verdict {
 }
 
 // The condition sources that are included and not executed.
-fn blocking(relations: &Relations, m: Marking, a: Activity) -> Set
-    ensures { λ r. ⌜ r ≡ those (rules.blocking (inTables (now (relations .entry))) m (a .0)) ⌝ }
+fn blocking(relations: &Relations, s: State, a: Activity) -> Set
+    ensures { λ r. ⌜ r ≡ those (rules.blocking (inTables (now (relations .entry))) s (a .0)) ⌝ }
 {
     let sources = tables::row(relations, CONDITIONS, a);
-    let live = sources.intersection(m.included);
-    live.difference(m.executed)
+    let live = sources.intersection(s.included);
+    live.difference(s.executed)
 }
 
 // Rules 8, 9, 10. The set that decides 10 has the blocker as its least member.
-pub fn ask(events: Set, relations: &Relations, m: Marking, a: Activity) -> Answer
-    ensures { λ r. ⌜ r ≡ rules.enabled events (inTables (now (relations .entry))) m (a .0) ⌝ }
+pub fn ask(events: Set, relations: &Relations, s: State, a: Activity) -> Answer
+    ensures { λ r. ⌜ r ≡ rules.enabled events (inTables (now (relations .entry))) s (a .0) ⌝ }
 {
     if !events.has(a) {
         return Answer::NoEvent;
     }
-    if !m.included.has(a) {
+    if !s.included.has(a) {
         return Answer::NotIncluded;
     }
-    let sources = blocking(relations, m, a);
+    let sources = blocking(relations, s, a);
     if !sources.is_empty() {
         return Answer::Waiting(sources.least());
     }
@@ -64,26 +66,26 @@ fn changed(s: Set, lost: Set, gained: Set) -> Set
     s.difference(lost).union(gained)
 }
 
-// The marking after a step that is enabled.
-pub fn next(relations: &Relations, m: Marking, a: Activity) -> Marking
-    ensures { λ r. ⌜ r ≡ rules.after (inTables (now (relations .entry))) m (a .0) ⌝ }
+// The state after a step that is enabled.
+pub fn next(relations: &Relations, s: State, a: Activity) -> State
+    ensures { λ r. ⌜ r ≡ rules.after (inTables (now (relations .entry))) s (a .0) ⌝ }
 {
     let one = Set::one(a);
-    let executed = m.executed.union(one);
-    let pending = changed(m.pending, one, tables::row(relations, RESPONSES, a));
+    let executed = s.executed.union(one);
+    let pending = changed(s.pending, one, tables::row(relations, RESPONSES, a));
     let lost = tables::row(relations, EXCLUDES, a);
-    let included = changed(m.included, lost, tables::row(relations, INCLUDES, a));
-    Marking::of(executed, pending, included)
+    let included = changed(s.included, lost, tables::row(relations, INCLUDES, a));
+    State::of(executed, pending, included)
 }
 
 // Whether no step is both pending and included.
-pub fn is_accepting(m: Marking) -> bool
-    ensures { λ r. ⌜ r ≡ rules.accepting m ⌝ }
+pub fn is_accepting(s: State) -> bool
+    ensures { λ r. ⌜ r ≡ rules.accepting s ⌝ }
 {
-    m.pending.intersection(m.included).is_empty()
+    s.pending.intersection(s.included).is_empty()
 }
 
-// A graph, with a marking beside it: 3 and 5, then 8, 9, 10.
+// A graph, with a marking beside it: 3, 5 and 16, then 8, 9, 10.
 pub fn ask_judged(head: Head, relations: &Relations, m: Marking, a: Activity) -> Answer
     ensures { λ r. ⌜ r ≡ enabledOf (graphOf head (now (relations .entry))) m (a .0) ⌝ }
 {
@@ -91,7 +93,7 @@ pub fn ask_judged(head: Head, relations: &Relations, m: Marking, a: Activity) ->
     if !answer.is_done() {
         return answer;
     }
-    ask(head.events, relations, m, a)
+    ask(head.events, relations, m.state, a)
 }
 
 // Whether a step is enabled on any graph at any marking: the refusals of both, then rules 8, 9, 10.
@@ -111,7 +113,8 @@ pub fn step(g: Graph, m: Marking, a: Activity) -> Stepped
     if !answer.is_done() {
         return Stepped { answer, marking: m };
     }
-    let marking = next(&g.relations, m, a);
+    let state = next(&g.relations, m.state, a);
+    let marking = enabled::marked(head.events, &g.relations, state);
     Stepped { answer, marking }
 }
 
@@ -129,6 +132,6 @@ pub fn accepting(g: Graph, m: Marking) -> Verdict
     }
     Verdict {
         answer,
-        accepting: is_accepting(m),
+        accepting: is_accepting(m.state),
     }
 }

@@ -19,7 +19,7 @@ use Rattle.sets.proofs.Tests.{and-l, and-r, and-i, non-i, non-e, T→true, true
 use Rattle.sets.proofs.Below.{some-i, some-e, least-ext, least-le, least-is, least-before, least-only}
 use Rattle.sets.proofs.MadeSets.{is-those, less}
 use Rattle.sets.proofs.Loops.{nearer}
-use Rattle.engine.specs.declared.marking.Marking.{Marking}
+use Rattle.engine.specs.declared.marking.State.{State}
 use Rattle.engine.specs.Relations.{Relations}
 use Rattle.engine.specs.Steps.{enabled, after, accepting}
 use Rattle.finish.specs.declared.search.Found.{Found}
@@ -49,7 +49,7 @@ none-first p b l = absurd (not-suc-le-zero l)
 
 -- ---- the least of some that is open
 
-module _ (events : Set) (r : Relations) (m : Marking) (rest : Set) where
+module _ (events : Set) (r : Relations) (m : State) (rest : Set) where
   abbrev opens : ℕ → Bool
   opens b = mem rest b and isDone (enabled events r m b)
 
@@ -109,7 +109,7 @@ module _ (events : Set) (r : Relations) (m : Marking) (rest : Set) where
       least-nowhere opens a (inv .lower) width l
       ∙ open-live live low i hl hr
 
-module _ (events : Set) (r : Relations) (m : Marking) where
+module _ (events : Set) (r : Relations) (m : State) where
   -- it is open, and no lower than where the search began
   module _ (live : Set) (i a : ℕ) (e : a ≡ leastBelow width (openFrom live events r m i)) (l : a < width) where
     is-open : T (openFrom live events r m i a)
@@ -133,7 +133,7 @@ module _ (events : Set) (r : Relations) (m : Marking) where
     pub lower : None (begins events r n m) a
     pub may : a < width → T (isDone (enabled events r m a))
 
-  ends : (n a : ℕ) (m′ : Marking) (rest : Found) → m′ ≡ after r m a → rest ≡ foundOf events r n m′
+  ends : (n a : ℕ) (m′ : State) (rest : Found) → m′ ≡ after r m a → rest ≡ foundOf events r n m′
       → rest .there ≡ canFinish events r n (after r m a)
   ends n a m′ rest hm hr = ap (λ (f : Found). f .there) hr ∙ ap (canFinish events r n) hm
 
@@ -155,14 +155,14 @@ module _ (events : Set) (r : Relations) (m : Marking) where
     pub way-start : (a : ℕ) → a ≡ leastBelow width (openFrom live events r m 0) → Tried (left - 1) a
     way-start a e = on (left - 1) 0 a live (tried-all events r m left live settlers hl hs) (none-first (begins events r (left - 1) m)) e
 
-    pub way-turn : (a a′ : ℕ) (m′ : Marking) (rest : Found) → Tried (left - 1) a → m′ ≡ after r m a → rest ≡ foundOf events r (left - 1) m′
+    pub way-turn : (a a′ : ℕ) (m′ : State) (rest : Found) → Tried (left - 1) a → m′ ≡ after r m a → rest ≡ foundOf events r (left - 1) m′
         → rest .there ≡ false → a′ ≡ leastBelow width (openFrom live events r m (a + 1)) → Tried (left - 1) a′
     way-turn a a′ m′ rest tried hm hr f e =
         on (left - 1) (a + 1) a′ live (tried-all events r m left live settlers hl hs)
         (none-more (begins events r (left - 1) m) a (tried .lower)
         (F→false (begins events r (left - 1) m a) (λ h. false→F (sym (ends (left - 1) a m′ rest hm hr) ∙ f) (and-r _ _ h)))) e
 
-  module _ (n a : ℕ) (m′ : Marking) (rest : Found) (tried : Tried n a) (hm : m′ ≡ after r m a) (hr : rest ≡ foundOf events r n m′) where
+  module _ (n a : ℕ) (m′ : State) (rest : Found) (tried : Tried n a) (hm : m′ ≡ after r m a) (hr : rest ≡ foundOf events r n m′) where
     module _ (l : a < width) (f : rest .there ≡ true) where
       goes : canFinish events r n (after r m a) ≡ true
       goes = sym (ends n a m′ rest hm hr) ∙ f
@@ -215,7 +215,7 @@ module _ (events : Set) (r : Relations) (m : Marking) where
     some-left : suc (left - 1) ≡ left
     some-left = let p : 0 < left = pos-of-ne-zero h in omega arith
 
-    pub way-found : (m′ : Marking) (rest out : Found) → a < width → m′ ≡ after r m a → rest ≡ foundOf events r (left - 1) m′
+    pub way-found : (m′ : State) (rest out : Found) → a < width → m′ ≡ after r m a → rest ≡ foundOf events r (left - 1) m′
         → rest .there ≡ true → out ≡ aheadOf a rest → out ≡ foundOf events r left m
     way-found m′ rest out l hm hr f ho =
         way-more (left - 1) a m′ rest tried hm hr l f out ho ∙ ap (λ (n : ℕ). foundOf events r n m) some-left

@@ -14,7 +14,7 @@ use Rattle.sets.specs.declared.set.Set.{Set}
 use Rattle.sets.proofs.Tests.{and-l, and-r, and-i, or-l, or-r, T→true, F→false, false→F, eqb-of, split, either}
 use Rattle.sets.proofs.Below.{some-i, least-is, least-lt, least-before}
 use Rattle.sets.proofs.Members.{Whole, whole-low}
-use Rattle.engine.specs.declared.marking.Marking.{Marking}
+use Rattle.engine.specs.declared.marking.State.{State}
 use Rattle.engine.specs.Relations.{Relations}
 use Rattle.engine.specs.Steps.{after}
 use Rattle.finish.specs.Ways.{mostSteps, canFinish, begins, wayOf, fewest, unused}
@@ -24,19 +24,19 @@ use Rattle.finish.specs.Sequences.{finishes, noLater, WayOut, NoWay}
 module _ (events : Set) (r : Relations) where
   -- ---- a way is a finishing sequence
 
-  pub way-length : (n : ℕ) (m : Marking) → length (wayOf events r n m) ≡ n
+  pub way-length : (n : ℕ) (m : State) → length (wayOf events r n m) ≡ n
   unfolding wayOf
   way-length zero m = refl
   way-length (suc n) m = ap suc (way-length n (after r m (leastBelow width (begins events r n m))))
 
-  pub way-finishes : (n : ℕ) (m : Marking) → T (canFinish events r n m) → T (finishes events r m (wayOf events r n m))
+  pub way-finishes : (n : ℕ) (m : State) → T (canFinish events r n m) → T (finishes events r m (wayOf events r n m))
   unfolding canFinish wayOf finishes
   way-finishes zero m t = t
   way-finishes (suc n) m t =
       let h = least-is width (begins events r n m) (least-lt width (begins events r n m) t) in
       and-i _ _ (and-l _ _ h) (way-finishes n (after r m (leastBelow width (begins events r n m))) (and-r _ _ h))
 
-  pub finishing-events : (σ : List ℕ) (m : Marking) → T (finishes events r m σ) → (k : ℕ) → k < length σ → T (mem events (getD σ k unused))
+  pub finishing-events : (σ : List ℕ) (m : State) → T (finishes events r m σ) → (k : ℕ) → k < length σ → T (mem events (getD σ k unused))
   unfolding finishes
   finishing-events [] m t k l = absurd (not-suc-le-zero l)
   finishing-events (a ∷ σ) m t zero l = enabled-live events r m a (and-l _ _ t) .0
@@ -45,7 +45,7 @@ module _ (events : Set) (r : Relations) where
   -- ---- any finishing sequence, where the events are a set as the code has it
 
   module _ (w : Whole events) where
-    pub finishes-can : (σ : List ℕ) (m : Marking) → T (finishes events r m σ) → T (canFinish events r (length σ) m)
+    pub finishes-can : (σ : List ℕ) (m : State) → T (finishes events r m σ) → T (canFinish events r (length σ) m)
     unfolding canFinish finishes
     finishes-can [] m t = t
     finishes-can (a ∷ σ) m t =
@@ -53,7 +53,7 @@ module _ (events : Set) (r : Relations) where
         (and-i _ _ (and-l _ _ t) (finishes-can σ (after r m a) (and-r _ _ t)))
 
     -- the way comes no later than any other of its length
-    pub way-first : (σ : List ℕ) (m : Marking) → T (finishes events r m σ) → T (noLater (wayOf events r (length σ) m) σ)
+    pub way-first : (σ : List ℕ) (m : State) → T (finishes events r m σ) → T (noLater (wayOf events r (length σ) m) σ)
     unfolding finishes noLater wayOf
     way-first [] m t = tt
     way-first (b ∷ σ) m t =
@@ -78,7 +78,7 @@ module _ (events : Set) (r : Relations) where
 
     -- ---- the fewest steps
 
-    module _ (m : Marking) where
+    module _ (m : State) where
       below-fewest : (n : ℕ) → n < fewest events r m → T (canFinish events r n m) → ⊥
       unfolding fewest
       below-fewest n l t = false→F (least-before (suc mostSteps) (λ k. canFinish events r k m) n l) t

@@ -11,19 +11,18 @@ use Rattle.sets.specs.Members.{width, mem, those, noSet, someBelow, leastBelow,
 use Rattle.sets.specs.Rows.{rowAt, inRow, rowsOf, rowsFor, turned}
 use Rattle.sets.specs.Tables.{tableAt}
 use Rattle.sets.specs.Answers.{isDone}
-use Rattle.sets.specs.declared.activity.Activity.{Activity}
 use Rattle.sets.specs.declared.set.Set.{Set}
-use Rattle.sets.specs.declared.answer.Answer.the-variants.{Done, NoEvent, NotIncluded, Waiting}
-use Rattle.sets.proofs.Tests.{and-l, and-r, and-i, or-l, or-r, non-i, non-e, imp-i, imp-e, non-false}
+use Rattle.sets.proofs.Tests.{and-l, and-r, and-i, or-l, or-r, non-i, non-e, imp-i, imp-e}
 use Rattle.sets.proofs.Tests.{T-eq, T-ext, true→T, F→false, split, either}
 use Rattle.sets.proofs.Below.{some-i, some-e, every-i, every-e, least-is}
 use Rattle.sets.proofs.Members.{Fits, Whole, those-ext, those-mem, those-i, those-e, none-those, some-of, empty-e, empty-none, whole-empty}
 use Rattle.sets.proofs.RowLaws.{in-rowsOf}
 use Rattle.sets.proofs.MadeSets.{is-those, is-row, joined, less, where-true, where-false}
 use Rattle.sets.proofs.Passing.{least-low, fewer-left}
-use Rattle.engine.specs.declared.marking.Marking.{Marking}
+use Rattle.engine.specs.declared.marking.State.{State}
 use Rattle.engine.specs.Relations.{Relations, inTables}
-use Rattle.engine.specs.Steps.{waits, blocker, enabled, after, accepting}
+use Rattle.engine.specs.Steps.{enabled, after, accepting}
+use Rattle.engine.proofs.Enabling.{done-parts}
 use Rattle.finish.specs.Ways.{canFinish, begins}
 use Rattle.finish.specs.Parts.{settles, settlersOf, inAll, liveAt, owedAt, candidatesOf}
 
@@ -136,7 +135,7 @@ pub ruleset narrowing = (narrow-start, narrow-none, narrow-end, narrow-turn, few
 
 -- ---- the steps to try
 
-module _ (events : Set) (settlers : List ℕ) (m : Marking) (left : ℕ) where
+module _ (events : Set) (settlers : List ℕ) (m : State) (left : ℕ) where
   pub candidates-last : (live owed out : Set) → left ≡ 1 → live ≡ liveAt events m → owed ≡ owedAt m → out ≡ those (inAll settlers live owed)
       → out ≡ candidatesOf events settlers m left
   unfolding candidatesOf
@@ -151,25 +150,16 @@ module _ (events : Set) (settlers : List ℕ) (m : Marking) (left : ℕ) where
       h ∙ ap (λ (t : Bool). when t then those (inAll settlers (liveAt events m) (owedAt m)) else liveAt events m) (sym (ne-eqb left 1 n))
 
 -- only an event that is included is enabled
-pub enabled-live : (events : Set) (q : Relations) (m : Marking) (a : ℕ) → T (isDone (enabled events q m a))
+pub enabled-live : (events : Set) (q : Relations) (m : State) (a : ℕ) → T (isDone (enabled events q m a))
     → T (mem events a) × T (mem (m .included) a)
-unfolding enabled
-enabled-live events q m a t =
-    let h = by (non (mem events a)) (non (mem (m .included) a)) (waits q m a) (blocker q m a) t in
-    (non-false _ (h .0), non-false _ (h .1))
-  where
-    by : (x y z : Bool) (b : Activity) → T (isDone (when x then NoEvent else when y then NotIncluded else when z then Waiting b else Done))
-        → (x ≡ false) × (y ≡ false)
-    by true y z b h = absurd h
-    by false true z b h = absurd h
-    by false false z b h = (refl, refl)
+enabled-live events q m a t = let h = T-eq (done-parts events q m a) t in (and-l _ _ (and-l _ _ h), and-r _ _ (and-l _ _ h))
 
-accepting-none : (m : Marking) → T (accepting m) → (x : ℕ) → x < width → T (mem (m .pending) x) → T (mem (m .included) x) → ⊥
+accepting-none : (m : State) → T (accepting m) → (x : ℕ) → x < width → T (mem (m .pending) x) → T (mem (m .included) x) → ⊥
 unfolding accepting
 accepting-none m t x l p i = non-e _ t (some-i width _ x l (and-i _ _ p i))
 
 -- a step after which the call is accepting settles all that was owed
-module _ (q : Relations) (m : Marking) (a : ℕ) (t : T (accepting (after q m a))) where
+module _ (q : Relations) (m : State) (a : ℕ) (t : T (accepting (after q m a))) where
   abbrev pends : ℕ → Bool
   pends x = mem (m .pending) x and non (eqb x a) or q .responses a x
 
@@ -194,7 +184,7 @@ module _ (q : Relations) (m : Marking) (a : ℕ) (t : T (accepting (after q m a)
       lost g = either (split (q .excludes a x)) (λ y. y) (λ n. absurd (not-both x l (kept g) (or-l _ _ (and-i _ _ i (non-i _ n)))))
 
 -- a way of so many steps begins with one of them
-module _ (events : Set) (q : Relations) (m : Marking) (left : ℕ) (live : Set) (settlers : List ℕ) where
+module _ (events : Set) (q : Relations) (m : State) (left : ℕ) (live : Set) (settlers : List ℕ) where
   in-settlers : (x b : ℕ) → x < width → b < width → settlers ≡ settlersOf events q → inRow settlers x b ≡ (mem events b and settles q b x)
   unfolding turned rowsFor
   in-settlers x b lx lb e =

@@ -8,7 +8,7 @@ use Rattle.sets.specs.Members.{width, mem, those, someBelow, everyBelow}
 use Rattle.sets.specs.Rows.{inRow, rowsOf, rowsFor, turned}
 use Rattle.sets.specs.Answers.{isDone}
 use Rattle.sets.specs.declared.set.Set.{Set}
-use Rattle.engine.specs.declared.marking.Marking.{Marking}
+use Rattle.engine.specs.declared.marking.State.{State}
 use Rattle.engine.specs.Relations.{Relations}
 use Rattle.engine.specs.Steps.{enabled}
 use Rattle.finish.specs.declared.search.Found.{Found}
@@ -28,25 +28,25 @@ settlersOf events r = rowsOf (turned (rowsFor events (settles r)))
 abbrev pub inAll : List ℕ → Set → Set → ℕ → Bool
 inAll rows live owed a = mem live a and everyBelow width (λ x. non (mem owed x) or inRow rows x a)
 
-abbrev pub liveAt : Set → Marking → Set
+abbrev pub liveAt : Set → State → Set
 liveAt events m = those (λ a. mem events a and mem (m .included) a)
 
-abbrev pub owedAt : Marking → Set
+abbrev pub owedAt : State → Set
 owedAt m = those (λ a. mem (m .pending) a and mem (m .included) a)
 
 -- the steps to try with so many left: the included events; for the last step those that settle all that is owed
-unfoldable pub candidatesOf : Set → List ℕ → Marking → ℕ → Set
+unfoldable pub candidatesOf : Set → List ℕ → State → ℕ → Set
 candidatesOf events settlers m left =
     when eqb left 1 then those (inAll settlers (liveAt events m) (owedAt m)) else liveAt events m
 
 -- ---- the search
 
 -- a is of these, not below i, and enabled
-abbrev pub openFrom : Set → Set → Relations → Marking → ℕ → ℕ → Bool
+abbrev pub openFrom : Set → Set → Relations → State → ℕ → ℕ → Bool
 openFrom live events r m i a = mem live a and non (ltb a i) and isDone (enabled events r m a)
 
 -- whether there is a way of n steps, and the first one
-abbrev pub foundOf : Set → Relations → ℕ → Marking → Found
+abbrev pub foundOf : Set → Relations → ℕ → State → Found
 foundOf events r n m =
     record { there = canFinish events r n m; way = inFour (when canFinish events r n m then wayOf events r n m else []) }
 

@@ -11,6 +11,7 @@ use Rattle.sets.specs.declared.activity.Activity.{Activity}
 use Rattle.sets.specs.declared.set.Set.{Set}
 use Rattle.sets.specs.declared.answer.Answer.{Answer}
 use Rattle.sets.specs.declared.answer.Answer.the-variants.{Done, NoWayOut}
+use Rattle.engine.specs.declared.marking.State.{State}
 use Rattle.engine.specs.declared.marking.Marking.{Marking}
 use Rattle.engine.specs.declared.graph.Graph.{Graph}
 use Rattle.engine.specs.Relations.{Relations, relationsOf}
@@ -24,22 +25,22 @@ abbrev pub mostSteps : ℕ
 mostSteps = 4
 
 -- some n steps, each enabled in its turn, end where the call is accepting
-unfoldable pub canFinish : Set → Relations → ℕ → Marking → Bool
+unfoldable pub canFinish : Set → Relations → ℕ → State → Bool
 canFinish events r zero m = accepting m
 canFinish events r (suc n) m = someBelow width (λ a. isDone (enabled events r m a) and canFinish events r n (after r m a))
 
 -- they can begin with a
-abbrev pub begins : Set → Relations → ℕ → Marking → ℕ → Bool
+abbrev pub begins : Set → Relations → ℕ → State → ℕ → Bool
 begins events r n m a = isDone (enabled events r m a) and canFinish events r n (after r m a)
 
--- the first n steps by activity numbers: the least that they can begin with, then the same from the marking after it
-unfoldable pub wayOf : Set → Relations → ℕ → Marking → List ℕ
+-- the first n steps by activity numbers: the least that they can begin with, then the same from the state after it
+unfoldable pub wayOf : Set → Relations → ℕ → State → List ℕ
 wayOf events r zero m = []
 wayOf events r (suc n) m =
     leastBelow width (begins events r n m) ∷ wayOf events r n (after r m (leastBelow width (begins events r n m)))
 
 -- "the shortest": the least number of steps, or one more than there may be
-unfoldable pub fewest : Set → Relations → Marking → ℕ
+unfoldable pub fewest : Set → Relations → State → ℕ
 fewest events r m = leastBelow (suc mostSteps) (λ n. canFinish events r n m)
 
 -- "unused places of the four hold 255"
@@ -56,13 +57,13 @@ abbrev pub finishedBy : Answer → List ℕ → Finished
 finishedBy a σ = record { answer = a; way = inFour σ }
 
 -- the shortest way, and of these the first; 17 where there is none
-unfoldable pub shortestOf : Set → Relations → Marking → Finished
+unfoldable pub shortestOf : Set → Relations → State → Finished
 shortestOf events r m =
     when ltb mostSteps (fewest events r m) then finishedBy NoWayOut []
     else finishedBy Done (wayOf events r (fewest events r m) m)
 
--- the refusals of the graph and of the marking come first; a refusal returns four 255s
+-- 3, 5 and 16 of the graph and of the marking come first (02, 8/12: "3, 5 and 16 come first"); a refusal returns four 255s
 unfoldable pub finishOf : Graph → Marking → Finished
 finishOf g m =
-    when isDone (judgedWith g m) then shortestOf (g .head .events) (relationsOf g) m
+    when isDone (judgedWith g m) then shortestOf (g .head .events) (relationsOf g) (m .state)
     else finishedBy (judgedWith g m) []

@@ -1,14 +1,16 @@
 // The way out of a half-done call: the shortest sequence of steps after which it is accepting, and of these the first by activity
 // numbers (02, 8/12). The search tries one activity and asks the same question with one step fewer left.
 ghost use mathlib.Core.Path.{_≡_};
-ghost use Rattle.engine.specs.Relations.{inTables};
+ghost use Rattle.engine.specs.Relations.{graphOf, inTables};
 ghost use Rattle.sets.specs.Members.{width, leastBelow};
 ghost use Rattle.finish.specs.Ways.{shortestOf, finishOf};
 ghost use Rattle.finish.specs.Parts.{settlersOf, openFrom, aheadOf, foundOf};
 use crate::settle;
 use engine::Graph;
+use engine::Head;
 use engine::Marking;
 use engine::Relations;
+use engine::State;
 use engine::judge;
 use engine::step;
 use sets::Activity;
@@ -75,13 +77,13 @@ impl Found {
 }
 
 // The least of some activities, from a number on, that is enabled; the limit where there is none.
-fn open_from(live: Set, events: Set, relations: &Relations, m: Marking, from: u8) -> Activity
-    ensures { λ r. ⌜ r .0 ≡ leastBelow width (openFrom live events (inTables (now (relations .entry))) m from) ⌝ }
+fn open_from(live: Set, events: Set, relations: &Relations, s: State, from: u8) -> Activity
+    ensures { λ r. ⌜ r .0 ≡ leastBelow width (openFrom live events (inTables (now (relations .entry))) s from) ⌝ }
 {
     let rest = live.difference(Set::below(from));
     let mut a = rest.least();
     while a.0 < Activity::LIMIT {
-        let answer = step::ask(events, relations, m, a);
+        let answer = step::ask(events, relations, s, a);
         if answer.is_done() {
             return a;
         }
@@ -95,45 +97,45 @@ fn first_way<'a>(
     events: Set,
     relations: &'a Relations,
     settlers: &'a Rows,
-    m: Marking,
+    s: State,
     left: u8,
 ) -> Found
     requires { ⌜ now settlers ≡ settlersOf events (inTables (now relations)) ⌝ }
-    ensures { λ r. ⌜ r ≡ foundOf events (inTables (now (relations .entry))) left m ⌝ }
+    ensures { λ r. ⌜ r ≡ foundOf events (inTables (now (relations .entry))) left s ⌝ }
 {
     if left == 0 {
-        let there = step::is_accepting(m);
+        let there = step::is_accepting(s);
         return Found {
             there,
             way: Way::NONE,
         };
     }
-    let live = settle::candidates(events, settlers, m, left);
-    let mut a = open_from(live, events, relations, m, 0);
+    let live = settle::candidates(events, settlers, s, left);
+    let mut a = open_from(live, events, relations, s, 0);
     while a.0 < Activity::LIMIT {
         let rest = first_way(
             events,
             relations,
             settlers,
-            step::next(relations, m, a),
+            step::next(relations, s, a),
             left - 1,
         );
         if rest.there {
             return rest.ahead(a);
         }
-        a = open_from(live, events, relations, m, a.0 + 1);
+        a = open_from(live, events, relations, s, a.0 + 1);
     }
     Found::NOWHERE
 }
 
 // The way with the fewest steps, from 0 up to the limit.
-fn shortest<'a>(events: Set, relations: &'a Relations, settlers: &'a Rows, m: Marking) -> Finished
+fn shortest<'a>(events: Set, relations: &'a Relations, settlers: &'a Rows, s: State) -> Finished
     requires { ⌜ now settlers ≡ settlersOf events (inTables (now relations)) ⌝ }
-    ensures { λ r. ⌜ r ≡ shortestOf events (inTables (now (relations .entry))) m ⌝ }
+    ensures { λ r. ⌜ r ≡ shortestOf events (inTables (now (relations .entry))) s ⌝ }
 {
     let mut steps: u8 = 0;
     while steps <= Way::LIMIT {
-        let found = first_way(events, relations, settlers, m, steps);
+        let found = first_way(events, relations, settlers, s, steps);
         if found.there {
             let way = found.way;
             return Finished {
@@ -149,18 +151,26 @@ fn shortest<'a>(events: Set, relations: &'a Relations, settlers: &'a Rows, m: Ma
     }
 }
 
-// The way out on any graph from any marking: the refusals of both, then 17 where there is none.
-pub fn finish(g: Graph, m: Marking) -> Finished
-    ensures { λ r. ⌜ r ≡ finishOf g m ⌝ }
+// The way out on lent relations from any marking: the refusals of the graph and of the marking, then 17 where there is none. The search
+// goes by the state; no step on the way needs a set of enabled activities (02, 6/12).
+pub fn way_out(head: Head, relations: &Relations, m: Marking) -> Finished
+    ensures { λ r. ⌜ r ≡ finishOf (graphOf head (now (relations .entry))) m ⌝ }
 {
-    let head = g.head;
-    let answer = judge::judge_beside(head, &g.relations, m);
+    let answer = judge::judge_beside(head, relations, m);
     if !answer.is_done() {
         return Finished {
             answer,
             way: Way::NONE,
         };
     }
-    let settlers = settle::settlers(head.events, &g.relations);
-    shortest(head.events, &g.relations, &settlers, m)
+    let settlers = settle::settlers(head.events, relations);
+    shortest(head.events, relations, &settlers, m.state)
+}
+
+// The same on a graph by value.
+pub fn finish(g: Graph, m: Marking) -> Finished
+    ensures { λ r. ⌜ r ≡ finishOf g m ⌝ }
+{
+    let head = g.head;
+    way_out(head, &g.relations, m)
 }

@@ -6,8 +6,8 @@ ghost use Rattle.sets.specs.Members.{width, mem, those, leastBelow};
 ghost use Rattle.sets.specs.Rows.{inRow, rowsFor};
 ghost use Rattle.engine.specs.Relations.{inTables};
 ghost use Rattle.finish.specs.Parts.{settles, settlersOf, inAll, candidatesOf};
-use engine::Marking;
 use engine::Relations;
+use engine::State;
 use engine::graph::EXCLUDES;
 use engine::graph::INCLUDES;
 use engine::graph::RESPONSES;
@@ -76,12 +76,12 @@ fn settling(settlers: &Rows, live: Set, owed: Set) -> Set
 }
 
 // The steps to try with so many left.
-pub(crate) fn candidates(events: Set, settlers: &Rows, m: Marking, left: u8) -> Set
-    ensures { λ r. ⌜ r ≡ candidatesOf events (now (settlers .entry)) m left ⌝ }
+pub(crate) fn candidates(events: Set, settlers: &Rows, s: State, left: u8) -> Set
+    ensures { λ r. ⌜ r ≡ candidatesOf events (now (settlers .entry)) s left ⌝ }
 {
-    let live = events.intersection(m.included);
+    let live = events.intersection(s.included);
     if left == 1 {
-        let owed = m.pending.intersection(m.included);
+        let owed = s.pending.intersection(s.included);
         return settling(settlers, live, owed);
     }
     live

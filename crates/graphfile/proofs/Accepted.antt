@@ -15,11 +15,11 @@ use Rattle.sets.specs.declared.answer.Answer.the-variants.{Done, TooShort, Wron
 use Rattle.sets.proofs.Asking.{ask-on, both, went, gone-on}
 use Rattle.sets.proofs.Order.{none-refuses, no-refusal}
 use Rattle.sets.proofs.Tests.{T→true, non-false}
-use Rattle.engine.specs.Judged.{markingWithin}
+use Rattle.engine.specs.Judged.{stateWithin}
 use Rattle.sets.specs.Sizes.{mostActivities}
 use Rattle.sets.specs.Files.{opensWith}
 use Rattle.engine.specs.Relations.{relationCount}
-use Rattle.graphfile.specs.Layout.{letters, headLength, rowLength, activitiesIn, eventsIn, markingIn, offsetIn, countIn}
+use Rattle.graphfile.specs.Layout.{letters, headLength, rowLength, activitiesIn, eventsIn, stateIn, offsetIn, countIn}
 use Rattle.graphfile.specs.Layout.{earlierRows, endOf}
 use Rattle.graphfile.specs.Refusals.{mostRows, judgedHead, judgedEntry, judgedEnd, judgedBeforeRows, judgedRow, judgedRelation}
 use Rattle.graphfile.specs.Refusals.{judgedFile}
@@ -93,7 +93,7 @@ pub record Head (bytes : List ℕ) : Type 0 where
   pub opens : T (opensWith letters bytes)
   pub few : activitiesIn bytes ≤ mostActivities
   pub events : T (within (eventsIn bytes) (those (λ a. ltb a (activitiesIn bytes))))
-  pub marking : T (markingWithin (eventsIn bytes) (markingIn bytes))
+  pub marking : T (stateWithin (eventsIn bytes) (stateIn bytes))
 
 pub head-done : (bytes : List ℕ) → judgedHead bytes ≡ Done → Head bytes
 unfolding judgedHead
@@ -101,7 +101,7 @@ head-done bytes h =
     let two = went (non (opensWith letters bytes)) WrongLetters _ refl h in
     let three = went (ltb mostActivities (activitiesIn bytes)) AboveLimit _ refl (two .1) in
     let low = went (non (within (eventsIn bytes) (those (λ a. ltb a (activitiesIn bytes))))) Outside _ refl (three .1) in
-    let five = went (non (markingWithin (eventsIn bytes) (markingIn bytes))) Outside Done refl (low .1) in
+    let five = went (non (stateWithin (eventsIn bytes) (stateIn bytes))) Outside Done refl (low .1) in
     record {
       opens = non-false _ (two .0);
       few = ltb-false mostActivities (activitiesIn bytes) (three .0);
@@ -116,7 +116,7 @@ done-head bytes h =
       T→true (opensWith letters bytes) (h .opens),
       le-ltb mostActivities (activitiesIn bytes) (h .few),
       T→true (within (eventsIn bytes) (those (λ a. ltb a (activitiesIn bytes)))) (h .events),
-      T→true (markingWithin (eventsIn bytes) (markingIn bytes)) (h .marking),
+      T→true (stateWithin (eventsIn bytes) (stateIn bytes)) (h .marking),
     )
 
 pub entry-done : (bytes : List ℕ) (r : ℕ) → judgedEntry bytes r ≡ Done

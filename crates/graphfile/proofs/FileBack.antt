@@ -25,11 +25,12 @@ use Rattle.sets.proofs.RowLaws.{row-none, row-put-other, length-put}
 use Rattle.sets.proofs.Files.{opens-is}
 use Rattle.engine.specs.Relations.{relationCount}
 use Rattle.engine.specs.Judged.{rowWithin, rowsWithin, relationsWithin, graphWithin, judgedFor, judged}
-use Rattle.graphfile.specs.Layout.{letters, headLength, rowLength, activitiesIn, eventsIn, headIn, offsetIn, countIn, sumOf}
+use Rattle.engine.proofs.Acceptable.{judged-at}
+use Rattle.graphfile.specs.Layout.{letters, headLength, rowLength, activitiesIn, eventsIn, stateIn, headIn, offsetIn, countIn, sumOf}
 use Rattle.graphfile.specs.Layout.{earlierRows, keyIn, rowIn}
 use Rattle.graphfile.specs.Refusals.{judgedRow}
 use Rattle.graphfile.specs.Held.{relationsIn, graphIn}
-use Rattle.graphfile.specs.Writing.{setBytes, rowOf, rowsFrom, rowCount, rowsBefore, entryBytes, entriesBytes, markingBytes}
+use Rattle.graphfile.specs.Writing.{setBytes, rowOf, rowsFrom, rowCount, rowsBefore, entryBytes, entriesBytes, stateBytes}
 use Rattle.graphfile.specs.Writing.{headBytes}
 use Rattle.graphfile.specs.Writing.{relationBytes, relationsBytes, bytesOf}
 use Rattle.graphfile.proofs.Codec.{Bytes}
@@ -167,8 +168,8 @@ module _ (bytes : List ℕ) (small : Bytes bytes) (ok : Accepted bytes) where
   before-back : (r : ℕ) → r ≤ relationCount → rowsBefore tables r ≡ earlierRows bytes r
   before-back r l = sum-ext (λ k. rowCount (tableAt tables k)) (countIn bytes) r (λ k h. count-back k (omega arith))
 
-  head-back : headBytes (headIn bytes) ≡ part bytes 0 36
-  unfolding headBytes markingBytes
+  head-back : headBytes (headIn bytes tables) ≡ part bytes 0 36
+  unfolding headBytes stateBytes
   head-back =
       let start = meet bytes letters (activitiesIn bytes ∷ []) 0 3 3 1 refl
       (sym (opens-is letters bytes (head-done bytes (ok .head) .opens))) (part-one bytes 3 (omega (arith, ok .long))) in
@@ -210,10 +211,8 @@ module _ (bytes : List ℕ) (small : Bytes bytes) (ok : Accepted bytes) where
 
   -- the graph of an accepted file is acceptable
   pub graph-back : judged (graphIn bytes) ≡ Done
-  unfolding judgedFor graphWithin relationsWithin graphIn non
+  unfolding graphWithin relationsWithin graphIn
   graph-back =
       let head = head-done bytes (ok .head) in
-      rw (
-        le-ltb mostActivities (activitiesIn bytes) (head .few),
-        T→true (graphWithin (graphIn bytes)) (and-i _ _ (and-i _ _ (head .events) (head .marking)) (every-i relationCount _ inside-back)),
-      )
+      judged-at (activitiesIn bytes) (eventsIn bytes) (stateIn bytes) tables (le-ltb mostActivities (activitiesIn bytes) (head .few))
+      (T→true _ (and-i _ _ (and-i _ _ (head .events) (head .marking)) (every-i relationCount _ inside-back)))

@@ -135,7 +135,7 @@ module _ (bytes : List ℕ) (a : Answer) (d : Bool) (e : a ≡ judgedFile bytes)
       → _≡_ {A = Reading} (record { answer = a; graph = graphOf (headOf 0 noSet emptyMarking) tables }) (readOf bytes)
   read-refused tables n h = reading false _ n (ap (graphOf (headOf 0 noSet emptyMarking)) h)
 
-  pub read-taken : (head : Head) (tables : List ℕ) → d ≡ true → head ≡ headIn bytes → (a ≡ Done → tables ≡ relationsIn bytes relationCount)
+  pub read-taken : (head : Head) (tables : List ℕ) → d ≡ true → head ≡ headIn bytes tables → (a ≡ Done → tables ≡ relationsIn bytes relationCount)
       → _≡_ {A = Reading} (record { answer = a; graph = graphOf head tables }) (readOf bytes)
   unfolding graphIn
-  read-taken head tables y hh ht = let done = done-is a (sym t ∙ y) in reading true _ y (λ k. graphOf (hh k) (ht done k))
+  read-taken head tables y hh ht = let done = done-is a (sym t ∙ y) in reading true _ y ((λ k. graphOf (hh k) tables) ∙ λ k. graphOf (headIn bytes (ht done k)) (ht done k))

@@ -21,16 +21,18 @@ use Rattle.sets.proofs.Below.{every-e}
 use Rattle.sets.proofs.Members.{Whole}
 use Rattle.sets.proofs.RowLaws.{row-none, rows-ext}
 use Rattle.sets.proofs.TableLaws.{length-table, tables-ext}
-use Rattle.engine.specs.Markings.{markingOf}
-use Rattle.engine.specs.Relations.{relationCount, headOf, graphOf}
-use Rattle.engine.specs.declared.marking.Marking.{Marking}
+use Rattle.engine.specs.Markings.{stateOf}
+use Rattle.engine.specs.Relations.{relationCount, headOf, graphOf, inTables, relationsOf}
+use Rattle.engine.specs.Enabled.{marked}
+use Rattle.engine.proofs.Enabling.{true-marked}
+use Rattle.engine.specs.declared.marking.State.{State}
 use Rattle.engine.specs.declared.graph.Graph.{Graph}
-use Rattle.engine.specs.Judged.{markingWithin, rowWithin, rowsWithin, graphWithin, judged}
-use Rattle.engine.proofs.Acceptable.{judged-activities, judged-within, events-inside, opening-inside, rows-inside}
-use Rattle.graphfile.specs.Layout.{headLength, rowLength, activitiesIn, eventsIn, markingIn, offsetIn, countIn, sumOf, earlierRows}
+use Rattle.engine.specs.Judged.{stateWithin, rowWithin, rowsWithin, graphWithin, judged}
+use Rattle.engine.proofs.Acceptable.{judged-activities, judged-within, judged-true, events-inside, opening-inside, rows-inside}
+use Rattle.graphfile.specs.Layout.{headLength, rowLength, activitiesIn, eventsIn, stateIn, offsetIn, countIn, sumOf, earlierRows}
 use Rattle.graphfile.specs.Refusals.{judgedRow, judgedFile}
 use Rattle.graphfile.specs.Held.{relationsIn, graphIn}
-use Rattle.graphfile.specs.Writing.{rowsFor, countFrom, rowCount, rowsBefore, entriesBytes, markingBytes, headBytes}
+use Rattle.graphfile.specs.Writing.{rowsFor, countFrom, rowCount, rowsBefore, entriesBytes, stateBytes, headBytes}
 use Rattle.graphfile.specs.Writing.{relationBytes, relationsBytes, bytesOf}
 use Rattle.graphfile.proofs.Parts.{part, number-read, set-read}
 use Rattle.graphfile.proofs.Accepted.{Accepted, Head, acceptable, done-head, done-entry}
@@ -42,9 +44,10 @@ use Rattle.graphfile.proofs.GraphBack.{Held, rows-forth}
 -- a graph as every `Graph` of the code is: whole sets, and four tables
 pub record Machine (g : Graph) : Type 0 where
   pub events : Whole (g .head .events)
-  pub executed : Whole (g .head .opening .executed)
-  pub pending : Whole (g .head .opening .pending)
-  pub included : Whole (g .head .opening .included)
+  pub executed : Whole (g .head .opening .state .executed)
+  pub pending : Whole (g .head .opening .state .pending)
+  pub included : Whole (g .head .opening .state .included)
+  pub enabled : Whole (g .head .opening .enabled)
   pub many : length (g .relations) ≡ relationCount * width
   pub rows : (r a : ℕ) → Whole (rowAt (tableAt (g .relations) r) a)
 
@@ -126,13 +129,13 @@ module _ (g : Graph) (machine : Machine g) (ok : judged g ≡ Done) where
   unfolding bytesOf headBytes
   activities-read = refl
 
-  marking-read : markingIn file ≡ g .head .opening
-  unfolding bytesOf headBytes markingBytes littleEndian
-  marking-read =
+  state-read : stateIn file ≡ g .head .opening .state
+  unfolding bytesOf headBytes stateBytes littleEndian
+  state-read =
       (λ i.
-      markingOf (set-read file 12 (g .head .opening .executed) refl (machine .executed) i)
-      (set-read file 20 (g .head .opening .pending) refl (machine .pending) i)
-      (set-read file 28 (g .head .opening .included) refl (machine .included) i))
+      stateOf (set-read file 12 (g .head .opening .state .executed) refl (machine .executed) i)
+      (set-read file 20 (g .head .opening .state .pending) refl (machine .pending) i)
+      (set-read file 28 (g .head .opening .state .included) refl (machine .included) i))
 
   within-read : T (graphWithin g)
   within-read = judged-within g 0 ok
@@ -145,8 +148,8 @@ module _ (g : Graph) (machine : Machine g) (ok : judged g ≡ Done) where
         few = judged-activities g 0 ok;
         events = subst (λ (s : Set). T (within s (those (λ a. ltb a (g .head .activities))))) (sym events-read)
             (events-inside g within-read);
-        marking = subst (λ (s : Set). T (markingWithin s (markingIn file))) (sym events-read)
-            (subst (λ (m : Marking). T (markingWithin (g .head .events) m)) (sym marking-read) (opening-inside g within-read));
+        marking = subst (λ (s : Set). T (stateWithin s (stateIn file))) (sym events-read)
+            (subst (λ (m : State). T (stateWithin (g .head .events) m)) (sym state-read) (opening-inside g within-read));
       }
 
   -- ---- the entries
@@ -160,7 +163,7 @@ module _ (g : Graph) (machine : Machine g) (ok : judged g ≡ Done) where
   before-few (suc r) = omega (arith, few r, before-few r)
 
   count-part : (r : ℕ) → r < relationCount → part file (38 + 4 * r) 2 ≡ littleEndian 2 (count r)
-  unfolding bytesOf headBytes markingBytes entriesBytes littleEndian
+  unfolding bytesOf headBytes stateBytes entriesBytes littleEndian
   count-part zero l = refl
   count-part (suc zero) l = refl
   count-part (suc (suc zero)) l = refl
@@ -168,7 +171,7 @@ module _ (g : Graph) (machine : Machine g) (ok : judged g ≡ Done) where
   count-part (suc (suc (suc (suc r)))) l = absurd (omega arith)
 
   offset-part : (r : ℕ) → r < relationCount → part file (36 + 4 * r) 2 ≡ littleEndian 2 (rowLength * before r)
-  unfolding bytesOf headBytes markingBytes entriesBytes littleEndian
+  unfolding bytesOf headBytes stateBytes entriesBytes littleEndian
   offset-part zero l = refl
   offset-part (suc zero) l = refl
   offset-part (suc (suc zero)) l = refl
@@ -232,7 +235,15 @@ module _ (g : Graph) (machine : Machine g) (ok : judged g ≡ Done) where
   pub file-done : judgedFile file ≡ Done
   file-done = acceptable file file-accepted
 
+  -- its opening marking is true, so its enabled activities are those that are worked out
+  opening-read : g .head .opening ≡ marked (g .head .events) (relationsOf g) (g .head .opening .state)
+  opening-read = true-marked (g .head .events) (relationsOf g) (g .head .opening) (judged-true g 0 ok) (machine .enabled)
+
   -- an acceptable graph, written and read again, is that graph
   pub graph-forth : graphIn file ≡ g
   unfolding graphIn
-  graph-forth = λ i. graphOf (headOf (activities-read i) (events-read i) (marking-read i)) (relations-read i)
+  graph-forth =
+      (λ i.
+      graphOf (headOf (activities-read i) (events-read i) (marked (events-read i) (inTables (relations-read i)) (state-read i)))
+      (relations-read i))
+      ∙ (λ i. graphOf (headOf (g .head .activities) (g .head .events) (sym opening-read i)) (g .relations))

@@ -12,12 +12,12 @@ use Rattle.sets.specs.Members.{mem, those, isEmpty, within}
 use Rattle.sets.specs.declared.set.Set.{Set}
 use Rattle.sets.specs.declared.answer.Answer.{Answer}
 use Rattle.sets.specs.declared.answer.Answer.the-variants.{Done, TooShort, WrongLetters, AboveLimit, WrongOffset, Outside, BadRow}
-use Rattle.engine.specs.Judged.{markingWithin}
+use Rattle.engine.specs.Judged.{stateWithin}
 use Rattle.sets.specs.Sizes.{mostActivities}
 use Rattle.sets.specs.Files.{opensWith}
-use Rattle.engine.specs.declared.marking.Marking.{Marking}
+use Rattle.engine.specs.declared.marking.State.{State}
 use Rattle.engine.specs.Relations.{relationCount}
-use Rattle.graphfile.specs.Layout.{letters, headLength, rowLength, activitiesIn, eventsIn, markingIn, offsetIn, countIn}
+use Rattle.graphfile.specs.Layout.{letters, headLength, rowLength, activitiesIn, eventsIn, stateIn, offsetIn, countIn}
 use Rattle.graphfile.specs.Layout.{earlierRows, keyIn, rowIn, endOf}
 use Rattle.graphfile.specs.Refusals.{mostRows, judgedHead, judgedEntry, judgedEnd, rises, rowAnswer, judgedRow}
 
@@ -130,7 +130,7 @@ headAnswer right above low within = when non right then WrongLetters else when a
 module _ (bytes : List ℕ) (l : Bool) (hl : l ≡ opensWith letters bytes) where
   head-is : (r a e m : Bool) → l ≡ r → ltb mostActivities (activitiesIn bytes) ≡ a
       → within (eventsIn bytes) (those (λ x. ltb x (activitiesIn bytes))) ≡ e
-      → markingWithin (eventsIn bytes) (markingIn bytes) ≡ m → headAnswer r a e m ≡ judgedHead bytes
+      → stateWithin (eventsIn bytes) (stateIn bytes) ≡ m → headAnswer r a e m ≡ judgedHead bytes
   unfolding judgedHead
   head-is r a e m pl pa pe pm = λ i. headAnswer ((sym pl ∙ hl) i) (sym pa i) (sym pe i) (sym pm i)
 
@@ -153,12 +153,12 @@ module _ (bytes : List ℕ) (l : Bool) (hl : l ≡ opensWith letters bytes) wher
       head-events n = head-is true false false _ (not-false l nl) (le-ltb mostActivities (activitiesIn bytes) na)
           (low-is false (not-true t n)) refl
 
-      module _ (nt : not t ≡ false) (marking : Marking) (m : Bool) (hk : marking ≡ markingIn bytes) (hm : m
-          ≡ markingWithin events marking) where
+      module _ (nt : not t ≡ false) (marking : State) (m : Bool) (hk : marking ≡ stateIn bytes) (hm : m
+          ≡ stateWithin events marking) where
         marked : (b : Bool) → m ≡ b → headAnswer true false true b ≡ judgedHead bytes
         marked b e =
             head-is true false true b (not-false l nl) (le-ltb mostActivities (activitiesIn bytes) na) (low-is true (not-false t nt))
-            (sym (ap₂ markingWithin he hk) ∙ sym hm ∙ e)
+            (sym (ap₂ stateWithin he hk) ∙ sym hm ∙ e)
 
         pub head-marking : not m ≡ true → Outside ≡ judgedHead bytes
         unfolding non

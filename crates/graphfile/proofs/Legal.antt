@@ -15,7 +15,7 @@ use Rattle.sets.specs.Rows.{noRows, rowAt, withRow}
 use Rattle.sets.specs.Tables.{tableAt, withRowIn}
 use Rattle.sets.specs.declared.set.Set.{Set}
 use Rattle.sets.specs.declared.answer.Answer.the-variants.{Done, Outside, BadRow}
-use Rattle.sets.proofs.Tests.{split, either, T→true, F→false, false→F, non-false, and-i, or-l, eqb-of}
+use Rattle.sets.proofs.Tests.{split, either, T→true, F→false, false→F, non-false, and-i, or-l, eqb-of, neither}
 use Rattle.sets.proofs.RowLaws.{length-put, row-put-same, row-put-other}
 use Rattle.sets.proofs.TableLaws.{table-put-same, table-put-other, length-put-in, table-none}
 use Rattle.engine.specs.Judged.{rowWithin}
@@ -160,11 +160,6 @@ table-read bytes (suc n) r h l =
     ∙ ap (λ (k : ℕ). rowsFilled bytes noRows (countIn bytes k) (earlierRows bytes k)) (sym same))
 
 -- ---- legal rows are those that are judged done
-
-neither : (a b : Bool) → (a or b) ≡ false → (a ≡ false) × (b ≡ false)
-unfolding _or_
-neither true b h = absurd (false→F h tt)
-neither false b h = (refl, h)
 
 module _ (bytes : List ℕ) (first : ℕ) where
   -- the key before row j, if there is one, is below a

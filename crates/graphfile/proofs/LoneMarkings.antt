@@ -1,4 +1,4 @@
--- A marking by itself in 24 bytes from a place on: what the code reads and stores there; that what is stored is read again, and does not show
+-- A marking by itself in 32 bytes from a place on: what the code reads and stores there; that what is stored is read again, and does not show
 -- elsewhere. Assumes nothing.
 use mathlib.Core.Path.{_≡_, refl, sym, ap, _∙_, subst}
 use mathlib.Core.Bool.{Bool, true, false, not}
@@ -14,12 +14,13 @@ use Rattle.sets.specs.Tests.{when_then_else_}
 use Rattle.sets.specs.Files.{littleEndian, valueOf, numberAt}
 use Rattle.sets.specs.declared.set.Set.{Set}
 use Rattle.sets.proofs.Members.{Whole}
-use Rattle.engine.specs.Markings.{emptyMarking, markingOf}
+use Rattle.engine.specs.Markings.{emptyMarking, stateOf, markingOf}
 use Rattle.engine.specs.declared.marking.Marking.{Marking}
 use Rattle.graphfile.specs.Layout.{setAt, markingAt}
-use Rattle.graphfile.specs.Writing.{setBytes, markingBytes}
-use Rattle.graphfile.specs.Markings.{markingLength, markingHeld, markingPut}
+use Rattle.graphfile.specs.Writing.{setBytes, stateBytes}
+use Rattle.graphfile.specs.Markings.{markingLength, markingBytes, markingHeld, markingPut}
 use Rattle.graphfile.proofs.Parts.{part, set-read}
+use Rattle.graphfile.proofs.Stores.{follow}
 
 -- ---- ways through the code
 
@@ -59,6 +60,12 @@ module _ (bytes : List ℕ) (at : ℕ) (few : Bool) (e : few ≡ ltb (length byt
 
 pub ruleset lone = (few-whole, few-rest, room, room-not, held-none, held-some, put-nothing, put-some)
 
+-- what a file holds of a marking, then the set
+pub marking-stored : (o o₁ o₂ : List ℕ) (m : Marking) (at : ℕ) → o₁ ≡ sets o at (stateBytes (m .state))
+    → o₂ ≡ sets o₁ (at + 24) (setBytes (m .enabled)) → o₂ ≡ sets o at (markingBytes m)
+unfolding markingBytes stateBytes littleEndian
+marking-stored o o₁ o₂ m at h₁ h₂ = follow o o₁ o₂ (stateBytes (m .state)) (setBytes (m .enabled)) at (at + 24) refl h₁ h₂
+
 -- ---- where there is room, the marking is read and stored
 
 pub held-there : (bytes : List ℕ) (at : ℕ) → at + markingLength ≤ length bytes → markingHeld bytes at ≡ markingAt bytes at
@@ -96,7 +103,11 @@ part-apart l at n i vs (inr h) = ap (take n) (drop-after vs l at i h)
 pub marking-apart : (l : List ℕ) (at i : ℕ) (vs : List ℕ) → Apart at markingLength i (length vs)
     → markingAt (sets l i vs) at ≡ markingAt l at
 unfolding numberAt
-marking-apart l at i vs h j = markingOf (kept at (within at (omega arith) (omega arith) h) j) (kept (at + 8) (within (at + 8) (omega arith) (omega arith) h) j) (kept (at + 16) (within (at + 16) (omega arith) (omega arith) h) j)
+marking-apart l at i vs h j =
+    markingOf
+    (stateOf (kept at (within at (omega arith) (omega arith) h) j) (kept (at + 8) (within (at + 8) (omega arith) (omega arith) h) j)
+    (kept (at + 16) (within (at + 16) (omega arith) (omega arith) h) j))
+    (kept (at + 24) (within (at + 24) (omega arith) (omega arith) h) j)
   where
     within : (k : ℕ) → at ≤ k → k + 8 ≤ at + markingLength → Apart at markingLength i (length vs) → Apart k 8 i (length vs)
     within k a b (inl c) = inl (omega arith)
@@ -122,9 +133,10 @@ getD-apart l at i (v ∷ vs) h =
 
 -- a marking as every marking of the code is
 pub record WholeMarking (m : Marking) : Type 0 where
-  pub executed : Whole (m .executed)
-  pub pending : Whole (m .pending)
-  pub included : Whole (m .included)
+  pub executed : Whole (m .state .executed)
+  pub pending : Whole (m .state .pending)
+  pub included : Whole (m .state .included)
+  pub enabled : Whole (m .enabled)
 
 drop-stored : (l : List ℕ) (at : ℕ) (vs : List ℕ) → at + length vs ≤ length l → drop at (sets l at vs) ≡ vs ++ drop (at + length vs) l
 drop-stored l at vs h =
@@ -135,12 +147,14 @@ drop-stored l at vs h =
 
 pub marking-back : (l : List ℕ) (at : ℕ) (m : Marking) → at + markingLength ≤ length l → WholeMarking m
     → markingAt (sets l at (markingBytes m)) at ≡ m
-unfolding markingBytes littleEndian
+unfolding markingBytes stateBytes littleEndian
 marking-back l at m h w j =
     markingOf
-    (set-read stored at (m .executed) (ap (take 8) begun) (w .executed) j)
-    (set-read stored (at + 8) (m .pending) (further 8 ∙ refl) (w .pending) j)
-    (set-read stored (at + 16) (m .included) (further 16 ∙ refl) (w .included) j)
+    (stateOf
+    (set-read stored at (m .state .executed) (ap (take 8) begun) (w .executed) j)
+    (set-read stored (at + 8) (m .state .pending) (further 8 ∙ refl) (w .pending) j)
+    (set-read stored (at + 16) (m .state .included) (further 16 ∙ refl) (w .included) j))
+    (set-read stored (at + 24) (m .enabled) (further 24 ∙ refl) (w .enabled) j)
   where
     stored : List ℕ
     stored = sets l at (markingBytes m)

@@ -7,20 +7,20 @@ use native.Mathlib.Numerals.{add-one}
 use native.Mathlib.Omega.{arith}
 use lib.ListN.{length}
 use Rattle.sets.specs.declared.set.Set.{Set}
-use Rattle.engine.specs.declared.marking.Marking.{Marking}
-use Rattle.engine.specs.Markings.{markingOf}
+use Rattle.engine.specs.declared.marking.State.{State}
+use Rattle.engine.specs.Markings.{stateOf}
 use Rattle.engine.specs.Relations.{relationCount}
-use Rattle.graphfile.specs.Layout.{headLength, rowLength, setAt, countIn, sumOf, earlierRows, markingAt, endOf}
+use Rattle.graphfile.specs.Layout.{headLength, rowLength, setAt, countIn, sumOf, earlierRows, stateAt, endOf}
 
 -- ---- sets and rows
 
 pub set-is : (x y : ℕ) → x ≡ y → _≡_ {A = Set} (record { bits = x }) (record { bits = y })
 set-is x y e = ap (λ (n : ℕ). record { bits = n }) e
 
-pub marking-is : (bytes : List ℕ) (at : ℕ) (x p i : Set) (m : Marking) → x ≡ setAt bytes at → p ≡ setAt bytes (at + 8)
+pub state-is : (bytes : List ℕ) (at : ℕ) (x p i : Set) (m : State) → x ≡ setAt bytes at → p ≡ setAt bytes (at + 8)
     → i ≡ setAt bytes (at + 16)
-    → m ≡ markingOf x p i → m ≡ markingAt bytes at
-marking-is bytes at x p i m hx hp hi e = e ∙ λ k. markingOf (hx k) (hp k) (hi k)
+    → m ≡ stateOf x p i → m ≡ stateAt bytes at
+state-is bytes at x p i m hx hp hi e = e ∙ λ k. stateOf (hx k) (hp k) (hi k)
 
 -- ---- a sum: what a loop adds up, and that it only grows
 

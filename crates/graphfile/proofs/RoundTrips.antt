@@ -14,8 +14,9 @@ use Rattle.sets.specs.Tables.{tableAt, tablesOf}
 use Rattle.sets.specs.Answers.{isDone}
 use Rattle.sets.specs.declared.answer.Answer.{Answer}
 use Rattle.sets.specs.declared.answer.Answer.the-variants.{Done, BufferTooSmall}
+use Rattle.engine.specs.Enabled.{graphAt}
 use Rattle.engine.specs.Markings.{openingOf}
-use Rattle.engine.specs.Relations.{relationCount, headOf, graphOf, emptyGraph, tablesFrom}
+use Rattle.engine.specs.Relations.{relationCount, emptyGraph, tablesFrom}
 use Rattle.engine.specs.declared.graph.Graph.{Graph}
 use Rattle.engine.specs.Judged.{judged}
 use Rattle.graphfile.specs.declared.reader.Reading.{Reading}
@@ -24,7 +25,7 @@ use Rattle.sets.specs.Files.{littleEndian}
 use Rattle.graphfile.specs.Layout.{headLength, rowLength, sumOf}
 use Rattle.graphfile.specs.Refusals.{judgedFile}
 use Rattle.graphfile.specs.Held.{graphIn, readOf}
-use Rattle.graphfile.specs.Writing.{rowsBefore, rowOf, rowsFor, rowsFrom, countFrom, entriesBytes, markingBytes, headBytes}
+use Rattle.graphfile.specs.Writing.{rowsBefore, rowOf, rowsFor, rowsFrom, countFrom, entriesBytes, stateBytes, headBytes}
 use Rattle.graphfile.specs.Writing.{relationsBytes}
 use Rattle.graphfile.specs.Writing.{bytesOf, judgedWrite, writtenOf, fileAfter}
 use Rattle.graphfile.proofs.Codec.{Bytes}
@@ -106,16 +107,18 @@ read-then-written bytes before after r w small hr ok room hw ha =
 
 -- ---- 01's graph G: C 0 1, 0 2; R 0 2, 1 2; I 0 1; E 0 0, 1 1, 2 1, 2 2
 
-abbrev pub exampleG : Graph
-exampleG =
-    graphOf (headOf 3 (those (λ a. ltb a 3)) (openingOf (those (λ a. ltb a 3))))
-    (tablesFrom
+abbrev tablesOfG : List ℕ
+tablesOfG =
+    tablesFrom
     (record {
       conditions = λ s t. eqb s 0 and (eqb t 1 or eqb t 2);
       responses = λ s t. (eqb s 0 or eqb s 1) and eqb t 2;
       includes = λ s t. eqb s 0 and eqb t 1;
       excludes = λ s t. ltb s 3 and eqb s t or eqb s 2 and eqb t 1;
-    }))
+    })
+
+abbrev pub exampleG : Graph
+exampleG = graphAt 3 (those (λ a. ltb a 3)) (openingOf (those (λ a. ltb a 3))) tablesOfG
 
 abbrev pub fileOfG : List ℕ
 fileOfG =
@@ -139,6 +142,6 @@ fileOfG =
     ∷ []
 
 pub file-of-G : (bytesOf exampleG ≡ fileOfG) × (length fileOfG ≡ 124)
-unfolding bytesOf headBytes markingBytes entriesBytes relationsBytes sumOf rowsFrom countFrom rowOf rowsFor littleEndian
+unfolding bytesOf headBytes stateBytes entriesBytes relationsBytes sumOf rowsFrom countFrom rowOf rowsFor littleEndian
     rowAt tableAt tablesOf rowsOf listFrom isEmpty everyBelow bit bitsOf mem those non _and_ _or_
 file-of-G = (refl, refl)

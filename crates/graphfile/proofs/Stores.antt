@@ -13,14 +13,14 @@ use Rattle.sets.specs.Members.{width, isEmpty}
 use Rattle.sets.specs.Rows.{rowAt}
 use Rattle.sets.specs.Tables.{tableAt}
 use Rattle.sets.specs.declared.set.Set.{Set}
-use Rattle.engine.specs.declared.marking.Marking.{Marking}
+use Rattle.engine.specs.declared.marking.State.{State}
 use Rattle.engine.specs.declared.graph.Head.{Head}
 use Rattle.engine.specs.declared.graph.Graph.{Graph}
 use Rattle.engine.specs.Relations.{relationCount}
 use Rattle.sets.specs.Files.{littleEndian}
 use Rattle.graphfile.specs.Layout.{letters, headLength, rowLength, sumOf}
 use Rattle.graphfile.specs.Writing.{setBytes, rowOf, rowsFor, rowsFrom, countFrom, rowCount, rowsBefore, entryBytes, entriesBytes}
-use Rattle.graphfile.specs.Writing.{markingBytes, headBytes, relationBytes, relationsBytes, bytesOf}
+use Rattle.graphfile.specs.Writing.{stateBytes, headBytes, relationBytes, relationsBytes, bytesOf}
 use Rattle.graphfile.proofs.Places.{sum-room}
 
 sets-append : (vs ws l : List ℕ) (i : ℕ) → sets (sets l i vs) (i + length vs) ws ≡ sets l i (vs ++ ws)
@@ -42,7 +42,7 @@ length-number zero x = refl
 length-number (suc n) x = ap suc (length-number n _)
 
 pub length-head : (h : Head) → length (headBytes h) ≡ 36
-unfolding headBytes markingBytes littleEndian
+unfolding headBytes stateBytes littleEndian
 length-head h = refl
 
 length-entry : (earlier count : ℕ) → length (entryBytes earlier count) ≡ 4
@@ -100,18 +100,18 @@ module _ (o o₁ o₂ o₃ a b c : List ℕ) (p p₁ p₂ : ℕ) (e₁ : p₁ �
   three = follow o o₂ o₃ (a ++ b) c p p₂ (simp length-append (omega arith)) (follow o o₁ o₂ a b p p₁ e₁ h₁ h₂) h₃
 
 module _ (o o₁ o₂ o₃ : List ℕ) where
-  pub marking-stored : (m : Marking) (at : ℕ) → o₁ ≡ sets o at (setBytes (m .executed)) → o₂ ≡ sets o₁ (at + 8) (setBytes (m .pending))
-      → o₃ ≡ sets o₂ (at + 16) (setBytes (m .included)) → o₃ ≡ sets o at (markingBytes m)
-  unfolding markingBytes littleEndian
-  marking-stored m at h₁ h₂ h₃ =
+  pub state-stored : (m : State) (at : ℕ) → o₁ ≡ sets o at (setBytes (m .executed)) → o₂ ≡ sets o₁ (at + 8) (setBytes (m .pending))
+      → o₃ ≡ sets o₂ (at + 16) (setBytes (m .included)) → o₃ ≡ sets o at (stateBytes m)
+  unfolding stateBytes littleEndian
+  state-stored m at h₁ h₂ h₃ =
       let far : at + 16 ≡ at + 8 + 8 = omega arith in
       three o o₁ o₂ o₃ (setBytes (m .executed)) (setBytes (m .pending)) (setBytes (m .included)) at (at + 8) (at + 16) refl far h₁ h₂ h₃
 
   pub head-stored : (h : Head) → o₁ ≡ sets o 0 (letters ++ (h .activities ∷ [])) → o₂ ≡ sets o₁ 4 (setBytes (h .events))
-      → o₃ ≡ sets o₂ 12 (markingBytes (h .opening)) → o₃ ≡ sets o 0 (headBytes h)
+      → o₃ ≡ sets o₂ 12 (stateBytes (h .opening .state)) → o₃ ≡ sets o 0 (headBytes h)
   unfolding headBytes littleEndian
   head-stored h h₁ h₂ h₃ =
-      three o o₁ o₂ o₃ (letters ++ (h .activities ∷ [])) (setBytes (h .events)) (markingBytes (h .opening)) 0 4 12 refl refl h₁ h₂ h₃
+      three o o₁ o₂ o₃ (letters ++ (h .activities ∷ [])) (setBytes (h .events)) (stateBytes (h .opening .state)) 0 4 12 refl refl h₁ h₂ h₃
 
   pub file-stored : (g : Graph) → o₁ ≡ sets o 0 (headBytes (g .head)) → o₂ ≡ sets o₁ 36 (entriesBytes (g .relations) relationCount)
       → o₃ ≡ sets o₂ headLength (relationsBytes (g .relations) relationCount) → o₃ ≡ sets o 0 (bytesOf g)

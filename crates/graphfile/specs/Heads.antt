@@ -1,6 +1,6 @@
--- The head of a graph by itself, as 33 bytes: A, events, executed, pending, included.
+-- The head of a graph by itself, as 41 bytes: A, events, executed, pending, included, enabled.
 use mathlib.Core.List.{List}
-use Prim.Native.Nat.{ℕ}
+use Prim.Native.Nat.{ℕ, _+_}
 use lib.Dec.{ltb}
 use lib.ListN.{length}
 use Rattle.sets.specs.Tests.{when_then_else_}
@@ -9,7 +9,12 @@ use Rattle.engine.specs.Markings.{emptyMarking}
 use Rattle.engine.specs.Relations.{headOf}
 use Rattle.engine.specs.declared.graph.Head.{Head}
 use Rattle.graphfile.specs.Layout.{headAt}
+use Rattle.graphfile.specs.Markings.{markingLength}
+
+-- A, the events and a marking
+abbrev pub loneHeadLength : ℕ
+loneHeadLength = 9 + markingLength
 
 -- the head in the first bytes; the empty one where there are too few
 unfoldable pub headFrom : List ℕ → Head
-headFrom bytes = when ltb (length bytes) 33 then headOf 0 noSet emptyMarking else headAt bytes 0
+headFrom bytes = when ltb (length bytes) loneHeadLength then headOf 0 noSet emptyMarking else headAt bytes 0

@@ -4,10 +4,11 @@ use Prim.Native.Nat.{ℕ, zero, suc}
 use Rattle.sets.specs.Tests.{when_then_else_}
 use Rattle.sets.specs.Tables.{noTables, withRowIn}
 use Rattle.sets.specs.Answers.{isDone}
-use Rattle.engine.specs.Relations.{relationCount, graphOf, emptyGraph}
+use Rattle.engine.specs.Relations.{relationCount, emptyGraph}
+use Rattle.engine.specs.Enabled.{graphAt}
 use Rattle.engine.specs.declared.graph.Graph.{Graph}
 use Rattle.graphfile.specs.declared.reader.Reading.{Reading}
-use Rattle.graphfile.specs.Layout.{headIn, countIn, earlierRows, keyIn, rowIn}
+use Rattle.graphfile.specs.Layout.{activitiesIn, eventsIn, stateIn, countIn, earlierRows, keyIn, rowIn}
 use Rattle.graphfile.specs.Refusals.{judgedFile}
 
 -- tables, with n rows of the file put into table r, from row k on: the set at its key
@@ -24,9 +25,9 @@ unfoldable pub relationsIn : List ℕ → ℕ → List ℕ
 relationsIn bytes zero = noTables relationCount
 relationsIn bytes (suc r) = withRelation bytes (relationsIn bytes r) r
 
--- the graph of an accepted file
+-- the graph of an accepted file, whose enabled activities follow from the rest (02, 6/12: "The graph file doesn't store it")
 unfoldable pub graphIn : List ℕ → Graph
-graphIn bytes = graphOf (headIn bytes) (relationsIn bytes relationCount)
+graphIn bytes = graphAt (activitiesIn bytes) (eventsIn bytes) (stateIn bytes) (relationsIn bytes relationCount)
 
 -- a read: the file's answer, and its graph; the empty graph where refused (01, "Nothing else")
 unfoldable pub readOf : List ℕ → Reading

@@ -3,10 +3,12 @@ use mathlib.Core.List.{List, [], _∷_}
 use Prim.Native.Nat.{ℕ, zero, suc, _+_, _*_}
 use lib.ListN.{getD}
 use Rattle.sets.specs.declared.set.Set.{Set}
+use Rattle.engine.specs.declared.marking.State.{State}
 use Rattle.engine.specs.declared.marking.Marking.{Marking}
 use Rattle.engine.specs.declared.graph.Head.{Head}
-use Rattle.engine.specs.Markings.{markingOf}
+use Rattle.engine.specs.Markings.{stateOf, markingOf}
 use Rattle.engine.specs.Relations.{relationCount, headOf}
+use Rattle.engine.specs.Enabled.{graphAt}
 use Rattle.sets.specs.Files.{numberAt}
 
 -- the two letters and the edition
@@ -32,20 +34,24 @@ setAt bytes at = record { bits = numberAt 8 bytes at }
 abbrev pub eventsIn : List ℕ → Set
 eventsIn bytes = setAt bytes 4
 
--- executed, pending, included
+-- executed, pending, included: all that a file holds of its marking
+abbrev pub stateAt : List ℕ → ℕ → State
+stateAt bytes at = stateOf (setAt bytes at) (setAt bytes (at + 8)) (setAt bytes (at + 16))
+
+abbrev pub stateIn : List ℕ → State
+stateIn bytes = stateAt bytes 12
+
+-- a marking by itself: executed, pending, included, enabled (02, 6/12)
 abbrev pub markingAt : List ℕ → ℕ → Marking
-markingAt bytes at = markingOf (setAt bytes at) (setAt bytes (at + 8)) (setAt bytes (at + 16))
+markingAt bytes at = markingOf (stateAt bytes at) (setAt bytes (at + 24))
 
-abbrev pub markingIn : List ℕ → Marking
-markingIn bytes = markingAt bytes 12
-
--- A, the events and the marking from a place on
+-- A, the events and such a marking from a place on
 abbrev pub headAt : List ℕ → ℕ → Head
 headAt bytes at = headOf (getD bytes at 0) (setAt bytes (at + 1)) (markingAt bytes (at + 9))
 
--- A, the events and the marking
-abbrev pub headIn : List ℕ → Head
-headIn bytes = headOf (activitiesIn bytes) (eventsIn bytes) (markingIn bytes)
+-- A, the events and the marking of a file whose relations are these tables
+abbrev pub headIn : List ℕ → List ℕ → Head
+headIn bytes tables = graphAt (activitiesIn bytes) (eventsIn bytes) (stateIn bytes) tables .head
 
 -- entry r: an offset, then the number of rows
 abbrev pub offsetIn : List ℕ → ℕ → ℕ

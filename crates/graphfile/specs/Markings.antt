@@ -1,5 +1,5 @@
--- A marking by itself, as 24 bytes: executed, pending, included.
-use mathlib.Core.List.{List}
+-- A marking by itself, as 32 bytes: executed, pending, included, enabled (02, 6/12).
+use mathlib.Core.List.{List, _++_}
 use Prim.Native.Nat.{ℕ, _+_}
 use lib.Dec.{ltb}
 use lib.ListN.{length}
@@ -8,11 +8,15 @@ use Rattle.sets.specs.Tests.{when_then_else_}
 use Rattle.engine.specs.Markings.{emptyMarking}
 use Rattle.engine.specs.declared.marking.Marking.{Marking}
 use Rattle.graphfile.specs.Layout.{markingAt}
-use Rattle.graphfile.specs.Writing.{markingBytes}
+use Rattle.graphfile.specs.Writing.{setBytes, stateBytes}
 
 -- how many bytes a marking has
 abbrev pub markingLength : ℕ
-markingLength = 24
+markingLength = 32
+
+-- what a file holds of it, and the set of enabled activities
+unfoldable pub markingBytes : Marking → List ℕ
+markingBytes m = stateBytes (m .state) ++ setBytes (m .enabled)
 
 -- the marking in the bytes from a place on; the empty one where there are too few
 unfoldable pub markingHeld : List ℕ → ℕ → Marking

@@ -9,24 +9,25 @@ use Rattle.sets.specs.Members.{mem, those, isEmpty, within}
 use Rattle.sets.specs.declared.set.Set.{Set}
 use Rattle.sets.specs.declared.answer.Answer.{Answer}
 use Rattle.sets.specs.declared.answer.Answer.the-variants.{Done, TooShort, WrongLetters, AboveLimit, WrongOffset, Outside, BadRow}
-use Rattle.engine.specs.Judged.{markingWithin}
+use Rattle.engine.specs.Judged.{stateWithin}
 use Rattle.engine.specs.Relations.{relationCount}
 use Rattle.sets.specs.Answers.{thenAsk, firstRefusal}
 use Rattle.sets.specs.Sizes.{mostActivities}
 use Rattle.sets.specs.Files.{opensWith}
-use Rattle.graphfile.specs.Layout.{letters, headLength, rowLength, activitiesIn, eventsIn, markingIn, offsetIn, countIn, earlierRows, keyIn, rowIn, endOf}
+use Rattle.graphfile.specs.Layout.{letters, headLength, rowLength, activitiesIn, eventsIn, stateIn, offsetIn, countIn, earlierRows, keyIn, rowIn, endOf}
 
 -- the limit on a relation's rows, whatever A is
 abbrev pub mostRows : ℕ
 mostRows = 64
 
--- 2; 3 for A; 5 for an event not below A, then for the marking
+-- 2; 3 for A; 5 for an event not below A, then for the marking, of which a file holds executed, pending
+-- and included
 unfoldable pub judgedHead : List ℕ → Answer
 judgedHead bytes =
     when non (opensWith letters bytes) then WrongLetters
     else when ltb mostActivities (activitiesIn bytes) then AboveLimit
     else when non (within (eventsIn bytes) (those (λ a. ltb a (activitiesIn bytes)))) then Outside
-    else when non (markingWithin (eventsIn bytes) (markingIn bytes)) then Outside
+    else when non (stateWithin (eventsIn bytes) (stateIn bytes)) then Outside
     else Done
 
 -- an entry: 3 for its number of rows, then 4 for its offset, which is in bytes from the first row on

@@ -11,7 +11,7 @@ use Rattle.sets.specs.Answers.{isDone, thenAsk}
 use Rattle.sets.specs.declared.set.Set.{Set}
 use Rattle.sets.specs.declared.answer.Answer.{Answer}
 use Rattle.sets.specs.declared.answer.Answer.the-variants.{Done, BufferTooSmall}
-use Rattle.engine.specs.declared.marking.Marking.{Marking}
+use Rattle.engine.specs.declared.marking.State.{State}
 use Rattle.engine.specs.declared.graph.Head.{Head}
 use Rattle.engine.specs.declared.graph.Graph.{Graph}
 use Rattle.engine.specs.Relations.{relationCount}
@@ -65,18 +65,18 @@ relationsBytes tables zero = []
 relationsBytes tables (suc r) = relationsBytes tables r ++ relationBytes (tableAt tables r)
 
 -- executed, pending, included
-unfoldable pub markingBytes : Marking → List ℕ
-markingBytes m = setBytes (m .executed) ++ setBytes (m .pending) ++ setBytes (m .included)
+unfoldable pub stateBytes : State → List ℕ
+stateBytes s = setBytes (s .executed) ++ setBytes (s .pending) ++ setBytes (s .included)
 
 -- the letters, the edition, A and the four sets
 unfoldable pub headBytes : Head → List ℕ
-headBytes h = letters ++ (h .activities ∷ []) ++ setBytes (h .events) ++ markingBytes (h .opening)
+headBytes h = letters ++ (h .activities ∷ []) ++ setBytes (h .events) ++ stateBytes (h .opening .state)
 
 -- the whole file
 unfoldable pub bytesOf : Graph → List ℕ
 bytesOf g = headBytes (g .head) ++ entriesBytes (g .relations) relationCount ++ relationsBytes (g .relations) relationCount
 
--- a write into so many bytes: 3 and 5 for the graph, then 7
+-- a write into so many bytes: 3, 5 and 16 for the graph, then 7
 unfoldable pub judgedWrite : Graph → ℕ → Answer
 judgedWrite g space = thenAsk (judged g) (when ltb space (length (bytesOf g)) then BufferTooSmall else Done)
 

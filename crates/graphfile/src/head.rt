@@ -1,14 +1,15 @@
-// The head of a graph by itself, as 33 bytes: A, events, executed, pending, included, as in a graph file from byte 3 on. For callers that
-// keep the relations elsewhere.
+// The head of a graph by itself, as 41 bytes: A, events, executed, pending, included, as in a graph file from byte 3 on, and enabled. For
+// callers that keep the relations elsewhere.
 ghost use mathlib.Core.Path.{_≡_};
 ghost use Rattle.graphfile.specs.Heads.{headFrom};
 use crate::layout;
+use crate::marking;
 use engine::Head;
 
 // How many bytes a head has.
-pub const LENGTH: usize = 33;
+pub const LENGTH: usize = 9 + marking::LENGTH;
 
-// The head in the first bytes; the empty one where there are fewer than 33.
+// The head in the first bytes; the empty one where there are too few.
 pub fn read_head(bytes: &[u8]) -> Head
     ensures { λ r. ⌜ r ≡ headFrom (now (bytes .entry)) ⌝ }
 {

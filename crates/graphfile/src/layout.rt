@@ -2,11 +2,16 @@
 ghost use mathlib.Core.Path.{_≡_};
 ghost use Prim.Native.Nat.{_+_, _*_, _≤_, _<_};
 ghost use lib.ListN.{length};
-ghost use Rattle.graphfile.specs.Layout.{headLength, rowLength, setAt, markingAt, markingIn, headAt, headIn, offsetIn, countIn, earlierRows, keyIn, rowIn};
+ghost use Rattle.graphfile.specs.Layout.{headLength, rowLength, setAt, stateAt, stateIn, markingAt, headAt, headIn, offsetIn, countIn, earlierRows, keyIn, rowIn};
+ghost use Rattle.graphfile.specs.Markings.{markingLength};
+ghost use Rattle.graphfile.specs.Heads.{loneHeadLength};
 ghost use Rattle.engine.specs.Relations.{relationCount};
 use crate::number::number_at;
 use engine::Head;
 use engine::Marking;
+use engine::Relations;
+use engine::State;
+use engine::enabled;
 use engine::graph::KINDS;
 use sets::Set;
 
@@ -46,27 +51,38 @@ pub(crate) fn set_at(bytes: &[u8], at: usize) -> Set
     }
 }
 
-// A marking in 24 bytes from a place on: executed, pending, included.
-pub(crate) fn marking_at(bytes: &[u8], at: usize) -> Marking
+// What a file holds of a marking, in 24 bytes from a place on: executed, pending, included.
+fn state_at(bytes: &[u8], at: usize) -> State
     requires { ⌜ at + 24 ≤ length (now bytes) ⌝ }
-    ensures { λ r. ⌜ r ≡ markingAt (now (bytes .entry)) at ⌝ }
+    ensures { λ r. ⌜ r ≡ stateAt (now (bytes .entry)) at ⌝ }
 {
     let executed = set_at(bytes, at);
     let pending = set_at(bytes, at + 8);
     let included = set_at(bytes, at + 16);
-    Marking::of(executed, pending, included)
+    State::of(executed, pending, included)
 }
 
-pub(crate) fn marking_in(bytes: &[u8]) -> Marking
+pub(crate) fn state_in(bytes: &[u8]) -> State
     requires { ⌜ headLength ≤ length (now bytes) ⌝ }
-    ensures { λ r. ⌜ r ≡ markingIn (now (bytes .entry)) ⌝ }
+    ensures { λ r. ⌜ r ≡ stateIn (now (bytes .entry)) ⌝ }
 {
-    marking_at(bytes, EXECUTED)
+    state_at(bytes, EXECUTED)
 }
 
-// A, the events and the marking in 33 bytes from a place on.
+// A marking by itself, in 32 bytes from a place on: the enabled activities too.
+pub(crate) fn marking_at(bytes: &[u8], at: usize) -> Marking
+    requires { ⌜ at + markingLength ≤ length (now bytes) ⌝ }
+    ensures { λ r. ⌜ r ≡ markingAt (now (bytes .entry)) at ⌝ }
+{
+    Marking {
+        state: state_at(bytes, at),
+        enabled: set_at(bytes, at + 24),
+    }
+}
+
+// A, the events and such a marking from a place on.
 pub(crate) fn head_at(bytes: &[u8], at: usize) -> Head
-    requires { ⌜ at + 33 ≤ length (now bytes) ⌝ }
+    requires { ⌜ at + loneHeadLength ≤ length (now bytes) ⌝ }
     ensures { λ r. ⌜ r ≡ headAt (now (bytes .entry)) at ⌝ }
 {
     Head {
@@ -76,11 +92,18 @@ pub(crate) fn head_at(bytes: &[u8], at: usize) -> Head
     }
 }
 
-pub(crate) fn head_in(bytes: &[u8]) -> Head
+// The head of a file whose relations have been read: its set of enabled activities follows from them.
+pub(crate) fn head_in(bytes: &[u8], relations: &Relations) -> Head
     requires { ⌜ headLength ≤ length (now bytes) ⌝ }
-    ensures { λ r. ⌜ r ≡ headIn (now (bytes .entry)) ⌝ }
+    ensures { λ r. ⌜ r ≡ headIn (now (bytes .entry)) (now (relations .entry)) ⌝ }
 {
-    head_at(bytes, ACTIVITIES)
+    let events = set_at(bytes, EVENTS);
+    let state = state_in(bytes);
+    Head {
+        activities: bytes[ACTIVITIES],
+        events,
+        opening: enabled::marked(events, relations, state),
+    }
 }
 
 pub(crate) fn offset_in(bytes: &[u8], r: usize) -> usize

@@ -97,7 +97,7 @@ pub fn read(bytes: &[u8]) -> Reading
     let mut head = Head::EMPTY;
     let answer = take(bytes, &mut relations);
     if answer.is_done() {
-        head = layout::head_in(bytes);
+        head = layout::head_in(bytes, &relations);
     } else {
         relations = [0; KINDS as usize * WIDTH];
     }

@@ -7,7 +7,7 @@ ghost use Rattle.engine.specs.Relations.{relationCount};
 ghost use Rattle.sets.specs.Answers.{firstRefusal};
 ghost use Rattle.graphfile.specs.Refusals.{judgedHead, judgedEntry, judgedEnd, judgedBeforeRows, rises, rowAnswer};
 use crate::layout;
-use engine::judge::marking_within;
+use engine::judge::state_within;
 use sets::Activity;
 use sets::Answer;
 use sets::Set;
@@ -31,7 +31,7 @@ fn judge_head(bytes: &[u8]) -> Answer
     if !events.is_within(Set::below(activities)) {
         return Answer::Outside;
     }
-    if !marking_within(events, layout::marking_in(bytes)) {
+    if !state_within(events, layout::state_in(bytes)) {
         return Answer::Outside;
     }
     Answer::Done

@@ -9,13 +9,13 @@ ghost use Rattle.sets.specs.Tables.{tableAt};
 ghost use Rattle.engine.specs.Relations.{relationCount, graphOf};
 ghost use Rattle.graphfile.specs.Layout.{letters, headLength, rowLength};
 ghost use Rattle.graphfile.specs.Writing.{rowsFor, rowOf, rowCount, rowsBefore, relationBytes};
-ghost use Rattle.graphfile.specs.Writing.{entryBytes, entriesBytes, markingBytes, headBytes, relationsBytes, bytesOf, writtenOf, fileAfter};
+ghost use Rattle.graphfile.specs.Writing.{entryBytes, entriesBytes, stateBytes, headBytes, relationsBytes, bytesOf, writtenOf, fileAfter};
 use crate::layout;
 use crate::number::put_number;
 use engine::Graph;
 use engine::Head;
-use engine::Marking;
 use engine::Relations;
+use engine::State;
 use engine::graph::KINDS;
 use engine::judge::judge_for;
 use sets::Activity;
@@ -110,14 +110,14 @@ fn put_letters(out: &mut [u8], activities: u8)
     out[layout::ACTIVITIES] = activities;
 }
 
-// Stores a marking: executed, pending, included.
-pub(crate) fn put_marking(out: &mut [u8], at: usize, m: Marking)
+// Stores what a file holds of a marking: executed, pending, included.
+pub(crate) fn put_state(out: &mut [u8], at: usize, s: State)
     requires { ⌜ at + 24 ≤ length (now out) ⌝ }
-    ensures { λ _. ⌜ now (out .exit) ≡ sets (now (out .entry)) at (markingBytes m) ⌝ }
+    ensures { λ _. ⌜ now (out .exit) ≡ sets (now (out .entry)) at (stateBytes s) ⌝ }
 {
-    put_number(out, at, 8, m.executed.bits);
-    put_number(out, at + 8, 8, m.pending.bits);
-    put_number(out, at + 16, 8, m.included.bits);
+    put_number(out, at, 8, s.executed.bits);
+    put_number(out, at + 8, 8, s.pending.bits);
+    put_number(out, at + 16, 8, s.included.bits);
 }
 
 // Stores the letters, the edition, A and the four sets.
@@ -127,7 +127,7 @@ fn put_head(out: &mut [u8], head: Head)
 {
     put_letters(out, head.activities);
     put_number(out, layout::EVENTS, 8, head.events.bits);
-    put_marking(out, layout::EXECUTED, head.opening);
+    put_state(out, layout::EXECUTED, head.opening.state);
 }
 
 // Stores an entry: where the relation's rows begin, counted in bytes from the first row, and how many there are.

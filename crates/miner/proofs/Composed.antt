@@ -11,8 +11,10 @@ use Rattle.sets.specs.Tables.{noTables, tableAt, withTable}
 use Rattle.sets.specs.declared.set.Set.{Set}
 use Rattle.sets.proofs.RowLaws.{length-rowsOf}
 use Rattle.engine.specs.Markings.{openingOf}
-use Rattle.engine.specs.Relations.{relationCount, headOf, graphOf}
+use Rattle.engine.specs.Relations.{relationCount, headOf, graphOf, inTables}
+use Rattle.engine.specs.declared.marking.State.{State}
 use Rattle.engine.specs.declared.marking.Marking.{Marking}
+use Rattle.engine.specs.Enabled.{marked, graphAt}
 use Rattle.engine.specs.declared.graph.Graph.{Graph}
 use Rattle.rules.specs.declared.Profile.{Profile}
 use Rattle.rules.specs.declared.Profile.the-variants.{Full, Light}
@@ -182,7 +184,7 @@ tally-by L events p none tally t t′ h₀ ht h long =
     (ht ∙ ap (λ (x : List ℕ). through noted x L) h₀)
 
 -- steps 9 and 10, and the head
-module _ (A : ℕ) (L : Traces) (p : Profile) (events : Set) (t₁ t₂ t₃ : List ℕ) (opening : Marking) where
+module _ (A : ℕ) (L : Traces) (p : Profile) (events : Set) (t₁ t₂ t₃ : List ℕ) (s : State) (opening : Marking) where
   abbrev eight : List ℕ
   eight = eightOf L events (tallied L) p
 
@@ -203,9 +205,9 @@ module _ (A : ℕ) (L : Traces) (p : Profile) (events : Set) (t₁ t₂ t₃ : L
       → t₂ ≡ withTable t₁ 0
       (nineFrom (withTable noRows 0 (tableAt t₁ 0)) (withTable noRows 0 (tableAt t₁ 2)) (withTable noRows 0 (tableAt t₁ 3)))
       → t₃ ≡ withTable t₂ 0 (rowsFor events (reducedOf (withTable noRows 0 (tableAt t₂ 0))))
-      → opening ≡ openingOf events → graphOf (headOf A events opening) t₃ ≡ graphFound A L p
+      → s ≡ openingOf events → opening ≡ marked events (inTables t₃) s → graphOf (headOf A events opening) t₃ ≡ graphFound A L p
   unfolding graphFound
-  found-by hv h₁ h₂ h₃ ho =
+  found-by hv h₁ h₂ h₃ hs ho =
       let four = eight-four L events (tallied L) p in
       let is = h₁ (length-replicate {A = ℕ} (relationCount * width) 0) in
       let one : Held t₁ eight (answersOf L events (tallied L) p) included excluding = subst (λ (x : List ℕ). Held x eight
@@ -219,5 +221,6 @@ module _ (A : ℕ) (L : Traces) (p : Profile) (events : Set) (t₁ t₂ t₃ : L
       (h₃ ∙ ap (λ (x : List ℕ). withTable t₂ 0 (rowsFor events (reducedOf x)))
       (taken-from t₂ 0 _ (nine .conditions) (length-for events _))) in
       let all = held-is _ _ _ _ (length-for events _) (length-for events _) (length-includes L events (tallied L) p) (length-for events _) t₃ ten in
-      (λ i. graphOf (headOf A events (ho i)) (all i))
-      ∙ ap (λ (v : Set). graphOf (headOf A v (openingOf v)) (tablesRead L v (tallied L) p)) hv
+      (λ i. graphOf (headOf A events (ho i)) t₃)
+      ∙ (λ i. graphAt A events (hs i) (all i))
+      ∙ ap (λ (v : Set). graphAt A v (openingOf v) (tablesRead L v (tallied L) p)) hv

@@ -14,6 +14,7 @@ use Rattle.sets.proofs.RowLaws.{rowsOf-ext}
 use Rattle.sets.proofs.TableLaws.{tablesOf-ext, empty-tablesOf, fill-tablesOf}
 use Rattle.engine.specs.Relations.{Relations, relationCount, headOf, graphOf, kept, tablesFrom}
 use Rattle.engine.specs.Markings.{openingOf}
+use Rattle.engine.specs.Enabled.{graphAt}
 use Rattle.rules.specs.declared.Profile.{Profile}
 use Rattle.rules.specs.declared.Profile.the-variants.{Full, Light}
 use Rattle.rules.specs.Traces.{Traces}
@@ -98,6 +99,6 @@ module _ (L : Traces) where
         (ap₂ (λ (x y : List ℕ). through (λ r σ. forward (gains (missed (events L) x y)) r [] σ) noRows L) (includes-are p)
         (excludes-mined L p) ∙ missed-are) in
         (λ i.
-        graphOf (headOf A (events L) (openingOf (events L)))
+        graphAt A (events L) (openingOf (events L))
         (fourTables (conditions-are i) (responses-mined L p i) (includes-are p i) (excludes-mined L p i)))
-        ∙ ap (graphOf (headOf A (events L) (openingOf (events L)))) (four-tables (mined L p))
+        ∙ ap (graphAt A (events L) (openingOf (events L))) (four-tables (mined L p))

@@ -7,7 +7,8 @@ use Rattle.sets.specs.Rows.{noRows, rowsOf, rowsFor, turned}
 use Rattle.sets.specs.Tables.{noTables, tableAt, withTable}
 use Rattle.sets.specs.declared.set.Set.{Set}
 use Rattle.engine.specs.Markings.{openingOf}
-use Rattle.engine.specs.Relations.{relationCount, headOf, graphOf}
+use Rattle.engine.specs.Relations.{relationCount}
+use Rattle.engine.specs.Enabled.{graphAt}
 use Rattle.engine.specs.declared.graph.Graph.{Graph}
 use Rattle.rules.specs.declared.Profile.{Profile}
 use Rattle.rules.specs.declared.Profile.the-variants.{Full, Light}
@@ -85,4 +86,4 @@ tablesRead L events tally p = tablesAfterSix L events tally (includesSix p event
 
 -- the graph, from the traces
 unfoldable pub graphFound : ℕ → Traces → Profile → Graph
-graphFound A L p = graphOf (headOf A (those (event L)) (openingOf (those (event L)))) (tablesRead L (those (event L)) (tallied L) p)
+graphFound A L p = graphAt A (those (event L)) (openingOf (those (event L))) (tablesRead L (those (event L)) (tallied L) p)

@@ -20,8 +20,9 @@ use crate::excludes;
 use crate::includes;
 use engine::Graph;
 use engine::Head;
-use engine::Marking;
 use engine::Relations;
+use engine::State;
+use engine::enabled;
 use engine::graph::KINDS;
 use engine::graph::RESPONSES;
 use rules::Profile;
@@ -144,7 +145,7 @@ fn graph_found(bytes: &[u8], activities: u8, traces: usize, profile: Profile) ->
         head: Head {
             activities,
             events,
-            opening: Marking::opening(events),
+            opening: enabled::marked(events, &found, State::opening(events)),
         },
         relations: found,
     }

@@ -31,6 +31,10 @@ pair-is p s t l =
     let same : p ≡ pairOf s t = omega arith in
     eqb-of same)
 
+-- what the code asks, turned round
+pub is-not : (a r : Bool) → r ≡ a → not r ≡ non a
+is-not a r h = not-non r ∙ ap non h
+
 -- what the code asks of an activity that was taken out of a pair
 
 module _ (p a : ℕ) (s : Set) (r : Bool) where
@@ -41,7 +45,7 @@ module _ (p a : ℕ) (s : Set) (r : Bool) where
   at-target h k = k ∙ ap (mem s) h
 
   pub not-at-source : a ≡ sourceOf p → r ≡ mem s a → not r ≡ non (mem s (sourceOf p))
-  not-at-source h k = not-non r ∙ ap non (at-source h k)
+  not-at-source h k = is-not (mem s (sourceOf p)) r (at-source h k)
 
 module _ (p a e : ℕ) (h : a ≡ targetOf p) where
   pub is-target : a ≡ e → true ≡ eqb (targetOf p) e

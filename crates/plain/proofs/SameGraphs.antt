@@ -13,12 +13,10 @@ use Rattle.sets.specs.Tests.{_and_, _or_, non, when_then_else_}
 use Rattle.sets.specs.Members.{width, mem, everyBelow, isEmpty}
 use Rattle.sets.specs.Rows.{Relation, rowAt, inRow}
 use Rattle.sets.specs.Tables.{tableAt}
-use Rattle.sets.specs.Answers.{isDone, thenAsk}
+use Rattle.sets.specs.Answers.{isDone}
 use Rattle.sets.specs.declared.set.Set.{Set}
-use Rattle.sets.specs.declared.answer.Answer.{Answer}
-use Rattle.sets.specs.declared.answer.Answer.the-variants.{Done, AboveLimit, Outside}
 use Rattle.sets.proofs.Tests.{and-l, and-r, and-i, or-e, or-l, or-r, T-ext, T-eq, T→true, F→false, true→T, false→F, non-i, non-e, split}
-use Rattle.sets.proofs.Tests.{either, and-true, true-and, false-and}
+use Rattle.sets.proofs.Tests.{either, and-true, true-and, false-and, or-false}
 use Rattle.sets.proofs.Below.{every-i, every-e}
 use Rattle.sets.proofs.Members.{within-e, within-i, empty-e, mem-none}
 use Rattle.sets.proofs.RowLaws.{row-out}
@@ -28,17 +26,18 @@ use Rattle.engine.specs.declared.graph.Graph.{Graph}
 use Rattle.engine.specs.Markings.{emptyMarking}
 use Rattle.engine.specs.Relations.{graphOf, relationsOf}
 use Rattle.engine.specs.Steps.{enabled, after, accepting}
-use Rattle.engine.specs.Judged.{markingWithin, rowWithin, rowsWithin, relationsWithin, headWithin, graphWithin, judgedFor, judgedWith}
+use Rattle.engine.specs.Enabled.{isTrue}
+use Rattle.engine.specs.Judged.{stateWithin, rowWithin, rowsWithin, relationsWithin, headWithin, graphWithin, found, judgedFor, judgedWith}
 use Rattle.engine.specs.Replay.{enabledOf, steppedOf, acceptingOf, ending, replayFrom, replayOf}
 use Rattle.plain.specs.Pairs.{mostPairs, pairOf, sourceOf, targetOf, isAmong, inPairs, everyIn, pairWithin, pairsWithin}
 use Rattle.plain.specs.Graphs.{PlainGraph, plainOf, plainRelations, listFits, listsFit, listsWithin, plainWithin, plainJudgedFor}
-use Rattle.plain.specs.Graphs.{plainJudgedWith}
+use Rattle.plain.specs.Graphs.{plainAbove, plainJudgedWith}
 use Rattle.plain.specs.Results.{plainEnabledOf, plainSteppedOf, plainAcceptingOf, plainReplayOf}
 use Rattle.plain.specs.Filling.{relationAt, pairsOf}
 use Rattle.plain.specs.Same.{pairIn, Holds, SameMembers, InLists, SameLists}
 use Rattle.plain.proofs.PairLaws.{every-in-i, every-in-e}
 use Rattle.plain.proofs.Putting.{pairs-fit, pairs-hold}
-use Rattle.plain.proofs.SameResults.{BySource, ByTarget, Agree, replay-same, asked-same, stepped-same}
+use Rattle.plain.proofs.SameResults.{BySource, ByTarget, Agree, true-same, replay-same, asked-same, stepped-same}
 
 -- ---- a pair taken apart
 
@@ -199,19 +198,28 @@ module _ (head : Head) (tables c r i x : List ℕ) (same : InLists tables c r i 
       ∙ regroup (headWithin head) (pairsWithin (head .events) c) (pairsWithin (head .events) r) (pairsWithin (head .events) i)
       (pairsWithin (head .events) x)
 
+  -- no list is too long, so nothing is above its limit that was not
+  above-same : (n : ℕ) → (ltb mostActivities (head .activities) or ltb longestTrace n) ≡ plainAbove p n
+  unfolding plainAbove non
+  above-same n =
+      sym
+      (ap (λ (t : Bool). ltb mostActivities (head .activities) or ltb longestTrace n or non t) (T→true (listsFit c r i x) (same .fit))
+      ∙ or-false (ltb mostActivities (head .activities) or ltb longestTrace n))
+
+  truth : (m : Marking) → isTrue (head .events) (relationsOf g) m ≡ isTrue (head .events) (plainRelations p) m
+  truth m = true-same (head .events) (relationsOf g) (plainRelations p) agree m
+
   judged-same : (n : ℕ) → judgedFor g n ≡ plainJudgedFor p n
-  unfolding judgedFor plainJudgedFor non
-  judged-same n =
-      let late : (when non (graphWithin g) then Outside else Done)
-      ≡ (when non (listsFit c r i x) then AboveLimit else when non (plainWithin p) then Outside else Done) =
-      ap (λ (t : Bool). when non t then Outside else Done) within-same
-      ∙ sym (ap (λ (t : Bool). when non t then AboveLimit else when non (plainWithin p) then Outside else Done)
-      (T→true (listsFit c r i x) (same .fit))) in
-      λ j. when ltb mostActivities (head .activities) then AboveLimit else when ltb longestTrace n then AboveLimit else late j
+  unfolding judgedFor plainJudgedFor
+  judged-same n = let opens = truth (head .opening) in λ j. found (above-same n j) (within-same j) (opens j)
 
   beside-same : (m : Marking) → judgedWith g m ≡ plainJudgedWith p m
   unfolding judgedWith plainJudgedWith
-  beside-same m j = thenAsk (judged-same 0 j) (when markingWithin (head .events) m then Done else Outside)
+  beside-same m =
+      let opens = truth (head .opening) in
+      let tells = truth m in
+      let above = sym (or-false (ltb mostActivities (head .activities))) ∙ above-same 0 in
+      λ j. found (above j) (within-same j and stateWithin (head .events) (m .state)) (opens j and tells j)
 
   -- every graph value, accepted or not; every marking; every activity from 0 to 255; every trace of bytes
   pub lists-enabled : (m : Marking) (e : ℕ) → e < 256 → enabledOf g m e ≡ plainEnabledOf p m e
@@ -224,13 +232,13 @@ module _ (head : Head) (tables c r i x : List ℕ) (same : InLists tables c r i 
 
   pub lists-accepting : (m : Marking) → acceptingOf g m ≡ plainAcceptingOf p m
   unfolding acceptingOf plainAcceptingOf
-  lists-accepting m j = record { answer = beside-same m j; accepting = isDone (beside-same m j) and accepting m }
+  lists-accepting m j = record { answer = beside-same m j; accepting = isDone (beside-same m j) and accepting (m .state) }
 
   pub lists-replay : (trace : List ℕ) → ((k : ℕ) → getD trace k 0 < 256) → replayOf g trace ≡ plainReplayOf p trace
   unfolding replayOf plainReplayOf
   lists-replay trace bytes =
       let judged = judged-same (length trace) in
-      let rest = replay-same (head .events) (relationsOf g) (plainRelations p) agree (head .opening) 0 trace bytes in
+      let rest = replay-same (head .events) (relationsOf g) (plainRelations p) agree (head .opening .state) 0 trace bytes in
       λ j. when isDone (judged j) then rest j else ending (judged j) 0 emptyMarking false
 
 -- ---- lists that hold the same
@@ -257,25 +265,35 @@ module _ (head : Head) (c r i x c′ r′ i′ x′ : List ℕ) (same : SameList
       (λ t. every-in-i b (pairWithin (head .events)) (λ p k. every-in-e a (pairWithin (head .events)) t p (T-eq (sym (h p)) k)))
       (λ t. every-in-i a (pairWithin (head .events)) (λ p k. every-in-e b (pairWithin (head .events)) t p (T-eq (h p) k)))
 
-  alike-judged : (n : ℕ) → plainJudgedFor one n ≡ plainJudgedFor other n
-  unfolding plainJudgedFor plainWithin listsWithin
-  alike-judged n =
+  alike-above : (n : ℕ) → plainAbove one n ≡ plainAbove other n
+  unfolding plainAbove
+  alike-above n =
       let fits : listsFit c r i x ≡ listsFit c′ r′ i′ x′ =
       T→true (listsFit c r i x) (same .fit) ∙ sym (T→true (listsFit c′ r′ i′ x′) (same .fit′)) in
+      λ j. ltb mostActivities (head .activities) or ltb longestTrace n or non (fits j)
+
+  alike-within : plainWithin one ≡ plainWithin other
+  unfolding plainWithin listsWithin
+  alike-within =
       let wc = pairs-same c c′ (same .conditions) in
       let wr = pairs-same r r′ (same .responses) in
       let wi = pairs-same i i′ (same .includes) in
       let wx = pairs-same x x′ (same .excludes) in
-      λ j.
-      when ltb mostActivities (head .activities) then AboveLimit
-      else when ltb longestTrace n then AboveLimit
-      else when non (fits j) then AboveLimit
-      else when non (headWithin head and (wc j and wr j and wi j and wx j)) then Outside
-      else Done
+      λ j. headWithin head and (wc j and wr j and wi j and wx j)
+
+  alike-true : (m : Marking) → isTrue (head .events) (plainRelations one) m ≡ isTrue (head .events) (plainRelations other) m
+  alike-true m = true-same (head .events) (plainRelations one) (plainRelations other) alike m
+
+  alike-judged : (n : ℕ) → plainJudgedFor one n ≡ plainJudgedFor other n
+  unfolding plainJudgedFor
+  alike-judged n = let opens = alike-true (head .opening) in λ j. found (alike-above n j) (alike-within j) (opens j)
 
   alike-beside : (m : Marking) → plainJudgedWith one m ≡ plainJudgedWith other m
   unfolding plainJudgedWith
-  alike-beside m j = thenAsk (alike-judged 0 j) (when markingWithin (head .events) m then Done else Outside)
+  alike-beside m =
+      let opens = alike-true (head .opening) in
+      let tells = alike-true m in
+      λ j. found (alike-above 0 j) (alike-within j and stateWithin (head .events) (m .state)) (opens j and tells j)
 
   pub alike-enabled : (m : Marking) (e : ℕ) → e < 256 → plainEnabledOf one m e ≡ plainEnabledOf other m e
   unfolding plainEnabledOf
@@ -287,13 +305,13 @@ module _ (head : Head) (c r i x c′ r′ i′ x′ : List ℕ) (same : SameList
 
   pub alike-accepting : (m : Marking) → plainAcceptingOf one m ≡ plainAcceptingOf other m
   unfolding plainAcceptingOf
-  alike-accepting m j = record { answer = alike-beside m j; accepting = isDone (alike-beside m j) and accepting m }
+  alike-accepting m j = record { answer = alike-beside m j; accepting = isDone (alike-beside m j) and accepting (m .state) }
 
   pub alike-replay : (trace : List ℕ) → ((k : ℕ) → getD trace k 0 < 256) → plainReplayOf one trace ≡ plainReplayOf other trace
   unfolding plainReplayOf
   alike-replay trace bytes =
       let judged = alike-judged (length trace) in
-      let rest = replay-same (head .events) (plainRelations one) (plainRelations other) alike (head .opening) 0 trace bytes in
+      let rest = replay-same (head .events) (plainRelations one) (plainRelations other) alike (head .opening .state) 0 trace bytes in
       λ j. when isDone (judged j) then rest j else ending (judged j) 0 emptyMarking false
 
 -- ---- what `fill` puts down

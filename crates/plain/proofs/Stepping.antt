@@ -19,24 +19,40 @@ use Rattle.sets.specs.declared.answer.Answer.the-variants.{Waiting}
 use Rattle.sets.proofs.Tests.{and-l, and-r, and-i, T-ext, T→true, F→false, eqb-of, split}
 use Rattle.sets.proofs.Below.{some-e, least-only, some-least}
 use Rattle.sets.proofs.Members.{Fits, is-those, those-ext, those-of}
+use Rattle.engine.specs.declared.marking.State.{State}
 use Rattle.engine.specs.declared.marking.Marking.{Marking}
-use Rattle.engine.specs.Markings.{markingOf}
+use Rattle.engine.specs.Markings.{stateOf}
 use Rattle.engine.specs.Relations.{Relations}
 use Rattle.engine.specs.Steps.{blocking, waits, blocker, enabled, after}
+use Rattle.engine.specs.Enabled.{enabledSet, marked, isTrue}
 use Rattle.plain.specs.Pairs.{pairOf, sourceOf, targetOf, someIn, isAmong, inPairs, blocks}
 use Rattle.plain.specs.Graphs.{inLists}
 use Rattle.plain.proofs.PairLaws.{pair-is, stands, some-last}
 
 -- ---- a rule that reads one relation reads it from its list alone
 
-module _ (c r i x : List ℕ) (m : Marking) (e : ℕ) where
+module _ (c r i x : List ℕ) (m : State) (e : ℕ) where
   pub ask-alone : (events : Set) (a : Answer) → a ≡ enabled events (inLists c [] [] []) m e → a ≡ enabled events (inLists c r i x) m e
   unfolding enabled waits blocker
   ask-alone events a h = h
 
-  pub next-alone : (n : Marking) → n ≡ after (inLists [] r i x) m e → n ≡ after (inLists c r i x) m e
+  pub next-alone : (n : State) → n ≡ after (inLists [] r i x) m e → n ≡ after (inLists c r i x) m e
   unfolding after
   next-alone n h = h
+
+module _ (c r i x : List ℕ) (events : Set) where
+  pub marked-alone : (s : State) (n : Marking) → n ≡ marked events (inLists c [] [] []) s → n ≡ marked events (inLists c r i x) s
+  unfolding enabledSet enabled waits blocker
+  marked-alone s n h = h
+
+  pub true-alone : (m : Marking) (t : Bool) → t ≡ isTrue events (inLists c [] [] []) m → t ≡ isTrue events (inLists c r i x) m
+  unfolding isTrue enabledSet enabled waits blocker
+  true-alone m t h = h
+
+  pub both-alone : (m m′ : Marking) (t : Bool) → t ≡ (isTrue events (inLists c [] [] []) m and isTrue events (inLists c [] [] []) m′)
+      → t ≡ (isTrue events (inLists c r i x) m and isTrue events (inLists c r i x) m′)
+  unfolding isTrue enabledSet enabled waits blocker
+  both-alone m m′ t h = h
 
 -- ---- waiting
 
@@ -48,9 +64,9 @@ module _ (p a n : ℕ) (h : a ≡ sourceOf p) where
   pub source-not-below : n ≤ a → false ≡ ltb (sourceOf p) n
   source-not-below l = sym (ap (λ (k : ℕ). ltb k n) (sym h) ∙ le-ltb a n l)
 
-module _ (c : List ℕ) (m : Marking) (e : ℕ) where
+module _ (c : List ℕ) (m : State) (e : ℕ) where
   -- a blocking pair has a blocking source
-  from-pair : (p : ℕ) → T (isAmong c p) → T (blocks m e p) → T (blocking (inLists c [] [] []) m e (sourceOf p))
+  pub from-pair : (p : ℕ) → T (isAmong c p) → T (blocks m e p) → T (blocking (inLists c [] [] []) m e (sourceOf p))
   unfolding blocks
   from-pair p h t =
       let target = eqb→eq (targetOf p) e (and-l _ _ (and-l _ _ t)) in
@@ -58,7 +74,7 @@ module _ (c : List ℕ) (m : Marking) (e : ℕ) where
       and-i _ _ (and-i _ _ (subst (λ (k : ℕ). T (isAmong c k)) same h) (and-r _ _ (and-l _ _ t))) (and-r _ _ t)
 
   -- and a blocking source has its pair
-  to-pair : (s : ℕ) → e < 256 → T (blocking (inLists c [] [] []) m e s) → T (blocks m e (pairOf s e))
+  pub to-pair : (s : ℕ) → e < 256 → T (blocking (inLists c [] [] []) m e s) → T (blocks m e (pairOf s e))
   unfolding blocks
   to-pair s l t =
       let source : s ≡ sourceOf (pairOf s e) = omega arith in
@@ -125,7 +141,7 @@ module _ (c : List ℕ) (m : Marking) (e : ℕ) where
 
 -- ---- 10 and its blocker, where the walk has given b
 
-module _ (r : Relations) (m : Marking) (e : ℕ) (b : Activity) (h : b .0 ≡ leastBelow width (blocking r m e)) where
+module _ (r : Relations) (m : State) (e : ℕ) (b : Activity) (h : b .0 ≡ leastBelow width (blocking r m e)) where
   pub waits-below : b .0 < width → true ≡ waits r m e
   unfolding waits
   waits-below l = sym (some-least width (blocking r m e) ∙ ap (λ (n : ℕ). ltb n width) (sym h) ∙ lt-ltb (b .0) width l)
@@ -138,8 +154,8 @@ module _ (r : Relations) (m : Marking) (e : ℕ) (b : Activity) (h : b .0 ≡ le
   unfolding blocker
   blocker-is i = Waiting (record { 0 = h i })
 
--- ---- a set that gains or loses the targets of e, one pair after another: both are an operation f that takes a test to what it was
--- unless some pair has it
+-- ---- a set that gains or loses members, one pair after another: both are an operation f that takes a test to what it was unless some pair
+-- changes it
 
 pub or-more : (a b c : Bool) → (a or b or c) ≡ (a or (b or c))
 unfolding _or_
@@ -189,45 +205,49 @@ module _ (f : Bool → Bool → Bool) (none : (a : Bool) → f a false ≡ a) (m
         turned : (b : ℕ) → eqb b t ≡ eqb (targetOf p) b
         turned b = T-ext _ _ (λ y. eqb-of (sym k ∙ sym (eqb→eq b t y))) (λ y. eqb-of (sym (k ∙ eqb→eq (targetOf p) b y)))
 
-  module _ (s : Set) (pairs : List ℕ) (e : ℕ) where
+  -- by k, pair p changes b where q k p b
+  module _ {K : Type 0} (q : K → ℕ → ℕ → Bool) (s : Set) (pairs : List ℕ) (k : K) where
     -- after the first i pairs
     abbrev pub soFar : ℕ → Set
-    soFar i = those (λ b. f (mem s b) (someBelow i (λ j. eqb (getD pairs j 0) (pairOf e b))))
+    soFar i = those (λ b. f (mem s b) (someBelow i (λ j. q k (getD pairs j 0) b)))
 
     pub targets-begin : Fits s → s ≡ soFar 0
     unfolding someBelow
     targets-begin fits = is-those s (λ b. f (mem s b) false) fits (λ b l. sym (none (mem s b)))
 
-    pub targets-next : (i : ℕ) (kept kept′ : Set) → kept ≡ soFar i → kept′ ≡ those (λ b. f (mem kept b) (eqb (getD pairs i 0) (pairOf e b)))
+    pub targets-next : (i : ℕ) (kept kept′ : Set) → kept ≡ soFar i → kept′ ≡ those (λ b. f (mem kept b) (q k (getD pairs i 0) b))
         → kept′ ≡ soFar (i + 1)
-    targets-next i kept kept′ h k =
-        k
-        ∙ those-of kept (λ b. f (mem s b) (someBelow i (λ j. eqb (getD pairs j 0) (pairOf e b))))
-        (λ b y. f y (eqb (getD pairs i 0) (pairOf e b))) h
+    targets-next i kept kept′ h e =
+        e
+        ∙ those-of kept (λ b. f (mem s b) (someBelow i (λ j. q k (getD pairs j 0) b))) (λ b y. f y (q k (getD pairs i 0) b)) h
         ∙ those-ext _ _
         (λ b l.
-        more (mem s b) (someBelow i (λ j. eqb (getD pairs j 0) (pairOf e b))) (eqb (getD pairs i 0) (pairOf e b))
-        ∙ ap (f (mem s b)) (sym (some-last i (λ j. eqb (getD pairs j 0) (pairOf e b)))))
+        more (mem s b) (someBelow i (λ j. q k (getD pairs j 0) b)) (q k (getD pairs i 0) b)
+        ∙ ap (f (mem s b)) (sym (some-last i (λ j. q k (getD pairs j 0) b))))
         ∙ ap soFar (sym (add-one i))
 
-    pub targets-end : (i : ℕ) (kept : Set) → length pairs ≤ i → i ≤ length pairs → kept ≡ soFar i → kept
-        ≡ those (λ b. f (mem s b) (inPairs pairs e b))
-    unfolding isAmong someIn
+    pub targets-end : (i : ℕ) (kept : Set) → length pairs ≤ i → i ≤ length pairs → kept ≡ soFar i
+        → kept ≡ those (λ b. f (mem s b) (someIn pairs (λ p. q k p b)))
+    unfolding someIn
     targets-end i kept l g h = let same : i ≡ length pairs = omega arith in h ∙ ap soFar same
 
--- ---- the marking after a step
+-- the pair of e and b changes b
+abbrev pub leads : ℕ → ℕ → ℕ → Bool
+leads e p b = eqb p (pairOf e b)
 
-module _ (r i x : List ℕ) (m : Marking) (e : ℕ) where
-  pub next-by : (one ex done p left n : Set) (m′ : Marking) → one ≡ those (λ b. eqb b e) → ex
+-- ---- the state after a step
+
+module _ (r i x : List ℕ) (m : State) (e : ℕ) where
+  pub next-by : (one ex done p left n : Set) (m′ : State) → one ≡ those (λ b. eqb b e) → ex
       ≡ those (λ a. mem (m .executed) a or mem one a)
       → done ≡ those (λ a. mem (m .pending) a and non (mem one a)) → p ≡ those (λ a. mem done a or inPairs r e a)
       → left ≡ those (λ a. mem (m .included) a and non (inPairs x e a)) → n ≡ those (λ a. mem left a or inPairs i e a)
-      → m′ ≡ markingOf ex p n → m′ ≡ after (inLists [] r i x) m e
+      → m′ ≡ stateOf ex p n → m′ ≡ after (inLists [] r i x) m e
   unfolding after
   next-by one ex done p left n m′ ho hex hd hp hl hn hm =
       hm
       ∙ (λ j.
-      markingOf
+      stateOf
       ((hex ∙ those-of one (λ b. eqb b e) (λ a t. mem (m .executed) a or t) ho) j)
       ((hp
       ∙ those-of done (λ a. mem (m .pending) a and non (mem one a)) (λ a t. t or inPairs r e a) hd

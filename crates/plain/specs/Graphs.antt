@@ -1,20 +1,19 @@
 -- A graph as the plain engine has it, its head and four lists of pairs; and when it is refused (02, 1/12: a list too long gives 3, a pair
--- outside the events 5, and 3 is tested first).
+-- outside the events 5, and 3 is tested first; 02, 6/12: a marking with a false set gives 16, straight after 5).
 use mathlib.Core.Bool.{Bool}
 use mathlib.Core.List.{List}
 use Prim.Native.Nat.{ℕ}
 use lib.Dec.{ltb}
 use lib.ListN.{length}
 use Rattle.sets.specs.Sizes.{mostActivities, longestTrace}
-use Rattle.sets.specs.Tests.{_and_, non, when_then_else_}
-use Rattle.sets.specs.Answers.{thenAsk}
+use Rattle.sets.specs.Tests.{_and_, _or_, non}
 use Rattle.sets.specs.declared.set.Set.{Set}
 use Rattle.sets.specs.declared.answer.Answer.{Answer}
-use Rattle.sets.specs.declared.answer.Answer.the-variants.{Done, AboveLimit, Outside}
 use Rattle.engine.specs.declared.marking.Marking.{Marking}
 use Rattle.engine.specs.declared.graph.Head.{Head}
 use Rattle.engine.specs.Relations.{Relations}
-use Rattle.engine.specs.Judged.{markingWithin, headWithin}
+use Rattle.engine.specs.Enabled.{isTrue}
+use Rattle.engine.specs.Judged.{stateWithin, headWithin, found}
 use Rattle.plain.specs.Pairs.{mostPairs, inPairs, pairsWithin}
 
 pub record PlainGraph : Type 0 where
@@ -53,15 +52,21 @@ listsWithin events conditions responses includes excludes =
 unfoldable pub plainWithin : PlainGraph → Bool
 plainWithin g = headWithin (g .head) and listsWithin (g .head .events) (g .conditions) (g .responses) (g .includes) (g .excludes)
 
--- 3 for A, for the length of a trace beside it, for a list; then 5 for the graph
-unfoldable pub plainJudgedFor : PlainGraph → ℕ → Answer
-plainJudgedFor g length =
-    when ltb mostActivities (g .head .activities) then AboveLimit
-    else when ltb longestTrace length then AboveLimit
-    else when non (listsFit (g .conditions) (g .responses) (g .includes) (g .excludes)) then AboveLimit
-    else when non (plainWithin g) then Outside
-    else Done
+-- a marking is true on the graph: as on a graph on sets, by the same step rules
+abbrev pub plainTrue : PlainGraph → Marking → Bool
+plainTrue g m = isTrue (g .head .events) (plainRelations g) m
 
--- the graph, then 5 for a marking handed beside it
+-- A, the length of a trace beside it or a list is above its limit
+unfoldable pub plainAbove : PlainGraph → ℕ → Bool
+plainAbove g length =
+    ltb mostActivities (g .head .activities) or ltb longestTrace length
+    or non (listsFit (g .conditions) (g .responses) (g .includes) (g .excludes))
+
+-- 3, then 5 for the graph, then 16 for its opening marking
+unfoldable pub plainJudgedFor : PlainGraph → ℕ → Answer
+plainJudgedFor g length = found (plainAbove g length) (plainWithin g) (plainTrue g (g .head .opening))
+
+-- the graph, with a marking beside it: both are asked for 5 before either is for 16
 unfoldable pub plainJudgedWith : PlainGraph → Marking → Answer
-plainJudgedWith g m = thenAsk (plainJudgedFor g 0) (when markingWithin (g .head .events) m then Done else Outside)
+plainJudgedWith g m =
+    found (plainAbove g 0) (plainWithin g and stateWithin (g .head .events) (m .state)) (plainTrue g (g .head .opening) and plainTrue g m)

@@ -8,7 +8,7 @@ use Rattle.sets.specs.Tests.{_and_, non}
 use Rattle.sets.specs.Members.{mem, someBelow, everyBelow}
 use Rattle.sets.specs.Rows.{Relation}
 use Rattle.sets.specs.declared.set.Set.{Set}
-use Rattle.engine.specs.declared.marking.Marking.{Marking}
+use Rattle.engine.specs.declared.marking.State.{State}
 
 -- how many pairs a list may have
 abbrev pub mostPairs : ℕ
@@ -48,5 +48,5 @@ abbrev pub pairsWithin : Set → List ℕ → Bool
 pairsWithin events pairs = everyIn pairs (pairWithin events)
 
 -- a condition that keeps e waiting: it leads to e, and its source is included and not executed
-unfoldable pub blocks : Marking → ℕ → ℕ → Bool
+unfoldable pub blocks : State → ℕ → ℕ → Bool
 blocks m e p = eqb (targetOf p) e and mem (m .included) (sourceOf p) and non (mem (m .executed) (sourceOf p))

@@ -3,6 +3,7 @@ ghost use mathlib.Core.Path.{_≡_};
 ghost use Rattle.engine.specs.Replay.{replayFrom};
 ghost use Rattle.plain.specs.Graphs.{plainOf, inLists};
 ghost use Rattle.plain.specs.Results.{plainReplayOf};
+use crate::enabled;
 use crate::judge;
 use crate::step;
 use engine::Head;
@@ -13,7 +14,8 @@ use sets::Activity;
 use sets::Answer;
 use sets::Place;
 
-// A whole trace from the opening marking, on lists that have been judged.
+// A whole trace from the opening marking, on lists that have been judged. The set of enabled activities is worked out once, for the
+// marking that is given back (02, 6/12).
 fn run<'a>(
     head: Head,
     conditions: &'a [u16],
@@ -23,30 +25,30 @@ fn run<'a>(
     trace: &'a [u8],
 ) -> Replayed
     ensures { λ r. ⌜ r ≡ replayFrom (head .events)
-        (inLists (now (conditions .entry)) (now (responses .entry)) (now (includes .entry)) (now (excludes .entry))) (head .opening) 0
-        (now (trace .entry)) ⌝ }
+        (inLists (now (conditions .entry)) (now (responses .entry)) (now (includes .entry)) (now (excludes .entry)))
+        (head .opening .state) 0 (now (trace .entry)) ⌝ }
 {
-    let mut m = head.opening;
+    let mut s = head.opening.state;
     let mut i: usize = 0;
     while i < trace.len() {
         let a = Activity(trace[i]);
-        let answer = step::ask(head.events, conditions, m, a);
+        let answer = step::ask(head.events, conditions, s, a);
         if !answer.is_done() {
             return Replayed {
                 answer,
                 place: Place(i),
-                marking: m,
+                marking: enabled::marked(head.events, conditions, s),
                 accepting: false,
             };
         }
-        m = step::next(responses, includes, excludes, m, a);
+        s = step::next(responses, includes, excludes, s, a);
         i += 1;
     }
     Replayed {
         answer: Answer::Done,
         place: Place(i),
-        marking: m,
-        accepting: is_accepting(m),
+        marking: enabled::marked(head.events, conditions, s),
+        accepting: is_accepting(s),
     }
 }
 

@@ -8,11 +8,13 @@ ghost use Rattle.engine.specs.Steps as rules;
 ghost use Rattle.plain.specs.Pairs.{pairOf, sourceOf, targetOf, inPairs, blocks};
 ghost use Rattle.plain.specs.Graphs.{plainOf, inLists};
 ghost use Rattle.plain.specs.Results.{plainEnabledOf, plainSteppedOf, plainAcceptingOf};
+use crate::enabled;
 use crate::judge;
 use crate::pairs::source;
 use crate::pairs::target;
 use engine::Head;
 use engine::Marking;
+use engine::State;
 use engine::Stepped;
 use engine::Verdict;
 use engine::step::is_accepting;
@@ -21,57 +23,57 @@ use sets::Answer;
 use sets::Set;
 
 // Whether a condition keeps the activity waiting: it leads to it, and its source is included and not executed.
-fn is_blocking(pair: u16, m: Marking, a: Activity) -> bool
-    ensures { λ r. ⌜ r ≡ blocks m (a .0) pair ⌝ }
+pub(crate) fn is_blocking(pair: u16, s: State, a: Activity) -> bool
+    ensures { λ r. ⌜ r ≡ blocks s (a .0) pair ⌝ }
 {
     if target(pair).0 != a.0 {
         return false;
     }
-    if !m.included.has(source(pair)) {
+    if !s.included.has(source(pair)) {
         return false;
     }
-    !m.executed.has(source(pair))
+    !s.executed.has(source(pair))
 }
 
 // The smaller of an activity and the pair's source, where the pair is blocking; else the activity.
-fn smaller(least: Activity, pair: u16, m: Marking, a: Activity) -> Activity
-    ensures { λ r. ⌜ r .0 ≡ when blocks m (a .0) pair and ltb (sourceOf pair) (least .0) then sourceOf pair else least .0 ⌝ }
+fn smaller(least: Activity, pair: u16, s: State, a: Activity) -> Activity
+    ensures { λ r. ⌜ r .0 ≡ when blocks s (a .0) pair and ltb (sourceOf pair) (least .0) then sourceOf pair else least .0 ⌝ }
 {
-    if !is_blocking(pair, m, a) {
+    if !is_blocking(pair, s, a) {
         return least;
     }
-    let s = source(pair);
-    if s.0 < least.0 {
-        return s;
+    let found = source(pair);
+    if found.0 < least.0 {
+        return found;
     }
     least
 }
 
 // The smallest source that keeps the activity waiting. The walk begins with a number above every activity's, and ends with it where
 // no condition is blocking.
-fn blocker(conditions: &[u16], m: Marking, a: Activity) -> Activity
-    ensures { λ r. ⌜ r .0 ≡ leastBelow width (rules.blocking (inLists (now (conditions .entry)) [] [] []) m (a .0)) ⌝ }
+fn blocker(conditions: &[u16], s: State, a: Activity) -> Activity
+    ensures { λ r. ⌜ r .0 ≡ leastBelow width (rules.blocking (inLists (now (conditions .entry)) [] [] []) s (a .0)) ⌝ }
 {
     let mut least = Activity(Activity::LIMIT);
     let mut i: usize = 0;
     while i < conditions.len() {
-        least = smaller(least, conditions[i], m, a);
+        least = smaller(least, conditions[i], s, a);
         i += 1;
     }
     least
 }
 
 // Rules 8, 9, 10.
-pub(crate) fn ask(events: Set, conditions: &[u16], m: Marking, a: Activity) -> Answer
-    ensures { λ r. ⌜ r ≡ rules.enabled events (inLists (now (conditions .entry)) [] [] []) m (a .0) ⌝ }
+pub(crate) fn ask(events: Set, conditions: &[u16], s: State, a: Activity) -> Answer
+    ensures { λ r. ⌜ r ≡ rules.enabled events (inLists (now (conditions .entry)) [] [] []) s (a .0) ⌝ }
 {
     if !events.has(a) {
         return Answer::NoEvent;
     }
-    if !m.included.has(a) {
+    if !s.included.has(a) {
         return Answer::NotIncluded;
     }
-    let least = blocker(conditions, m, a);
+    let least = blocker(conditions, s, a);
     if least.0 < Activity::LIMIT {
         return Answer::Waiting(least);
     }
@@ -124,23 +126,23 @@ fn lose_targets(s: Set, pairs: &[u16], a: Activity) -> Set
     kept
 }
 
-// The marking after a step that is enabled. Included loses before it gains, so an include wins.
+// The state after a step that is enabled. Included loses before it gains, so an include wins.
 pub(crate) fn next<'a>(
     responses: &'a [u16],
     includes: &'a [u16],
     excludes: &'a [u16],
-    m: Marking,
+    s: State,
     a: Activity,
-) -> Marking
-    ensures { λ r. ⌜ r ≡ rules.after (inLists [] (now (responses .entry)) (now (includes .entry)) (now (excludes .entry))) m (a .0) ⌝ }
+) -> State
+    ensures { λ r. ⌜ r ≡ rules.after (inLists [] (now (responses .entry)) (now (includes .entry)) (now (excludes .entry))) s (a .0) ⌝ }
 {
     let one = Set::one(a);
-    let executed = m.executed.union(one);
-    let done = m.pending.difference(one);
+    let executed = s.executed.union(one);
+    let done = s.pending.difference(one);
     let pending = gain_targets(done, responses, a);
-    let left = lose_targets(m.included, excludes, a);
+    let left = lose_targets(s.included, excludes, a);
     let included = gain_targets(left, includes, a);
-    Marking::of(executed, pending, included)
+    State::of(executed, pending, included)
 }
 
 // Whether a step is enabled on any graph at any marking: the refusals of both, then rules 8, 9, 10.
@@ -160,7 +162,7 @@ pub fn enabled<'a>(
     if !answer.is_done() {
         return answer;
     }
-    ask(head.events, conditions, m, a)
+    ask(head.events, conditions, m.state, a)
 }
 
 // The step on any graph at any marking: the marking after it, or the same where refused.
@@ -180,7 +182,8 @@ pub fn step<'a>(
     if !answer.is_done() {
         return Stepped { answer, marking: m };
     }
-    let marking = next(responses, includes, excludes, m, a);
+    let state = next(responses, includes, excludes, m.state, a);
+    let marking = enabled::marked(head.events, conditions, state);
     Stepped { answer, marking }
 }
 
@@ -205,6 +208,6 @@ pub fn accepting<'a>(
     }
     Verdict {
         answer,
-        accepting: is_accepting(m),
+        accepting: is_accepting(m.state),
     }
 }

@@ -8,11 +8,11 @@ use borrow.Author.Tests.{not-true, not-false, eq-eqb, ne-eqb, lt-ltb, le-ltb}
 use lib.Dec.{eqb, ltb}
 use lib.ListN.{length}
 use Rattle.sets.specs.Tests.{non, when_then_else_}
-use Rattle.sets.specs.Answers.{numberOf, blockerOf, isDone}
+use Rattle.sets.specs.Answers.{numberOf, blockerOf, isDone, thenAsk}
 use Rattle.sets.specs.declared.answer.Answer.{Answer}
 use Rattle.sets.specs.declared.answer.Answer.the-variants.{Done, AboveLimit, BufferTooSmall, WrongArgument}
 use Rattle.sets.specs.Sizes.{longestTrace}
-use Rattle.sets.proofs.Asking.{gone-on}
+use Rattle.sets.proofs.Asking.{gone-on, done-is, ask-stop}
 use Rattle.engine.specs.Relations.{relationsOf, emptyGraph}
 use Rattle.engine.specs.Judged.{judged}
 use Rattle.engine.specs.Replay.{replayFrom, replayOf, steppedOf}
@@ -28,13 +28,13 @@ use Rattle.graphfile.proofs.RoundTrips.{file-graph}
 use Rattle.graphfile.specs.Writing.{writtenOf, fileAfter}
 use Rattle.graphfile.specs.declared.reader.Reading.{Reading}
 use Rattle.graphfile.specs.declared.writer.Written.{Written}
-use Rattle.graphfile.specs.Markings.{markingFrom, markingInto}
+use Rattle.graphfile.specs.Markings.{markingLength, markingFrom, markingInto}
 use Rattle.rules.specs.declared.Profile.{Profile}
 use Rattle.rules.specs.declared.Profile.the-variants.{Full, Light}
 use Rattle.miner.specs.declared.mining.Mined.{Mined}
 use Rattle.report.specs.declared.writer.Listed.{Listed}
 use Rattle.port.specs.Port.{packedOf, verdictOf, blockedOf, stepNumber, storedOf, putNumber, putBuffer, profileOf, inProfile, inProfileBuffer}
-use Rattle.port.specs.Port.{replayNumber, refusedStep, stepOf, stepBytes}
+use Rattle.port.specs.Port.{replayNumber, refusedStep, stepOf, openingAnswer, openingBytes}
 
 pub packed-is : (a : Answer) (n low : ℕ) → low ≡ numberOf a → low + 256 * (n % 16777216) ≡ packedOf a n
 unfolding packedOf
@@ -172,7 +172,7 @@ module _ (file trace : List ℕ) (r : Reading) (hr : r ≡ readOf file) (d : Boo
       ∙ sym (ap shown (file-done true (not-false d h)))
 
   pub replay-run : (n : ℕ) → not d ≡ false → Bytes file → length trace ≤ longestTrace → (p : Replayed)
-      → p ≡ replayFrom (r .graph .head .events) (relationsOf (r .graph)) (r .graph .head .opening) 0 trace
+      → p ≡ replayFrom (r .graph .head .events) (relationsOf (r .graph)) (r .graph .head .opening .state) 0 trace
       → n ≡ said p → n ≡ replayNumber file trace
   unfolding replayNumber
   replay-run n h small l p hp e =
@@ -194,7 +194,7 @@ module _ (file bytes : List ℕ) (a : ℕ) where
       else steppedOf (readOf file .graph) (markingFrom bytes) a
 
   module _ (r : Reading) (d : Bool) (hr : r ≡ readOf file) (hd : d ≡ isDone (r .answer)) where
-    choice : (t short : Bool) → d ≡ t → ltb (length bytes) 24 ≡ short → chosen t short ≡ stepOf file bytes a
+    choice : (t short : Bool) → d ≡ t → ltb (length bytes) markingLength ≡ short → chosen t short ≡ stepOf file bytes a
     unfolding stepOf
     choice t short e l =
         sym (ap₂ chosen (ap (λ (x : Reading). isDone (x .answer)) (sym hr) ∙ sym hd ∙ e) l)
@@ -203,21 +203,16 @@ module _ (file bytes : List ℕ) (a : ℕ) where
     unfolding non
     step-refused n = ap (λ (x : Reading). refusedStep (x .answer)) hr ∙ choice false _ (not-true d n) refl
 
-    pub step-short : not d ≡ false → length bytes < 24 → refusedStep BufferTooSmall ≡ stepOf file bytes a
+    pub step-short : not d ≡ false → length bytes < markingLength → refusedStep BufferTooSmall ≡ stepOf file bytes a
     unfolding non
-    step-short n l = choice true true (not-false d n) (lt-ltb (length bytes) 24 l)
+    step-short n l = choice true true (not-false d n) (lt-ltb (length bytes) markingLength l)
 
-    pub step-taken : (m : Marking) (s : Stepped) → not d ≡ false → 24 ≤ length bytes → m ≡ markingFrom bytes → s ≡ steppedOf (r .graph) m a → s ≡ stepOf file bytes a
+    pub step-taken : (m : Marking) (s : Stepped) → not d ≡ false → markingLength ≤ length bytes → m ≡ markingFrom bytes → s ≡ steppedOf (r .graph) m a → s ≡ stepOf file bytes a
     unfolding non
     step-taken m s n l hm hs =
         hs
         ∙ ap₂ (λ (x : Reading) (y : Marking). steppedOf (x .graph) y a) hr hm
-        ∙ choice true false (not-false d n) (le-ltb (length bytes) 24 l)
-
-  -- the lent bytes after it
-  pub step-stored : (s : Stepped) (bytes′ : List ℕ) → s ≡ stepOf file bytes a → bytes′ ≡ storedOf s bytes → bytes′ ≡ stepBytes file bytes a
-  unfolding stepBytes storedOf
-  step-stored s bytes′ hs e = e ∙ ap (λ (x : Stepped). storedOf x bytes) hs
+        ∙ choice true false (not-false d n) (le-ltb (length bytes) markingLength l)
 
 -- of any step that gives s
 module _ (s x : Stepped) (hs : s ≡ x) where
@@ -227,4 +222,58 @@ module _ (s x : Stepped) (hs : s ≡ x) where
   pub step-number : (n : ℕ) → n ≡ stepNumber s → n ≡ stepNumber x
   step-number n e = e ∙ ap stepNumber hs
 
-pub ruleset stepping = (step-short, step-refused, step-taken, step-stored, step-number)
+pub ruleset stepping = (step-short, step-refused, step-taken, stored, step-number)
+
+-- ---- the opening marking
+
+module _ (file bytes : List ℕ) (r : Reading) (d : Bool) (hr : r ≡ readOf file) (hd : d ≡ isDone (r .answer)) where
+  abbrev asked : Answer → Bool → Answer
+  asked a short = thenAsk a (when short then BufferTooSmall else Done)
+
+  -- the answer by the file's own and by whether there is room
+  opens : (a : Answer) (short : Bool) → readOf file .answer ≡ a → ltb (length bytes) markingLength ≡ short
+      → openingAnswer file (length bytes) ≡ asked a short
+  unfolding openingAnswer
+  opens a short ha hs = ap₂ asked ha hs
+
+  left : (a : Answer) → openingAnswer file (length bytes) ≡ a
+      → (when isDone a then markingInto (readOf file .graph .head .opening) bytes else bytes) ≡ openingBytes file bytes
+  unfolding openingBytes
+  left a e = ap (λ (x : Answer). when isDone x then markingInto (readOf file .graph .head .opening) bytes else bytes) (sym e)
+
+  module _ (n : not d ≡ true) where
+    refused : openingAnswer file (length bytes) ≡ r .answer
+    unfolding openingAnswer
+    refused =
+        ap (λ (x : Reading). thenAsk (x .answer) (when ltb (length bytes) markingLength then BufferTooSmall else Done)) (sym hr)
+        ∙ ask-stop (r .answer) _ (sym hd ∙ not-true d n)
+
+    pub opening-refused : (k : ℕ) → k ≡ numberOf (r .answer) → k ≡ numberOf (openingAnswer file (length bytes))
+    opening-refused k e = e ∙ ap numberOf (sym refused)
+
+    pub opening-kept : bytes ≡ openingBytes file bytes
+    opening-kept =
+        ap (λ (t : Bool). when t then markingInto (readOf file .graph .head .opening) bytes else bytes) (sym (sym hd ∙ not-true d n))
+        ∙ left (r .answer) refused
+
+  module _ (n : not d ≡ false) where
+    read : readOf file .answer ≡ Done
+    read = ap (λ (x : Reading). x .answer) (sym hr) ∙ done-is (r .answer) (sym hd ∙ not-false d n)
+
+    pub opening-short : (k : ℕ) → length bytes < markingLength → k ≡ numberOf BufferTooSmall → k ≡ numberOf (openingAnswer file (length bytes))
+    opening-short k l e = e ∙ ap numberOf (sym (opens Done true read (lt-ltb (length bytes) markingLength l)))
+
+    pub opening-short-kept : length bytes < markingLength → bytes ≡ openingBytes file bytes
+    opening-short-kept l = left BufferTooSmall (opens Done true read (lt-ltb (length bytes) markingLength l))
+
+    module _ (l : markingLength ≤ length bytes) where
+      roomy : openingAnswer file (length bytes) ≡ Done
+      roomy = opens Done false read (le-ltb (length bytes) markingLength l)
+
+      pub opening-number : (k : ℕ) → k ≡ numberOf (r .answer) → k ≡ numberOf (openingAnswer file (length bytes))
+      opening-number k e = e ∙ ap numberOf (ap (λ (x : Reading). x .answer) hr ∙ read ∙ sym roomy)
+
+      pub opening-given : (bytes′ : List ℕ) → bytes′ ≡ markingInto (r .graph .head .opening) bytes → bytes′ ≡ openingBytes file bytes
+      opening-given bytes′ e = e ∙ ap (λ (x : Reading). markingInto (x .graph .head .opening) bytes) hr ∙ left Done roomy
+
+pub ruleset beginning = (opening-refused, opening-kept, opening-short, opening-short-kept, opening-number, opening-given)

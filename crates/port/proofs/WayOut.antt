@@ -14,7 +14,7 @@ use Rattle.sets.specs.declared.answer.Answer.the-variants.{BufferTooSmall}
 use Rattle.engine.specs.Relations.{relationsOf}
 use Rattle.engine.specs.declared.marking.Marking.{Marking}
 use Rattle.graphfile.specs.Held.{readOf}
-use Rattle.graphfile.specs.Markings.{markingFrom}
+use Rattle.graphfile.specs.Markings.{markingLength, markingFrom}
 use Rattle.graphfile.specs.declared.reader.Reading.{Reading}
 use Rattle.finish.specs.Ways.{finishedBy, finishOf}
 use Rattle.finish.specs.Shut.{nothing, shutBy}
@@ -49,7 +49,7 @@ module _ (file marking : List ℕ) (room : ℕ) where
       else finishOf (readOf file .graph) (markingFrom marking)
 
   module _ (r : Reading) (d : Bool) (hr : r ≡ readOf file) (hd : d ≡ isDone (r .answer)) where
-    choice : (t short narrow : Bool) → d ≡ t → ltb (length marking) 24 ≡ short → ltb room 4 ≡ narrow
+    choice : (t short narrow : Bool) → d ≡ t → ltb (length marking) markingLength ≡ short → ltb room 4 ≡ narrow
         → chosen t short narrow ≡ finishIn file marking room
     unfolding finishIn
     choice t short narrow e l n =
@@ -61,21 +61,21 @@ module _ (file marking : List ℕ) (room : ℕ) where
     unfolding non
     finish-refused n = ap (λ (x : Reading). finishedBy (x .answer) []) hr ∙ choice false _ _ (not-true d n) refl refl
 
-    pub finish-short : not d ≡ false → length marking < 24 → finishedBy BufferTooSmall [] ≡ finishIn file marking room
+    pub finish-short : not d ≡ false → length marking < markingLength → finishedBy BufferTooSmall [] ≡ finishIn file marking room
     unfolding non
-    finish-short n l = choice true true _ (not-false d n) (lt-ltb (length marking) 24 l) refl
+    finish-short n l = choice true true _ (not-false d n) (lt-ltb (length marking) markingLength l) refl
 
-    pub finish-narrow : not d ≡ false → 24 ≤ length marking → room < 4 → finishedBy BufferTooSmall [] ≡ finishIn file marking room
+    pub finish-narrow : not d ≡ false → markingLength ≤ length marking → room < 4 → finishedBy BufferTooSmall [] ≡ finishIn file marking room
     unfolding non
-    finish-narrow n l k = choice true false true (not-false d n) (le-ltb (length marking) 24 l) (lt-ltb room 4 k)
+    finish-narrow n l k = choice true false true (not-false d n) (le-ltb (length marking) markingLength l) (lt-ltb room 4 k)
 
-    pub finish-searched : (m : Marking) (f : Finished) → not d ≡ false → 24 ≤ length marking → 4 ≤ room → m ≡ markingFrom marking
+    pub finish-searched : (m : Marking) (f : Finished) → not d ≡ false → markingLength ≤ length marking → 4 ≤ room → m ≡ markingFrom marking
         → f ≡ finishOf (r .graph) m → f ≡ finishIn file marking room
     unfolding non
     finish-searched m f n l k hm hf =
         hf
         ∙ ap₂ (λ (x : Reading) (y : Marking). finishOf (x .graph) y) hr hm
-        ∙ choice true false false (not-false d n) (le-ltb (length marking) 24 l) (le-ltb room 4 k)
+        ∙ choice true false false (not-false d n) (le-ltb (length marking) markingLength l) (le-ltb room 4 k)
 
 pub ruleset finding = (finish-refused, finish-short, finish-narrow, finish-searched)
 

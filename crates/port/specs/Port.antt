@@ -5,16 +5,16 @@ use Prim.Native.Nat.{ℕ, _+_, _*_, _%_, _^_}
 use lib.Dec.{eqb, ltb}
 use lib.ListN.{length}
 use Rattle.sets.specs.Tests.{non, when_then_else_}
-use Rattle.sets.specs.Answers.{numberOf, blockerOf, isDone}
+use Rattle.sets.specs.Answers.{numberOf, blockerOf, isDone, thenAsk}
 use Rattle.sets.specs.declared.answer.Answer.{Answer}
-use Rattle.sets.specs.declared.answer.Answer.the-variants.{BufferTooSmall, WrongArgument}
+use Rattle.sets.specs.declared.answer.Answer.the-variants.{Done, BufferTooSmall, WrongArgument}
 use Rattle.engine.specs.Markings.{emptyMarking}
 use Rattle.engine.specs.Replay.{replayOf, steppedOf}
 use Rattle.engine.specs.declared.step.Stepped.{Stepped}
 use Rattle.engine.specs.declared.graph.Graph.{Graph}
 use Rattle.graphfile.specs.Held.{readOf}
 use Rattle.graphfile.specs.Writing.{writtenOf, fileAfter}
-use Rattle.graphfile.specs.Markings.{markingFrom, markingInto}
+use Rattle.graphfile.specs.Markings.{markingLength, markingFrom, markingInto}
 use Rattle.rules.specs.declared.Profile.{Profile}
 use Rattle.rules.specs.declared.Profile.the-variants.{Full, Light}
 use Rattle.miner.specs.Mine.{minedOf}
@@ -95,9 +95,18 @@ stepNumber s = blockedOf (s .answer) 0 false
 unfoldable pub stepOf : List ℕ → List ℕ → ℕ → Stepped
 stepOf file bytes a =
     when non (isDone (readOf file .answer)) then refusedStep (readOf file .answer)
-    else when ltb (length bytes) 24 then refusedStep BufferTooSmall
+    else when ltb (length bytes) markingLength then refusedStep BufferTooSmall
     else steppedOf (readOf file .graph) (markingFrom bytes) a
 
 -- the marking's bytes after it: as they were where refused
-unfoldable pub stepBytes : List ℕ → List ℕ → ℕ → List ℕ
-stepBytes file bytes a = when isDone (stepOf file bytes a .answer) then markingInto (stepOf file bytes a .marking) bytes else bytes
+abbrev pub stepBytes : List ℕ → List ℕ → ℕ → List ℕ
+stepBytes file bytes a = storedOf (stepOf file bytes a) bytes
+
+-- skelfora_opening: the file's refusals, then 7 where there are too few bytes for a marking
+unfoldable pub openingAnswer : List ℕ → ℕ → Answer
+openingAnswer file room = thenAsk (readOf file .answer) (when ltb room markingLength then BufferTooSmall else Done)
+
+-- the lent bytes then: the opening marking of the file's graph (02, 6/12), or as they were where refused
+unfoldable pub openingBytes : List ℕ → List ℕ → List ℕ
+openingBytes file bytes =
+    when isDone (openingAnswer file (length bytes)) then markingInto (readOf file .graph .head .opening) bytes else bytes

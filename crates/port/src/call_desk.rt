@@ -1,4 +1,4 @@
-// The call desk's functions (02, 5/12), on the graph of a file and a table of 800 lent bytes. The file is judged where the desk judges its graph:
+// The call desk's functions (02, 5/12), on the graph of a file and a table of 1,056 lent bytes. The file is judged where the desk judges its graph:
 // after the table, and after the place of step and close.
 ghost use mathlib.Core.Path.{_≡_};
 ghost use Rattle.port.specs.Desk.{placeAnswer};

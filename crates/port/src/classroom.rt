@@ -1,5 +1,5 @@
-// The plain engine's functions (02, 1/12). The head of a graph comes as 33 bytes, A, events, executed, pending, included; its relations as
-// four lists of pairs.
+// The plain engine's functions (02, 1/12). The head of a graph comes as 41 bytes, A, events, executed, pending, included, enabled; its
+// relations as four lists of pairs.
 ghost use mathlib.Core.Path.{_≡_};
 ghost use Rattle.port.specs.Port.{stepNumber};
 ghost use Rattle.port.specs.Classroom.{judgedHanded, plainStepOf, plainStepBytes, plainAcceptingNumber, plainReplayNumber};
@@ -13,7 +13,7 @@ use engine::Stepped;
 use sets::Activity;
 use sets::Answer;
 
-// Whether there is a graph, that can be accepted, and room for a marking beside it.
+// Whether there is a graph, and a marking beside it: without one the graph is judged by itself, with one they are judged together.
 fn judge_handed<'a>(
     head: &'a [u8],
     conditions: &'a [u16],
@@ -28,15 +28,15 @@ fn judge_handed<'a>(
     if head.len() < graphfile::head::LENGTH {
         return Answer::BufferTooSmall;
     }
+    if graphfile::marking::LENGTH <= marking.len() {
+        return Answer::Done;
+    }
     let h = graphfile::head::read_head(head);
     let answer = plain::judge::judge_for(h, conditions, responses, includes, excludes, 0);
     if !answer.is_done() {
         return answer;
     }
-    if marking.len() < graphfile::marking::LENGTH {
-        return Answer::BufferTooSmall;
-    }
-    Answer::Done
+    Answer::BufferTooSmall
 }
 
 // A step: these refusals, then the step's.
@@ -64,7 +64,7 @@ fn plain_stepped<'a>(
     plain::step::step(h, conditions, responses, includes, excludes, m, a)
 }
 
-// One step at a marking of 24 lent bytes; they stay as they were where it is refused.
+// One step at a marking of 32 lent bytes; they stay as they were where it is refused.
 #[no_mangle]
 pub extern "C" fn skelfora_plain_step<'a, 'm>(
     head: &'a [u8],
@@ -92,7 +92,7 @@ pub extern "C" fn skelfora_plain_step<'a, 'm>(
     store(s, marking)
 }
 
-// Whether a marking of 24 bytes is accepting: the number, and 2^32 where it is.
+// Whether a marking of 32 bytes is accepting: the number, and 2^32 where it is.
 #[no_mangle]
 pub extern "C" fn skelfora_plain_accepting<'a>(
     head: &'a [u8],

@@ -5,7 +5,8 @@ ghost use Prim.Native.Nat.{_^_, _<_};
 ghost use lib.ListN.{length};
 ghost use Rattle.port.specs.Port.{packedOf, verdictOf, blockedOf, stepNumber, storedOf, putNumber, putBuffer, profileOf, inProfile};
 ghost use Rattle.port.specs.Port.{inProfileBuffer, mineNumber, mineBuffer, rewriteNumber, rewriteBuffer, replayNumber, listingNumber};
-ghost use Rattle.port.specs.Port.{summaryNumber, stepOf, stepBytes};
+ghost use Rattle.port.specs.Port.{summaryNumber, stepOf, stepBytes, openingAnswer, openingBytes};
+ghost use Rattle.sets.specs.Answers.{numberOf};
 ghost use Rattle.report.specs.Listing.{listingAfter};
 ghost use Rattle.report.specs.Summary.{summaryAfter};
 
@@ -205,7 +206,7 @@ fn stepped<'a>(file: &'a [u8], marking: &'a [u8], a: Activity) -> Stepped
     engine::execute::executed(g, m, a)
 }
 
-// One step at a marking of 24 lent bytes, executed, pending, included; they stay as they were where it is refused.
+// One step at a marking of 32 lent bytes, executed, pending, included, enabled; they stay as they were where it is refused.
 #[no_mangle]
 pub extern "C" fn skelfora_step(file: &[u8], marking: &mut [u8], activity: u8) -> u64
     ensures { λ r. ⌜ r ≡ stepNumber (stepOf (now (file .entry)) (now (marking .entry)) activity) ⌝ }
@@ -213,4 +214,23 @@ pub extern "C" fn skelfora_step(file: &[u8], marking: &mut [u8], activity: u8) -
 {
     let s = stepped(file, marking, Activity(activity));
     store(s, marking)
+}
+
+// The opening marking of a graph file, with the steps enabled there, into 32 lent bytes: where a caller that steps begins.
+#[no_mangle]
+pub extern "C" fn skelfora_opening(file: &[u8], marking: &mut [u8]) -> u64
+    ensures { λ r. ⌜ r ≡ numberOf (openingAnswer (now (file .entry)) (length (now (marking .entry)))) ⌝ }
+    ensures { λ _. ⌜ now (marking .exit) ≡ openingBytes (now (file .entry)) (now (marking .entry)) ⌝ }
+{
+    let r = graphfile::read(file);
+    let answer = r.answer;
+    if !answer.is_done() {
+        return answer.number() as u64;
+    }
+    if marking.len() < graphfile::marking::LENGTH {
+        return Answer::BufferTooSmall.number() as u64;
+    }
+    let m = r.graph.head.opening;
+    graphfile::marking::write_marking(m, marking);
+    answer.number() as u64
 }

@@ -55,7 +55,7 @@ fn finished<'a>(file: &'a [u8], marking: &'a [u8], room: usize) -> Finished
     finish::search::finish(g, m)
 }
 
-// The way out from a marking of 24 bytes into four lent bytes, 255 in those that are not used; they stay as they were where it is refused.
+// The way out from a marking of 32 bytes into four lent bytes, 255 in those that are not used; they stay as they were where it is refused.
 #[no_mangle]
 pub extern "C" fn skelfora_finish<'a, 'w>(
     file: &'a [u8],

@@ -20,21 +20,23 @@ use Rattle.sets.specs.declared.activity.Activity.{Activity}
 use Rattle.sets.specs.declared.set.Set.{Set}
 use Rattle.sets.specs.declared.answer.Answer.{Answer}
 use Rattle.sets.specs.declared.answer.Answer.the-variants.{Done, TooShort, WrongLetters, AboveLimit, WrongOffset, Outside, BadRow, BufferTooSmall, NoEvent, NotIncluded, Waiting, NoTrace, WrongArgument}
-use Rattle.sets.specs.declared.answer.Answer.the-variants.{NoPlaceFree, NotOpen, NotAccepting, NoWayOut}
+use Rattle.sets.specs.declared.answer.Answer.the-variants.{NoPlaceFree, NotOpen, NotAccepting, FalseEnabled, NoWayOut}
 use Rattle.sets.proofs.Tests.{and-l, and-r, and-i, non-i, non-e, T→true, F→false, true→T, false→F, split, either}
 use Rattle.sets.proofs.Below.{least-lt, least-is, least-before}
 use Rattle.sets.proofs.Asking.{done-is, ask-on, ask-stop}
-use Rattle.engine.specs.Markings.{emptyMarking}
+use Rattle.engine.specs.Markings.{emptyState, emptyMarking}
 use Rattle.engine.specs.Relations.{Relations, relationsOf}
 use Rattle.engine.specs.Steps.{blocking, waits, blocker, enabled}
-use Rattle.engine.specs.Judged.{markingWithin, graphWithin, judgedFor, judgedWith}
+use Rattle.engine.specs.Judged.{found, judgedFor, judgedWith}
+use Rattle.engine.proofs.Judging.{found-one}
 use Rattle.engine.specs.Replay.{enabledOf, steppedOf, ending, replayFrom, replayOf}
+use Rattle.engine.specs.declared.marking.State.{State}
 use Rattle.engine.specs.declared.marking.Marking.{Marking}
 use Rattle.engine.specs.declared.graph.Head.{Head}
 use Rattle.engine.specs.declared.graph.Graph.{Graph}
 use Rattle.engine.specs.declared.step.Stepped.{Stepped}
 use Rattle.engine.specs.declared.replay.Replayed.{Replayed}
-use Rattle.plain.specs.Graphs.{PlainGraph, plainOf, plainRelations, listsFit, plainWithin, plainJudgedFor, plainJudgedWith}
+use Rattle.plain.specs.Graphs.{PlainGraph, plainOf, plainRelations, plainJudgedFor, plainJudgedWith}
 use Rattle.plain.specs.Results.{plainEnabledOf, plainSteppedOf, plainReplayOf}
 use Rattle.plain.specs.Same.{InLists}
 use Rattle.promises.specs.Demanded.{Blocks, Carries}
@@ -51,28 +53,8 @@ Other a = numberOf a ≡ 10 → ⊥
 not-10 : (n : ℕ) → eqb n 10 ≡ false → n ≡ 10 → ⊥
 not-10 n h e = false→F h (true→T (ap (λ (k : ℕ). eqb k 10) e))
 
-other-when : (t : Bool) (x y : Answer) → Other x → Other y → Other (when t then x else y)
-other-when true x y p q = p
-other-when false x y p q = q
-
-judged-other : (g : Graph) (n : ℕ) → Other (judgedFor g n)
-unfolding judgedFor
-judged-other g n =
-    other-when (ltb mostActivities (g .head .activities)) _ _ (not-10 3 refl)
-    (other-when (ltb longestTrace n) _ _ (not-10 3 refl)
-    (other-when (non (graphWithin g)) _ _ (not-10 5 refl) (not-10 0 refl)))
-
-plain-judged-other : (g : PlainGraph) (n : ℕ) → Other (plainJudgedFor g n)
-unfolding plainJudgedFor
-plain-judged-other g n =
-    other-when (ltb mostActivities (g .head .activities)) _ _ (not-10 3 refl)
-    (other-when (ltb longestTrace n) _ _ (not-10 3 refl)
-    (other-when (non (listsFit (g .conditions) (g .responses) (g .includes) (g .excludes))) _ _ (not-10 3 refl)
-    (other-when (non (plainWithin g)) _ _ (not-10 5 refl) (not-10 0 refl))))
-
--- with a marking beside it
-beside-other : (x : Answer) (t : Bool) → Other x → Other (thenAsk x (when t then Done else Outside))
-beside-other x t p = other-when (isDone x) _ _ (other-when t _ _ (not-10 0 refl) (not-10 5 refl)) p
+found-other : (a i t : Bool) → Other (found a i t)
+found-other a i t = found-one a i t Other (not-10 3 refl) (not-10 5 refl) (not-10 16 refl) (not-10 0 refl)
 
 -- ---- what an answer carries
 
@@ -93,9 +75,10 @@ beside-others WrongArgument n = refl
 beside-others NoPlaceFree n = refl
 beside-others NotOpen n = refl
 beside-others NotAccepting n = refl
+beside-others FalseEnabled n = refl
 beside-others NoWayOut n = refl
 
-module _ (r : Relations) (m : Marking) (e : ℕ) where
+module _ (r : Relations) (m : State) (e : ℕ) where
   -- the least number that blocks is the blocker
   least-blocks : waits r m e ≡ true → Blocks r m e (blocker r m e .0)
   unfolding waits blocker
@@ -138,17 +121,17 @@ module _ (r : Relations) (m : Marking) (e : ℕ) where
       (λ y. subst (Carries r m e) (sym (ask-stop x (enabled events r m e) (F→false _ y))) (other-carries x n))
 
 -- a judgement, then a replay: of the event that it stopped at
-module _ (events : Set) (r : Relations) (opening : Marking) (σ : List ℕ) (x : Answer) (n : Other x) where
+module _ (events : Set) (r : Relations) (opening : State) (σ : List ℕ) (x : Answer) (n : Other x) where
   abbrev CarriesThere : Replayed → Type 0
-  CarriesThere end = Carries r (end .marking) (getD σ (end .place .0) 0) (end .answer)
+  CarriesThere end = Carries r (end .marking .state) (getD σ (end .place .0) 0) (end .answer)
 
   run-carries : (end : Replayed) → end ≡ replayFrom events r opening 0 σ → CarriesThere end
   run-carries end h =
       either (split (isDone (end .answer)))
-      (λ y. other-carries r (end .marking) _ (end .answer) (subst Other (sym (done-is (end .answer) (T→true _ y))) (not-10 0 refl)))
+      (λ y. other-carries r (end .marking .state) _ (end .answer) (subst Other (sym (done-is (end .answer) (T→true _ y))) (not-10 0 refl)))
       (λ y.
       let s = stops-at events r opening σ end h (F→false _ y) in
-      subst (Carries r (end .marking) (getD σ (end .place .0) 0)) (s .refusal) (rules-carry r (end .marking) _ events))
+      subst (Carries r (end .marking .state) (getD σ (end .place .0) 0)) (s .refusal) (rules-carry r (end .marking .state) _ events))
 
   replayed-carries : (end : Replayed)
       → end ≡ (when isDone x then replayFrom events r opening 0 σ else ending x 0 emptyMarking false) → CarriesThere end
@@ -156,36 +139,35 @@ module _ (events : Set) (r : Relations) (opening : Marking) (σ : List ℕ) (x :
     where
       by : (t : Bool) → end ≡ (when t then replayFrom events r opening 0 σ else ending x 0 emptyMarking false) → CarriesThere end
       by true k = run-carries end k
-      by false k = subst CarriesThere (sym k) (other-carries r emptyMarking (getD σ 0 0) x n)
+      by false k = subst CarriesThere (sym k) (other-carries r emptyState (getD σ 0 0) x n)
 
 -- ================ 1. WHAT THE FUNCTIONS CARRY
 
 module _ (g : Graph) where
   module _ (m : Marking) (e : ℕ) where
-    asked : Carries (relationsOf g) m e (enabledOf g m e)
+    asked : Carries (relationsOf g) (m .state) e (enabledOf g m e)
     unfolding enabledOf judgedWith
     asked =
-        asked-carries (relationsOf g) m e (g .head .events) (judgedWith g m)
-        (beside-other (judgedFor g 0) (markingWithin (g .head .events) m) (judged-other g 0))
+        asked-carries (relationsOf g) (m .state) e (g .head .events) (judgedWith g m) (found-other _ _ _)
 
-    of-step : (s : Stepped) → s ≡ steppedOf g m e → Carries (relationsOf g) m e (s .answer)
+    of-step : (s : Stepped) → s ≡ steppedOf g m e → Carries (relationsOf g) (m .state) e (s .answer)
     unfolding steppedOf
-    of-step s h = subst (λ (t : Stepped). Carries (relationsOf g) m e (t .answer)) (sym h) asked
+    of-step s h = subst (λ (t : Stepped). Carries (relationsOf g) (m .state) e (t .answer)) (sym h) asked
 
-    pub carries-enabled : (a : Answer) → enabled-gives g m e a → Carries (relationsOf g) m e a
-    carries-enabled a c = subst (Carries (relationsOf g) m e) (sym (enabled-said g m e a c)) asked
+    pub carries-enabled : (a : Answer) → enabled-gives g m e a → Carries (relationsOf g) (m .state) e a
+    carries-enabled a c = subst (Carries (relationsOf g) (m .state) e) (sym (enabled-said g m e a c)) asked
 
-    pub carries-step : (s : Stepped) → step-gives g m e s → Carries (relationsOf g) m e (s .answer)
+    pub carries-step : (s : Stepped) → step-gives g m e s → Carries (relationsOf g) (m .state) e (s .answer)
     carries-step s c = of-step s (step-said g m e s c)
 
-    pub carries-execute : (a : Answer) (n : Marking) → execute-gives g m e a n → Carries (relationsOf g) m e a
+    pub carries-execute : (a : Answer) (n : Marking) → execute-gives g m e a n → Carries (relationsOf g) (m .state) e a
     carries-execute a n c = of-step (record { answer = a; marking = n }) (execute-said g m e a n c)
 
   pub carries-replay : (σ : List ℕ) (end : Replayed) → replay-gives g σ end
-      → Carries (relationsOf g) (end .marking) (getD σ (end .place .0) 0) (end .answer)
-  unfolding replayOf
+      → Carries (relationsOf g) (end .marking .state) (getD σ (end .place .0) 0) (end .answer)
+  unfolding replayOf judgedFor
   carries-replay σ end c =
-      replayed-carries (g .head .events) (relationsOf g) (g .head .opening) σ (judgedFor g (length σ)) (judged-other g (length σ)) end
+      replayed-carries (g .head .events) (relationsOf g) (g .head .opening .state) σ (judgedFor g (length σ)) (found-other _ _ _) end
       (replay-said g σ end c)
 
 -- ---- the plain engine, on lists of any pairs
@@ -195,31 +177,30 @@ module _ (head : Head) (c r i x : List ℕ) where
   given = plainOf head c r i x
 
   module _ (m : Marking) (e : ℕ) where
-    plain-asked : Carries (plainRelations given) m e (plainEnabledOf given m e)
+    plain-asked : Carries (plainRelations given) (m .state) e (plainEnabledOf given m e)
     unfolding plainEnabledOf plainJudgedWith
     plain-asked =
-        asked-carries (plainRelations given) m e (head .events) (plainJudgedWith given m)
-        (beside-other (plainJudgedFor given 0) (markingWithin (head .events) m) (plain-judged-other given 0))
+        asked-carries (plainRelations given) (m .state) e (head .events) (plainJudgedWith given m) (found-other _ _ _)
 
-    of-plain-step : (s : Stepped) → s ≡ plainSteppedOf given m e → Carries (plainRelations given) m e (s .answer)
+    of-plain-step : (s : Stepped) → s ≡ plainSteppedOf given m e → Carries (plainRelations given) (m .state) e (s .answer)
     unfolding plainSteppedOf
-    of-plain-step s h = subst (λ (t : Stepped). Carries (plainRelations given) m e (t .answer)) (sym h) plain-asked
+    of-plain-step s h = subst (λ (t : Stepped). Carries (plainRelations given) (m .state) e (t .answer)) (sym h) plain-asked
 
-    pub carries-plain-enabled : (a : Answer) → plain.plain-enabled-gives head c r i x m e a → Carries (plainRelations given) m e a
-    carries-plain-enabled a k = subst (Carries (plainRelations given) m e) (sym (plain.plain-enabled-said head c r i x m e a k)) plain-asked
+    pub carries-plain-enabled : (a : Answer) → plain.plain-enabled-gives head c r i x m e a → Carries (plainRelations given) (m .state) e a
+    carries-plain-enabled a k = subst (Carries (plainRelations given) (m .state) e) (sym (plain.plain-enabled-said head c r i x m e a k)) plain-asked
 
-    pub carries-plain-step : (s : Stepped) → plain.plain-step-gives head c r i x m e s → Carries (plainRelations given) m e (s .answer)
+    pub carries-plain-step : (s : Stepped) → plain.plain-step-gives head c r i x m e s → Carries (plainRelations given) (m .state) e (s .answer)
     carries-plain-step s k = of-plain-step s (plain.plain-step-said head c r i x m e s k)
 
-    pub carries-plain-execute : (a : Answer) (n : Marking) → plain.plain-execute-gives head c r i x m e a n → Carries (plainRelations given) m e a
+    pub carries-plain-execute : (a : Answer) (n : Marking) → plain.plain-execute-gives head c r i x m e a n → Carries (plainRelations given) (m .state) e a
     carries-plain-execute a n k = of-plain-step (record { answer = a; marking = n }) (plain.plain-execute-said head c r i x m e a n k)
 
   pub carries-plain-replay : (σ : List ℕ) (end : Replayed) → plain.plain-replay-gives head c r i x σ end
-      → Carries (plainRelations given) (end .marking) (getD σ (end .place .0) 0) (end .answer)
-  unfolding plainReplayOf
+      → Carries (plainRelations given) (end .marking .state) (getD σ (end .place .0) 0) (end .answer)
+  unfolding plainReplayOf plainJudgedFor
   carries-plain-replay σ end k =
-      replayed-carries (head .events) (plainRelations given) (head .opening) σ (plainJudgedFor given (length σ))
-      (plain-judged-other given (length σ)) end (plain.plain-replay-said head c r i x σ end k)
+      replayed-carries (head .events) (plainRelations given) (head .opening .state) σ (plainJudgedFor given (length σ))
+      (found-other _ _ _) end (plain.plain-replay-said head c r i x σ end k)
 
 -- ================ 2. BOTH ENGINES NAME THE SAME
 

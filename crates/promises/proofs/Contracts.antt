@@ -10,7 +10,6 @@ use lib.ListN.{length}
 use Rattle.sets.specs.Answers.{numberOf, blockerOf}
 use Rattle.sets.specs.declared.answer.Answer.{Answer}
 use Rattle.sets.specs.declared.answer.Answer.the-variants.{Done}
-use Rattle.engine.specs.Markings.{openingOf}
 use Rattle.engine.specs.Replay.{enabledOf, steppedOf, acceptingOf, ending, replayOf}
 use Rattle.engine.specs.declared.marking.Marking.{Marking}
 use Rattle.engine.specs.declared.graph.Graph.{Graph}
@@ -126,8 +125,8 @@ module _ (bytes : List ℕ) where
   replay-none-gives p r = Holding bytes (λ log. Gives replay-none.Post (λ κ. (log, (p, tt))) (λ κ. r))
 
   pub replay-none-said : (p : Profile) (r : Replayed) → replay-none-gives p r
-      → r ≡ ending Done 0 (openingOf (minedOf bytes p .graph .head .events)) true
-  replay-none-said p r c = c .2 .2 ∙ ap (λ (b : List ℕ). ending Done 0 (openingOf (minedOf b p .graph .head .events)) true) (c .1)
+      → r ≡ ending Done 0 (minedOf bytes p .graph .head .opening) true
+  replay-none-said p r c = c .2 .2 ∙ ap (λ (b : List ℕ). ending Done 0 (minedOf b p .graph .head .opening) true) (c .1)
 
   -- the listing, into a buffer
   abbrev pub write-listing-gives : Profile → List ℕ → Listed → List ℕ → Type 0

@@ -10,6 +10,7 @@
 -- Blocker, 2/12: 10 carries the smallest activity that blocks, every other number 255.
 -- Light, 3/12: what the profiles are, what the listing program's arguments mean, what 12 leaves, what the summary counts.
 -- Desk, 5/12: what the call desk answers at a place depends on that place's own call alone; open; a freed place.
+-- Enabled, 6/12: every marking given back has the true set of enabled activities; 16 exactly where a set is false; a replay is its steps.
 -- Finish, 8/12: a way out is a finishing sequence, the shortest and the first of these; 17 exactly where there is none.
 -- ShutOut, 8/12: what is said to have shut a step out is an event of the call that excludes it.
 use mathlib.Core.Path.{_≡_, refl, sym, ap, subst, _∙_}
@@ -24,15 +25,15 @@ use Rattle.sets.specs.Answers.{numberOf, blockerOf, isDone, thenAsk}
 use Rattle.sets.specs.declared.activity.Activity.{Activity}
 use Rattle.sets.specs.declared.answer.Answer.{Answer}
 use Rattle.sets.specs.declared.answer.Answer.the-variants.{Done, TooShort, WrongLetters, AboveLimit, WrongOffset, Outside, BadRow, BufferTooSmall, NoEvent, NotIncluded, Waiting, NoTrace, WrongArgument}
-use Rattle.sets.specs.declared.answer.Answer.the-variants.{NoPlaceFree, NotOpen, NotAccepting, NoWayOut}
+use Rattle.sets.specs.declared.answer.Answer.the-variants.{NoPlaceFree, NotOpen, NotAccepting, FalseEnabled, NoWayOut}
 use Rattle.sets.proofs.Members.{mem-those}
 use Rattle.sets.proofs.Asking.{done-is}
 use Rattle.sets.specs.Members.{noSet}
-use Rattle.engine.specs.Markings.{emptyMarking, openingOf}
+use Rattle.engine.specs.Markings.{emptyMarking}
 use Rattle.engine.specs.Relations.{emptyGraph, relationsOf}
 use Rattle.engine.specs.Steps.{enabled, after, accepting}
 use Rattle.engine.specs.Judged.{judgedFor, judged, judgedWith}
-use Rattle.engine.specs.Replay.{enabledOf, steppedOf, acceptingOf, ending, replayFrom, replayOf}
+use Rattle.engine.specs.Replay.{enabledOf, nextMarking, steppedOf, acceptingOf, ending, replayFrom, replayOf}
 use Rattle.engine.specs.declared.marking.Marking.{Marking}
 use Rattle.engine.specs.declared.graph.Graph.{Graph}
 use Rattle.engine.specs.declared.step.Stepped.{Stepped}
@@ -58,11 +59,12 @@ use Rattle.graphfile.proofs.GraphFile.{Machine}
 use Rattle.graphfile.proofs.RoundTrips.{written-then-read, read-then-written}
 use Rattle.rules.specs.declared.Profile.{Profile}
 use Rattle.rules.proofs.FromFile.{file-accepted}
+use Rattle.miner.specs.Mine.{minedOf}
 use Rattle.miner.specs.declared.mining.Mined.{Mined}
 use Rattle.promises.specs.Promised.{traceOf, judgedCopy, graphBack, fileBack, fileCopied}
 use Rattle.promises.specs.Demanded.{Refused, PairForPair, Stepping, InTurn, StopsAt, GoesThrough, Settles}
 use Rattle.promises.proofs.Contracts.{number-gives, number-said, blocker-gives, blocker-said, judge-log-gives, judge-log-said, mine-gives, mine-said, find-trace-gives, find-trace-said, ask-gives, ask-said, enabled-gives, enabled-said, step-gives, step-said, execute-gives, execute-said, accepting-gives, accepting-said, replay-gives, replay-said, write-gives, write-said, read-gives, read-said, graph-back-gives, graph-back-said, file-back-gives, file-back-said, replay-own-gives, replay-own-said, replay-none-gives, replay-none-said}
-use Rattle.promises.proofs.Own.{mined-answer, mined-graph, mined-nothing, mined-judged, own-through, none-through, finds}
+use Rattle.promises.proofs.Own.{mined-answer, mined-graph, mined-nothing, mined-judged, mined-pending, own-through, none-through, finds}
 use Rattle.promises.proofs.Pairs.{pairs}
 use Rattle.promises.proofs.StepForStep.{stops-at, goes-through}
 use Rattle.promises.proofs.Early.{replay-runs, early-nothing}
@@ -73,16 +75,16 @@ use Rattle.promises.proofs.Early.{replay-runs, early-nothing}
 abbrev cases : Activity → List Answer
 cases b =
     Done ∷ TooShort ∷ WrongLetters ∷ AboveLimit ∷ WrongOffset ∷ Outside ∷ BadRow ∷ BufferTooSmall ∷ NoEvent ∷ NotIncluded ∷ Waiting b ∷ NoTrace
-    ∷ WrongArgument ∷ NoPlaceFree ∷ NotOpen ∷ NotAccepting ∷ NoWayOut ∷ []
+    ∷ WrongArgument ∷ NoPlaceFree ∷ NotOpen ∷ NotAccepting ∷ FalseEnabled ∷ NoWayOut ∷ []
 
 -- 01's table, "Numbers given back", and 02's numbers: the number of each
-pub numbers : (b : Activity) → map numberOf (cases b) ≡ 0 ∷ 1 ∷ 2 ∷ 3 ∷ 4 ∷ 5 ∷ 6 ∷ 7 ∷ 8 ∷ 9 ∷ 10 ∷ 11 ∷ 12 ∷ 13 ∷ 14 ∷ 15 ∷ 17 ∷ []
+pub numbers : (b : Activity) → map numberOf (cases b) ≡ 0 ∷ 1 ∷ 2 ∷ 3 ∷ 4 ∷ 5 ∷ 6 ∷ 7 ∷ 8 ∷ 9 ∷ 10 ∷ 11 ∷ 12 ∷ 13 ∷ 14 ∷ 15 ∷ 16 ∷ 17 ∷ []
 numbers b = refl
 
 -- 02, 2/12: the blocker beside each
 pub blockers : (b : Activity)
     → map blockerOf (cases b)
-    ≡ 255 ∷ 255 ∷ 255 ∷ 255 ∷ 255 ∷ 255 ∷ 255 ∷ 255 ∷ 255 ∷ 255 ∷ b .0 ∷ 255 ∷ 255 ∷ 255 ∷ 255 ∷ 255 ∷ 255 ∷ []
+    ≡ 255 ∷ 255 ∷ 255 ∷ 255 ∷ 255 ∷ 255 ∷ 255 ∷ 255 ∷ 255 ∷ 255 ∷ b .0 ∷ 255 ∷ 255 ∷ 255 ∷ 255 ∷ 255 ∷ 255 ∷ 255 ∷ []
 blockers b = refl
 
 -- that is the number which the function `number` gives
@@ -137,7 +139,7 @@ module _ (g : Graph) where
 
   module _ (m : Marking) where
     abbrev asked : ℕ → Answer
-    asked e = thenAsk (judgedWith g m) (enabled (g .head .events) (relationsOf g) m e)
+    asked e = thenAsk (judgedWith g m) (enabled (g .head .events) (relationsOf g) (m .state) e)
 
     pub enabled-number : (e : ℕ) (a : Answer) → enabled-gives g m e a → numberOf a ≡ numberOf (asked e)
     unfolding enabledOf
@@ -163,13 +165,13 @@ module _ (g : Graph) where
     accepting-number r c = ap numberOf (the-verdict r c)
 
   pub replay-number : (σ : List ℕ) (r : Replayed) → replay-gives g σ r
-      → numberOf (r .answer) ≡ numberOf (thenAsk (judgedFor g (length σ)) (replayFrom (g .head .events) (relationsOf g) (g .head .opening) 0 σ .answer))
+      → numberOf (r .answer) ≡ numberOf (thenAsk (judgedFor g (length σ)) (replayFrom (g .head .events) (relationsOf g) (g .head .opening .state) 0 σ .answer))
   unfolding replayOf
   replay-number σ r c = ap (λ (x : Replayed). numberOf (x .answer)) (replay-said g σ r c) ∙ ap numberOf (within (isDone (judgedFor g (length σ))))
     where
       within : (t : Bool)
-          → (when t then replayFrom (g .head .events) (relationsOf g) (g .head .opening) 0 σ else ending (judgedFor g (length σ)) 0 emptyMarking false) .answer
-          ≡ when t then replayFrom (g .head .events) (relationsOf g) (g .head .opening) 0 σ .answer else judgedFor g (length σ)
+          → (when t then replayFrom (g .head .events) (relationsOf g) (g .head .opening .state) 0 σ else ending (judgedFor g (length σ)) 0 emptyMarking false) .answer
+          ≡ when t then replayFrom (g .head .events) (relationsOf g) (g .head .opening .state) 0 σ .answer else judgedFor g (length σ)
       within true = refl
       within false = refl
 
@@ -215,7 +217,7 @@ module _ (g : Graph) (m : Marking) where
   unfolding steppedOf
   stays e r h n =
       ap (λ (x : Stepped). x .marking) h
-      ∙ ap (λ (t : Bool). when t then after (relationsOf g) m e else m) (ap (λ (x : Stepped). isDone (x .answer)) (sym h) ∙ n)
+      ∙ ap (λ (t : Bool). when t then nextMarking g m e else m) (ap (λ (x : Stepped). isDone (x .answer)) (sym h) ∙ n)
 
   -- the marking is as it was
   pub step-stays : (e : ℕ) (r : Stepped) → step-gives g m e r → Refused (r .answer) → r .marking ≡ m
@@ -229,7 +231,7 @@ module _ (g : Graph) (m : Marking) where
   unfolding acceptingOf _and_
   accepting-no r c n =
       ap (λ (x : Verdict). x .accepting) (accepting-said g m r c)
-      ∙ ap (λ (t : Bool). t and accepting m) (ap isDone (sym (the-verdict g m r c)) ∙ n)
+      ∙ ap (λ (t : Bool). t and accepting (m .state)) (ap isDone (sym (the-verdict g m r c)) ∙ n)
 
 module _ (g : Graph) where
   -- no byte of the buffer is changed
@@ -242,8 +244,8 @@ module _ (g : Graph) where
         h .1 ∙ ap (λ (t : Bool). when t then bytesOf g ++ drop (length (bytesOf g)) before else before) refused,
       )
 
-  -- refused with 3 or 5, a replay gives place 0, the empty marking, and no for accepting
-  pub replay-nothing : (σ : List ℕ) (r : Replayed) → replay-gives g σ r → (numberOf (r .answer) ≡ 3) ⊎ (numberOf (r .answer) ≡ 5)
+  -- refused with 3, 5 or 16, a replay gives place 0, the empty marking, and no for accepting
+  pub replay-nothing : (σ : List ℕ) (r : Replayed) → replay-gives g σ r → (numberOf (r .answer) ≡ 3) ⊎ ((numberOf (r .answer) ≡ 5) ⊎ (numberOf (r .answer) ≡ 16))
       → r ≡ ending (r .answer) 0 emptyMarking false
   replay-nothing σ r c x = early-nothing g σ r (replay-said g σ r c) x
 
@@ -261,38 +263,38 @@ mine-pairs bytes p r c d =
 -- ---- the bit-set engine answers as the set rules do, for a graph and a marking that are not refused
 
 module _ (g : Graph) (m : Marking) (ok : numberOf (judgedWith g m) ≡ 0) where
-  pub enabled-rules : (e : ℕ) (a : Answer) → enabled-gives g m e a → numberOf a ≡ numberOf (enabled (g .head .events) (relationsOf g) m e)
+  pub enabled-rules : (e : ℕ) (a : Answer) → enabled-gives g m e a → numberOf a ≡ numberOf (enabled (g .head .events) (relationsOf g) (m .state) e)
   enabled-rules e a c =
-      enabled-number g m e a c ∙ ap (λ (x : Answer). numberOf (thenAsk x (enabled (g .head .events) (relationsOf g) m e))) (done-by (judgedWith g m) ok)
+      enabled-number g m e a c ∙ ap (λ (x : Answer). numberOf (thenAsk x (enabled (g .head .events) (relationsOf g) (m .state) e))) (done-by (judgedWith g m) ok)
 
-  pub accepting-rules : (r : Verdict) → accepting-gives g m r → r .accepting ≡ accepting m
+  pub accepting-rules : (r : Verdict) → accepting-gives g m r → r .accepting ≡ accepting (m .state)
   unfolding acceptingOf _and_
-  accepting-rules r c = ap (λ (x : Verdict). x .accepting) (accepting-said g m r c) ∙ ap (λ (x : Answer). isDone x and accepting m) (done-by (judgedWith g m) ok)
+  accepting-rules r c = ap (λ (x : Verdict). x .accepting) (accepting-said g m r c) ∙ ap (λ (x : Answer). isDone x and accepting (m .state)) (done-by (judgedWith g m) ok)
 
 module _ (g : Graph) (m : Marking) (e : ℕ) where
-  moves : (r : Stepped) → r ≡ steppedOf g m e → numberOf (r .answer) ≡ 0 → Stepping (relationsOf g) m e (r .marking)
+  moves : (r : Stepped) → r ≡ steppedOf g m e → numberOf (r .answer) ≡ 0 → Stepping (relationsOf g) (m .state) e (r .marking .state)
   unfolding steppedOf after
   moves r h d =
       let done : isDone (steppedOf g m e .answer) ≡ true = ap (λ (x : Stepped). isDone (x .answer)) (sym h) ∙ ap (λ (n : ℕ). eqb n 0) d in
-      subst (Stepping (relationsOf g) m e)
-      (sym (ap (λ (x : Stepped). x .marking) h ∙ ap (λ (t : Bool). when t then after (relationsOf g) m e else m) done))
+      subst (λ (n : Marking). Stepping (relationsOf g) (m .state) e (n .state))
+      (sym (ap (λ (x : Stepped). x .marking) h ∙ ap (λ (t : Bool). when t then nextMarking g m e else m) done))
       (record { executed = λ a l. mem-those _ a l; pending = λ a l. mem-those _ a l; included = λ a l. mem-those _ a l })
 
   -- a step that is done
-  pub step-rules : (r : Stepped) → step-gives g m e r → numberOf (r .answer) ≡ 0 → Stepping (relationsOf g) m e (r .marking)
+  pub step-rules : (r : Stepped) → step-gives g m e r → numberOf (r .answer) ≡ 0 → Stepping (relationsOf g) (m .state) e (r .marking .state)
   step-rules r c d = moves r (step-said g m e r c) d
 
   -- and one on a lent marking
-  pub execute-rules : (a : Answer) (n : Marking) → execute-gives g m e a n → numberOf a ≡ 0 → Stepping (relationsOf g) m e n
+  pub execute-rules : (a : Answer) (n : Marking) → execute-gives g m e a n → numberOf a ≡ 0 → Stepping (relationsOf g) (m .state) e (n .state)
   execute-rules a n c d = moves (record { answer = a; marking = n }) (execute-said g m e a n c) d
 
 -- and it replays step for step: to the first refusal, or through
 module _ (g : Graph) (σ : List ℕ) (ok : numberOf (judgedFor g (length σ)) ≡ 0) (r : Replayed) (c : replay-gives g σ r) where
-  pub replay-stops : Refused (r .answer) → StopsAt (g .head .events) (relationsOf g) (g .head .opening) σ r
-  replay-stops = stops-at (g .head .events) (relationsOf g) (g .head .opening) σ r (replay-runs g σ r (replay-said g σ r c) (done-by _ ok))
+  pub replay-stops : Refused (r .answer) → StopsAt (g .head .events) (relationsOf g) (g .head .opening .state) σ r
+  replay-stops = stops-at (g .head .events) (relationsOf g) (g .head .opening .state) σ r (replay-runs g σ r (replay-said g σ r c) (done-by _ ok))
 
-  pub replay-through : numberOf (r .answer) ≡ 0 → GoesThrough (g .head .events) (relationsOf g) (g .head .opening) σ r
-  replay-through d = goes-through (g .head .events) (relationsOf g) (g .head .opening) σ r (replay-runs g σ r (replay-said g σ r c) (done-by _ ok)) (done-by _ d)
+  pub replay-through : numberOf (r .answer) ≡ 0 → GoesThrough (g .head .events) (relationsOf g) (g .head .opening .state) σ r
+  replay-through d = goes-through (g .head .events) (relationsOf g) (g .head .opening .state) σ r (replay-runs g σ r (replay-said g σ r c) (done-by _ ok)) (done-by _ d)
 
 -- ---- files and graphs go round without a change
 
@@ -347,7 +349,7 @@ module _ (bytes : List ℕ) (p : Profile) (k : ℕ) (l : k < length (logOf bytes
         record { done = ap numberOf (t .done); whole = t .whole; settled = t .settled; accepted = t .accepted }
 
     -- with every event enabled in its turn
-    pub own-turns : InTurn (m .graph .head .events) (relationsOf (m .graph)) (m .graph .head .opening) (traceOf bytes k)
+    pub own-turns : InTurn (m .graph .head .events) (relationsOf (m .graph)) (m .graph .head .opening .state) (traceOf bytes k)
     own-turns =
         let ok : judged (m .graph) ≡ Done = ap (λ (x : Mined). judged (x .graph)) (mine-said bytes p m cm) ∙ mined-judged bytes p in
         let long = judged-for (m .graph) ok (length (traceOf bytes k)) (read-within bytes .lengths k l) in
@@ -362,17 +364,17 @@ module _ (bytes : List ℕ) (p : Profile) (k : ℕ) (l : k < length (logOf bytes
 
 -- the empty trace, on the graph of any bytes: the opening marking is accepting
 module _ (bytes : List ℕ) (p : Profile) where
-  none-settles : (r : Replayed) (events : _) → r ≡ ending Done 0 (openingOf events) true → Settles 0 r
-  none-settles r events h =
+  none-settles : (r : Replayed) → r ≡ ending Done 0 (minedOf bytes p .graph .head .opening) true → Settles 0 r
+  none-settles r h =
       record {
         done = ap (λ (x : Replayed). numberOf (x .answer)) h;
         whole = ap (λ (x : Replayed). x .place .0) h;
-        settled = ap (λ (x : Replayed). x .marking .pending) h;
+        settled = ap (λ (x : Replayed). x .marking .state .pending) h ∙ mined-pending bytes p;
         accepted = ap (λ (x : Replayed). x .accepting) h;
       }
 
   pub own-empty : (m : Mined) (r : Replayed) → mine-gives bytes p m → replay-gives (m .graph) [] r → Settles 0 r
-  own-empty m r cm cr = none-settles r _ (none-through bytes p m r (mine-said bytes p m cm) (replay-said _ _ r cr))
+  own-empty m r cm cr = none-settles r (none-through bytes p m r (mine-said bytes p m cm) (replay-said _ _ r cr))
 
   pub own-none : (r : Replayed) → replay-none-gives bytes p r → Settles 0 r
-  own-none r c = none-settles r _ (replay-none-said bytes p r c)
+  own-none r c = none-settles r (replay-none-said bytes p r c)

@@ -21,7 +21,9 @@ use Rattle.sets.proofs.Asking.{done-is}
 use Rattle.sets.proofs.Members.{Whole}
 use Rattle.engine.specs.Relations.{Relations, relationsOf}
 use Rattle.engine.specs.Steps.{accepting}
-use Rattle.engine.specs.Judged.{markingWithin, graphWithin, judgedFor, judgedWith}
+use Rattle.engine.specs.Judged.{judgedWith}
+use Rattle.engine.proofs.Judging.{found-one}
+use Rattle.engine.specs.declared.marking.State.{State}
 use Rattle.engine.specs.declared.marking.Marking.{Marking}
 use Rattle.engine.specs.declared.graph.Graph.{Graph}
 use Rattle.finish.specs.Ways.{mostSteps, canFinish, wayOf, fewest, inFour, finishedBy, shortestOf, finishOf}
@@ -39,23 +41,9 @@ finish-gives g m f = Gives finish.Post (λ κ. (g, (m, tt))) (λ κ. f)
 abbrev Not17 : Answer → Type 0
 Not17 a = T (eqb (numberOf a) 17) → ⊥
 
-when-17 : (t : Bool) (x y : Answer) → Not17 x → Not17 y → Not17 (when t then x else y)
-when-17 true x y p q = p
-when-17 false x y p q = q
-
-graph-17 : (g : Graph) → Not17 (judgedFor g 0)
-unfolding judgedFor
-graph-17 g =
-    let third = when-17 (non (graphWithin g)) Outside Done (λ h. h) (λ h. h) in
-    let second = when-17 (ltb longestTrace 0) AboveLimit (when non (graphWithin g) then Outside else Done) (λ h. h) third in
-    when-17 (ltb mostActivities (g .head .activities)) AboveLimit
-    (when ltb longestTrace 0 then AboveLimit else when non (graphWithin g) then Outside else Done) (λ h. h) second
-
 judged-17 : (g : Graph) (m : Marking) → Not17 (judgedWith g m)
 unfolding judgedWith
-judged-17 g m =
-    when-17 (isDone (judgedFor g 0)) (when markingWithin (g .head .events) m then Done else Outside) (judgedFor g 0)
-    (when-17 (markingWithin (g .head .events) m) Done Outside (λ h. h) (λ h. h)) (graph-17 g)
+judged-17 g m = found-one _ _ _ Not17 (λ h. h) (λ h. h) (λ h. h) (λ h. h)
 
 is-17 : (a : Answer) → numberOf a ≡ 17 → T (eqb (numberOf a) 17)
 is-17 a e = true→T (ap (λ (n : ℕ). eqb n 17) e)
@@ -67,9 +55,12 @@ module _ (g : Graph) (m : Marking) (f : Finished) (c : finish-gives g m f) where
   abbrev r : Relations
   r = relationsOf g
 
-  by-judgement : (t : Bool) → isDone (judgedWith g m) ≡ t → f ≡ (when t then shortestOf events r m else finishedBy (judgedWith g m) [])
+  abbrev s : State
+  s = m .state
+
+  by-judgement : (t : Bool) → isDone (judgedWith g m) ≡ t → f ≡ (when t then shortestOf events r s else finishedBy (judgedWith g m) [])
   unfolding finishOf
-  by-judgement t e = c .2 ∙ ap (λ (b : Bool). when b then shortestOf events r m else finishedBy (judgedWith g m) []) e
+  by-judgement t e = c .2 ∙ ap (λ (b : Bool). when b then shortestOf events r s else finishedBy (judgedWith g m) []) e
 
   -- ================ 1. "3, 5 AND 16 COME FIRST", AND RETURN FOUR 255S
 
@@ -79,55 +70,55 @@ module _ (g : Graph) (m : Marking) (f : Finished) (c : finish-gives g m f) where
   -- ---- of a graph and a marking that are judged done
 
   module _ (ok : judgedWith g m ≡ Done) where
-    searched : f ≡ shortestOf events r m
+    searched : f ≡ shortestOf events r s
     searched = by-judgement true (ap isDone ok)
 
-    found-or-none : ((fewest events r m ≤ mostSteps) × (f ≡ finishedBy Done (wayOf events r (fewest events r m) m)))
-        ⊎ ((mostSteps < fewest events r m) × (f ≡ finishedBy NoWayOut []))
+    found-or-none : ((fewest events r s ≤ mostSteps) × (f ≡ finishedBy Done (wayOf events r (fewest events r s) s)))
+        ⊎ ((mostSteps < fewest events r s) × (f ≡ finishedBy NoWayOut []))
     unfolding shortestOf
-    found-or-none = by (ltb mostSteps (fewest events r m)) refl searched
+    found-or-none = by (ltb mostSteps (fewest events r s)) refl searched
       where
-        by : (t : Bool) → ltb mostSteps (fewest events r m) ≡ t
-            → f ≡ (when t then finishedBy NoWayOut [] else finishedBy Done (wayOf events r (fewest events r m) m))
-            → ((fewest events r m ≤ mostSteps) × (f ≡ finishedBy Done (wayOf events r (fewest events r m) m)))
-            ⊎ ((mostSteps < fewest events r m) × (f ≡ finishedBy NoWayOut []))
-        by true e h = inr (ltb-true mostSteps (fewest events r m) e, h)
-        by false e h = inl (ltb-false mostSteps (fewest events r m) e, h)
+        by : (t : Bool) → ltb mostSteps (fewest events r s) ≡ t
+            → f ≡ (when t then finishedBy NoWayOut [] else finishedBy Done (wayOf events r (fewest events r s) s))
+            → ((fewest events r s ≤ mostSteps) × (f ≡ finishedBy Done (wayOf events r (fewest events r s) s)))
+            ⊎ ((mostSteps < fewest events r s) × (f ≡ finishedBy NoWayOut []))
+        by true e h = inr (ltb-true mostSteps (fewest events r s) e, h)
+        by false e h = inl (ltb-false mostSteps (fewest events r s) e, h)
 
     -- "an accepting marking gives the empty sequence"
-    pub accepting-empty : accepting m ≡ true → f ≡ finishedBy Done []
+    pub accepting-empty : accepting s ≡ true → f ≡ finishedBy Done []
     unfolding shortestOf wayOf fewest leastBelow canFinish
     accepting-empty e =
         searched
-        ∙ ap (λ (n : ℕ). when ltb mostSteps n then finishedBy NoWayOut [] else finishedBy Done (wayOf events r n m))
-        (ap (λ (t : Bool). orNext t (leastBelow mostSteps (λ n. canFinish events r (suc n) m))) e)
+        ∙ ap (λ (n : ℕ). when ltb mostSteps n then finishedBy NoWayOut [] else finishedBy Done (wayOf events r n s))
+        (ap (λ (t : Bool). orNext t (leastBelow mostSteps (λ n. canFinish events r (suc n) s))) e)
 
     module _ (w : Whole events) where
       -- ================ 2. WHAT IS GIVEN IS A WAY OUT
 
-      pub way-out : f .answer ≡ Done → (σ : List ℕ) × (f .way ≡ inFour σ) × WayOut events r m σ
+      pub way-out : f .answer ≡ Done → (σ : List ℕ) × (f .way ≡ inFour σ) × WayOut events r s σ
       way-out d =
           either found-or-none
-          (λ h. (wayOf events r (fewest events r m) m, ap (λ (x : Finished). x .way) (h .1), fewest-way events r w m (h .0)))
+          (λ h. (wayOf events r (fewest events r s) s, ap (λ (x : Finished). x .way) (h .1), fewest-way events r w s (h .0)))
           (λ h. absurd (false→F (ap isDone (sym d ∙ ap (λ (x : Finished). x .answer) (h .1))) tt))
 
       -- ================ 3. "17, EXACTLY WHEN NO SUCH SEQUENCE OF 4 OR FEWER STEPS EXISTS"
 
-      none-then : NoWay events r m → f ≡ finishedBy NoWayOut []
+      none-then : NoWay events r s → f ≡ finishedBy NoWayOut []
       none-then away =
           either found-or-none
           (λ h.
-          let out = fewest-way events r w m (h .0) in
-          absurd (away (wayOf events r (fewest events r m) m) (out .few) (out .finishing)))
+          let out = fewest-way events r w s (h .0) in
+          absurd (away (wayOf events r (fewest events r s) s) (out .few) (out .finishing)))
           (λ h. h .1)
 
-      then-none : T (eqb (numberOf (f .answer)) 17) → NoWay events r m
+      then-none : T (eqb (numberOf (f .answer)) 17) → NoWay events r s
       then-none t =
           either found-or-none
           (λ h. absurd (subst (λ (x : Finished). T (eqb (numberOf (x .answer)) 17)) (h .1) t))
-          (λ h. fewest-none events r w m (h .0))
+          (λ h. fewest-none events r w s (h .0))
 
-  pub given-17 : Whole events → numberOf (f .answer) ≡ 17 → (judgedWith g m ≡ Done) × NoWay events r m
+  pub given-17 : Whole events → numberOf (f .answer) ≡ 17 → (judgedWith g m ≡ Done) × NoWay events r s
   given-17 w e =
       either (split (isDone (judgedWith g m)))
       (λ t. let ok = done-is (judgedWith g m) (T→true _ t) in (ok, then-none ok w (is-17 (f .answer) e)))
@@ -135,7 +126,7 @@ module _ (g : Graph) (m : Marking) (f : Finished) (c : finish-gives g m f) where
       absurd (judged-17 g m
       (subst (λ (x : Finished). T (eqb (numberOf (x .answer)) 17)) (judged-first (F→false _ t)) (is-17 (f .answer) e))))
 
-  pub gives-17 : Whole events → judgedWith g m ≡ Done → NoWay events r m → numberOf (f .answer) ≡ 17
+  pub gives-17 : Whole events → judgedWith g m ≡ Done → NoWay events r s → numberOf (f .answer) ≡ 17
   gives-17 w ok away = ap (λ (x : Finished). numberOf (x .answer)) (none-then ok w away)
 
   -- ================ 4. A REFUSAL RETURNS FOUR 255S

@@ -14,5 +14,6 @@ pub mod PlainEngine
 pub mod Blocker
 pub mod Light
 pub mod Desk
+pub mod Enabled
 pub mod Finish
 pub mod ShutOut

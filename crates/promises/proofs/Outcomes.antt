@@ -10,6 +10,7 @@ use Rattle.sets.proofs.answer.Answer.number.Reads as Answer-number
 use Rattle.sets.proofs.answer.Answer.blocker.Reads as Answer-blocker
 use Rattle.sets.proofs.answer.Answer.is_done.Reads as Answer-is-done
 use Rattle.sets.proofs.set.Set.one.Reads as Set-one
+use Rattle.sets.proofs.set.Set.one_if.Reads as Set-one-if
 use Rattle.sets.proofs.set.Set.below.Reads as Set-below
 use Rattle.sets.proofs.set.Set.has.Reads as Set-has
 use Rattle.sets.proofs.set.Set.union.Reads as Set-union
@@ -33,10 +34,15 @@ use Rattle.sets.proofs.tables.join.Reads as tables-join
 use Rattle.sets.proofs.tables.put_rows.Reads as tables-put-rows
 use Rattle.sets.proofs.tables.taken.Reads as tables-taken
 use Rattle.sets.proofs.opening.opens_with.Reads as opens-with
-use Rattle.engine.proofs.marking.Marking.of.Reads as Marking-of
-use Rattle.engine.proofs.marking.Marking.opening.Reads as Marking-opening
+use Rattle.engine.proofs.marking.State.of.Reads as State-of
+use Rattle.engine.proofs.marking.State.opening.Reads as State-opening
+use Rattle.engine.proofs.enabled.enabled_set.Reads as enabled-set
+use Rattle.engine.proofs.enabled.marked.Reads as marked
+use Rattle.engine.proofs.enabled.is_true.Reads as is-true
+use Rattle.engine.proofs.judge.any_above.Reads as any-above
+use Rattle.engine.proofs.judge.found.Reads as found
 use Rattle.engine.proofs.graph.Graph.empty.Reads as Graph-empty
-use Rattle.engine.proofs.judge.marking_within.Reads as marking-within
+use Rattle.engine.proofs.judge.state_within.Reads as state-within
 use Rattle.engine.proofs.judge.rows_within.Reads as rows-within
 use Rattle.engine.proofs.judge.judge_for.Reads as judge-for
 use Rattle.engine.proofs.judge.judge_beside.Reads as judge-beside
@@ -51,11 +57,13 @@ use Rattle.engine.proofs.replay.run.Reads as run
 use Rattle.engine.proofs.replay.replay.Reads as replay
 use Rattle.engine.proofs.judge.head_within.Reads as head-within
 use Rattle.plain.proofs.judge.judge_for.Reads as plain-judge-for
+use Rattle.plain.proofs.enabled.marked.Reads as plain-marked
 use Rattle.plain.proofs.step.enabled.Reads as plain-enabled
 use Rattle.plain.proofs.step.step.Reads as plain-step
 use Rattle.plain.proofs.step.accepting.Reads as plain-accepting
 use Rattle.plain.proofs.replay.replay.Reads as plain-replay
 use Rattle.plain.proofs.fill.fill.Reads as plain-fill
+use Rattle.finish.proofs.search.way_out.Reads as way-out
 use Rattle.finish.proofs.search.finish.Reads as finish
 use Rattle.finish.proofs.shut.shut_by.Reads as shut-by
 use Rattle.calllog.proofs.judge.judge_log.Reads as judge-log
@@ -92,6 +100,7 @@ use Rattle.port.proofs.skelfora_summary.Reads as skelfora-summary
 use Rattle.port.proofs.skelfora_rewrite.Reads as skelfora-rewrite
 use Rattle.port.proofs.skelfora_replay.Reads as skelfora-replay
 use Rattle.port.proofs.skelfora_step.Reads as skelfora-step
+use Rattle.port.proofs.skelfora_opening.Reads as skelfora-opening
 use Rattle.port.proofs.way_out.skelfora_finish.Reads as skelfora-finish
 use Rattle.port.proofs.way_out.skelfora_shut_by.Reads as skelfora-shut-by
 use Rattle.port.proofs.classroom.skelfora_plain_step.Reads as skelfora-plain-step
@@ -136,6 +145,9 @@ Answer-is-done-once κ a r r′ s s′ h h′ = h ∙ sym h′
 
 pub Set-one-once : Once Set-one.Post
 Set-one-once κ a r r′ s s′ h h′ = h ∙ sym h′
+
+pub Set-one-if-once : Once Set-one-if.Post
+Set-one-if-once κ a r r′ s s′ h h′ = h ∙ sym h′
 
 pub Set-below-once : Once Set-below.Post
 Set-below-once κ a r r′ s s′ h h′ = h ∙ sym h′
@@ -215,17 +227,32 @@ opens-with-once κ a r r′ s s′ h h′ = h ∙ sym h′
 
 -- ---- engine
 
-pub Marking-of-once : Once Marking-of.Post
-Marking-of-once κ a r r′ s s′ h h′ = h ∙ sym h′
+pub State-of-once : Once State-of.Post
+State-of-once κ a r r′ s s′ h h′ = h ∙ sym h′
 
-pub Marking-opening-once : Once Marking-opening.Post
-Marking-opening-once κ a r r′ s s′ h h′ = h ∙ sym h′
+pub State-opening-once : Once State-opening.Post
+State-opening-once κ a r r′ s s′ h h′ = h ∙ sym h′
+
+pub enabled-set-once : Once enabled-set.Post
+enabled-set-once κ a r r′ s s′ h h′ = h ∙ sym h′
+
+pub marked-once : Once marked.Post
+marked-once κ a r r′ s s′ h h′ = h ∙ sym h′
+
+pub is-true-once : Once is-true.Post
+is-true-once κ a r r′ s s′ h h′ = h ∙ sym h′
+
+pub any-above-once : Once any-above.Post
+any-above-once κ a r r′ s s′ h h′ = h ∙ sym h′
+
+pub found-once : Once found.Post
+found-once κ a r r′ s s′ h h′ = h ∙ sym h′
 
 pub Graph-empty-once : Once Graph-empty.Post
 Graph-empty-once κ a r r′ s s′ h h′ = h ∙ sym h′
 
-pub marking-within-once : Once marking-within.Post
-marking-within-once κ a r r′ s s′ h h′ = h ∙ sym h′
+pub state-within-once : Once state-within.Post
+state-within-once κ a r r′ s s′ h h′ = h ∙ sym h′
 
 pub rows-within-once : Once rows-within.Post
 rows-within-once κ a r r′ s s′ h h′ = h ∙ sym h′
@@ -277,6 +304,9 @@ replay-once κ a r r′ s s′ h h′ = h ∙ sym h′
 pub plain-judge-for-once : Once plain-judge-for.Post
 plain-judge-for-once κ a r r′ s s′ h h′ = h ∙ sym h′
 
+pub plain-marked-once : Once plain-marked.Post
+plain-marked-once κ a r r′ s s′ h h′ = h ∙ sym h′
+
 pub plain-enabled-once : Once plain-enabled.Post
 plain-enabled-once κ a r r′ s s′ h h′ = h ∙ sym h′
 
@@ -296,6 +326,9 @@ pub plain-fill-once : OnceLent plain-fill.Post (λ κ s. now (s .1 .1 .0))
 plain-fill-once κ a r r′ s s′ h h′ = (h .0 ∙ sym (h′ .0), h .1 ∙ sym (h′ .1))
 
 -- ---- finish
+
+pub way-out-once : Once way-out.Post
+way-out-once κ a r r′ s s′ h h′ = h ∙ sym h′
 
 pub finish-once : Once finish.Post
 finish-once κ a r r′ s s′ h h′ = h ∙ sym h′
@@ -435,6 +468,9 @@ skelfora-replay-once κ a r r′ s s′ h h′ = h ∙ sym h′
 
 pub skelfora-step-once : OnceLent skelfora-step.Post (λ κ s. now (s .1 .0))
 skelfora-step-once κ a r r′ s s′ h h′ = (h .0 ∙ sym (h′ .0), h .1 ∙ sym (h′ .1))
+
+pub skelfora-opening-once : OnceLent skelfora-opening.Post (λ κ s. now (s .1 .0))
+skelfora-opening-once κ a r r′ s s′ h h′ = (h .0 ∙ sym (h′ .0), h .1 ∙ sym (h′ .1))
 
 pub skelfora-finish-once : OnceLent skelfora-finish.Post (λ κ s. now (s .1 .1 .0))
 skelfora-finish-once κ a r r′ s s′ h h′ = (h .0 ∙ sym (h′ .0), h .1 ∙ sym (h′ .1))

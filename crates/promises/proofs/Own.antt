@@ -16,11 +16,12 @@ use Rattle.sets.specs.declared.answer.Answer.{Answer}
 use Rattle.sets.specs.declared.answer.Answer.the-variants.{Done}
 use Rattle.sets.proofs.Tests.{T→true, F→false, split, either, true→T, false→F}
 use Rattle.sets.proofs.Asking.{done-is}
-use Rattle.engine.specs.Markings.{emptyMarking, openingOf}
+use Rattle.engine.specs.Markings.{emptyMarking}
 use Rattle.sets.specs.Members.{noSet}
-use Rattle.engine.specs.Relations.{emptyGraph}
-use Rattle.engine.specs.Steps.{accepting}
-use Rattle.engine.specs.Judged.{markingWithin, rowWithin, rowsWithin, relationsWithin, graphWithin, judgedFor, judged}
+use Rattle.engine.specs.Relations.{relationsOf, emptyGraph}
+use Rattle.engine.specs.Steps.{enabled, accepting}
+use Rattle.engine.specs.Judged.{stateWithin, rowWithin, rowsWithin, relationsWithin, graphWithin, found, judgedFor, judged}
+use Rattle.engine.specs.Enabled.{enabledSet, marked, isTrue}
 use Rattle.engine.specs.Replay.{ending, replayFrom, replayOf}
 use Rattle.engine.specs.declared.graph.Graph.{Graph}
 use Rattle.engine.specs.declared.replay.Replayed.{Replayed}
@@ -57,9 +58,18 @@ module _ (bytes : List ℕ) (p : Profile) where
   mined-nothing n =
       ap (λ (t : Bool). when t then minedGraph (logOf bytes .activities) (logOf bytes .traces) p else emptyGraph) (ap isDone (log-answer bytes) ∙ n)
 
+-- nothing is pending at its opening
+pub mined-pending : (bytes : List ℕ) (p : Profile) → minedOf bytes p .graph .head .opening .state .pending ≡ noSet
+unfolding minedGraph graphFrom
+mined-pending bytes p =
+    either (split (isDone (judgedLog bytes)))
+    (λ y. ap (λ (g : Graph). g .head .opening .state .pending) (mined-graph bytes p (done-is _ (T→true _ y))))
+    (λ n. ap (λ (g : Graph). g .head .opening .state .pending) (mined-nothing bytes p (F→false _ n)))
+
 -- the empty graph is no reason to refuse
 pub empty-judged : judged emptyGraph ≡ Done
-unfolding judgedFor graphWithin relationsWithin rowsWithin rowWithin markingWithin within isEmpty everyBelow bitsOf bit mem those _and_ _or_ non rowAt tableAt
+unfolding judgedFor found isTrue enabledSet enabled graphWithin relationsWithin rowsWithin rowWithin stateWithin within isEmpty everyBelow bitsOf bit mem those
+    _and_ _or_ non rowAt tableAt
 empty-judged = refl
 
 -- nor is any graph that the miner gives
@@ -101,7 +111,7 @@ own-through bytes p k m r hm l hr =
     record {
       done = ap (λ (x : Replayed). x .answer) same ∙ d .done;
       whole = ap (λ (x : Replayed). x .place .0) same ∙ d .whole;
-      settled = ap (λ (x : Replayed). x .marking .pending) same ∙ d .settled;
+      settled = ap (λ (x : Replayed). x .marking .state .pending) same ∙ d .settled;
       accepted = ap (λ (x : Replayed). x .accepting) same ∙ d .accepted;
     }
 
@@ -121,19 +131,19 @@ module _ (log : List ℕ) (k : ℕ) (f : Found) (t : Bool) (hf : f ≡ foundOf l
       )
 
   module _ (y : not t ≡ false) where
-    found : f .answer ≡ Done
-    found = done-is (f .answer) (sym ht ∙ not-false t y)
+    was-found : f .answer ≡ Done
+    was-found = done-is (f .answer) (sym ht ∙ not-false t y)
 
     pub own-within : f .start + f .length ≤ length log
-    own-within = found-trace log k f hf found .0
+    own-within = found-trace log k f hf was-found .0
 
     pub own-done : (p : Profile) (m : Mined) (r : Replayed) → m ≡ minedOf log p → r ≡ replayOf (m .graph) (take (f .start + f .length - f .start) (drop (f .start) log)) → OwnReplayed log p k r
     unfolding ownReplay
     own-done p m r hm hr =
         let n : f .start + f .length - f .start ≡ f .length = omega arith in
-        let finding : findingOf log k ≡ Done = sym the-answer ∙ found in
+        let finding : findingOf log k ≡ Done = sym the-answer ∙ was-found in
         let trace : take (f .start + f .length - f .start) (drop (f .start) log) ≡ traceOf log k =
-        ap (λ (i : ℕ). take i (drop (f .start) log)) n ∙ found-trace log k f hf found .1 in
+        ap (λ (i : ℕ). take i (drop (f .start) log)) n ∙ found-trace log k f hf was-found .1 in
         let same : r ≡ replayOf (m .graph) (traceOf log k) = hr ∙ ap (replayOf (m .graph)) trace in
         let d = own-through log p k m r hm (finds-below log k finding) same in (
           same
@@ -145,10 +155,11 @@ module _ (log : List ℕ) (k : ℕ) (f : Found) (t : Bool) (hf : f ≡ foundOf l
 -- ---- `replay_none`: the empty trace
 
 abbrev Opens : Graph → Type 0
-Opens g = replayOf g [] ≡ ending Done 0 (openingOf (g .head .events)) true
+Opens g = replayOf g [] ≡ ending Done 0 (g .head .opening) true
 
 -- a graph that is taken, with its opening marking accepting
-opens : (g : Graph) → judged g ≡ Done → g .head .opening ≡ openingOf (g .head .events) → accepting (g .head .opening) ≡ true → Opens g
+opens : (g : Graph) → judged g ≡ Done → marked (g .head .events) (relationsOf g) (g .head .opening .state) ≡ g .head .opening
+    → accepting (g .head .opening .state) ≡ true → Opens g
 unfolding replayFrom
 opens g ok o a = replay-judged g ok [] (omega arith) ∙ (λ i. ending Done 0 (o i) (a i))
 
@@ -160,11 +171,11 @@ mined-opens bytes p =
     opens g ok refl (ap (λ (r : Replayed). r .accepting) (sym (replay-judged g ok [] (omega arith))) ∙ demand3-file bytes p .empty .accepted)
 
 empty-opens : Opens emptyGraph
-unfolding accepting someBelow bit mem those _and_ _or_ non
+unfolding enabledSet enabled accepting someBelow bitsOf bit mem those _and_ _or_ non
 empty-opens = opens emptyGraph empty-judged refl refl
 
 pub none-through : (log : List ℕ) (p : Profile) (m : Mined) (r : Replayed) → m ≡ minedOf log p → r ≡ replayOf (m .graph) []
-    → r ≡ ending Done 0 (openingOf (minedOf log p .graph .head .events)) true
+    → r ≡ ending Done 0 (minedOf log p .graph .head .opening) true
 none-through log p m r hm hr =
     hr
     ∙ ap (λ (x : Mined). replayOf (x .graph) []) hm

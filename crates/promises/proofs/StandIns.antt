@@ -4,11 +4,12 @@
 use mathlib.Core.Path.{_≡_, refl, sym, ap, _∙_}
 use mathlib.Core.Bool.{Bool, true, false}
 use mathlib.Core.List.{List, [], _∷_}
-use Prim.Native.Nat.{ℕ, _+_}
+use Prim.Native.Nat.{ℕ, _+_, _≤_}
+use lib.Dec.{lit≤}
 use native.Mathlib.Nat.{add-zero}
 use lib.ListN.{length}
 use Rattle.sets.specs.Tests.{_and_, _or_, non, when_then_else_}
-use Rattle.sets.specs.Members.{mem, those, bit, bitsOf, someBelow, everyBelow, isEmpty, within}
+use Rattle.sets.specs.Members.{mem, those, bit, bitsOf, someBelow, everyBelow}
 use Rattle.sets.specs.Rows.{rowAt, inRow, listFrom, rowsOf}
 use Rattle.sets.specs.Tables.{tableAt, tablesOf}
 use Rattle.sets.specs.Answers.{isDone}
@@ -18,20 +19,21 @@ use Rattle.sets.proofs.Asking.{done-is}
 use Rattle.sets.specs.declared.answer.Answer.{Answer}
 use Rattle.engine.specs.Relations.{emptyGraph, relationsOf}
 use Rattle.engine.specs.Steps.{waits, enabled, after, accepting}
-use Rattle.engine.specs.Judged.{markingWithin, rowWithin, rowsWithin, relationsWithin, graphWithin, judgedFor}
+use Rattle.engine.proofs.Acceptable.{replay-judged}
+use Rattle.sets.specs.Sizes.{longestTrace}
 use Rattle.engine.specs.Replay.{steppedOf, ending, replayFrom, replayOf}
 use Rattle.engine.specs.declared.marking.Marking.{Marking}
 use Rattle.engine.specs.declared.graph.Graph.{Graph}
 use Rattle.engine.specs.declared.step.Stepped.{Stepped}
 use Rattle.engine.specs.declared.replay.Replayed.{Replayed}
-use Rattle.engine.proofs.Examples.{table3, table3-before, examples}
+use Rattle.engine.proofs.Examples.{table3, examples}
 use Rattle.calllog.specs.Logs.{Log}
 use Rattle.calllog.proofs.Examples.{logL, tracesL, reads-L}
 use Rattle.rules.specs.Traces.{_has_, _beginsWith_, atEachFrom, atSomeFrom, everyTrace, someTrace}
 use Rattle.rules.specs.Mining.{noPair, noRelations, smallestSource, _without_, event, someEvent, _with_, atMostOnce, precedes, answers, chained, together, before, followed, between, alternates, beforeFirst, step1, step2, directlyBefore, step3, neverTogether, step4, closes, step5, step6, step7, reduced, step8, includedAfter, neverMissed, step9, step10, afterFive, afterSix, afterSeven, afterEight, mined}
 use Rattle.rules.specs.declared.Profile.the-variants.{Full}
 use Rattle.rules.specs.Mined.{graphFrom, minedGraph}
-use Rattle.rules.proofs.Cases.{G}
+use Rattle.rules.proofs.Cases.{G, judged-G}
 use Rattle.miner.specs.Mine.{minedOf}
 use Rattle.miner.specs.declared.mining.Mined.{Mined}
 use Rattle.promises.specs.Demanded.{Refused}
@@ -74,14 +76,17 @@ no-relations f none meets =
 
 -- ---- 3. an execute that changes nothing: Table 3 of the source paper has a step that is done, of event 4
 
-table-steps : (mem (table3-before .executed) 4 ≡ false) × (mem (steppedOf table3 table3-before 4 .marking .executed) 4 ≡ true)
+abbrev start : Marking
+start = table3 .head .opening
+
+table-steps : (mem (start .state .executed) 4 ≡ false) × (mem (steppedOf table3 start 4 .marking .state .executed) 4 ≡ true)
 unfolding bit mem those bitsOf
-table-steps = (refl, ap (λ (r : Stepped). mem (r .marking .executed) 4) (examples .0))
+table-steps = (refl, ap (λ (r : Stepped). mem (r .marking .state .executed) 4) (examples .0))
 
 pub changes-nothing : (f : Graph → Marking → ℕ → Answer) → ((g : Graph) (m : Marking) (e : ℕ) → execute-gives g m e (f g m e) m) → ⊥
 changes-nothing f meets =
-    let same = execute-said table3 table3-before 4 _ table3-before (meets table3 table3-before 4) in
-    false→F (table-steps .0) (true→T (ap (λ (r : Stepped). mem (r .marking .executed) 4) same ∙ table-steps .1))
+    let same = execute-said table3 start 4 _ start (meets table3 start 4) in
+    false→F (table-steps .0) (true→T (ap (λ (r : Stepped). mem (r .marking .state .executed) 4) same ∙ table-steps .1))
 
 -- ---- 4. a replay that works at the first event and then only moves on: to the end of the trace, with the marking as it is
 
@@ -103,12 +108,13 @@ first-works g e = by (replayOf g (e ∷ [])) (isDone (replayOf g (e ∷ []) .ans
         ∙ (λ i. record { answer = sym (done-is (r .answer) y) i; place = record { 0 = add-zero (r .place .0) i }; marking = r .marking; accepting = r .accepting })
     by r false n = ap (λ (t : Bool). when t then ending Done (r .place .0 + 0) (r .marking) (r .accepting) else r) n
 
+once-on-G : (σ : List ℕ) → length σ ≤ longestTrace → replayOf G σ ≡ replayFrom (G .head .events) (relationsOf G) (G .head .opening .state) 0 σ
+once-on-G σ l = replay-judged G judged-G σ l
+
 -- on G, 0 is enabled once: ⟨0⟩ is done, and ⟨0,0⟩ is refused with 9
 on-G : (replayOf G (0 ∷ []) .answer ≡ Done) × (replayOf G (0 ∷ 0 ∷ []) .answer ≡ NotIncluded)
-unfolding G listFrom
-    _and_ _or_ non bit mem those bitsOf someBelow everyBelow isEmpty within rowAt tableAt inRow
-    waits enabled after accepting markingWithin rowWithin rowsWithin relationsWithin graphWithin judgedFor replayFrom replayOf
-on-G = (refl, refl)
+unfolding G listFrom _and_ _or_ non bit mem those bitsOf someBelow rowAt tableAt inRow waits enabled after accepting replayFrom
+on-G = (ap (λ (r : Replayed). r .answer) (once-on-G (0 ∷ []) (lit≤ tt)), ap (λ (r : Replayed). r .answer) (once-on-G (0 ∷ 0 ∷ []) (lit≤ tt)))
 
 pub only-moves-on : ((g : Graph) (σ : List ℕ) → replay-gives g σ (movesOn g σ)) → ⊥
 unfolding movesOn onward

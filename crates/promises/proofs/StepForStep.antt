@@ -15,45 +15,46 @@ use Rattle.sets.proofs.Tests.{T→true, F→false, split, either, true→T, fal
 use Rattle.sets.proofs.Asking.{done-is}
 use Rattle.engine.specs.Relations.{Relations}
 use Rattle.engine.specs.Steps.{enabled, after, accepting}
+use Rattle.engine.specs.Enabled.{marked}
 use Rattle.engine.specs.Replay.{ending, replayFrom}
-use Rattle.engine.specs.declared.marking.Marking.{Marking}
+use Rattle.engine.specs.declared.marking.State.{State}
 use Rattle.engine.specs.declared.replay.Replayed.{Replayed}
 use Rattle.promises.specs.Demanded.{Refused, StopsAt, GoesThrough}
 
 module _ (events : Set) (r : Relations) where
-  abbrev ran : Marking → ℕ → List ℕ → Replayed
+  abbrev ran : State → ℕ → List ℕ → Replayed
   ran m i σ = replayFrom events r m i σ
 
   -- ---- one event
 
-  module _ (m : Marking) (i e : ℕ) (es : List ℕ) where
+  module _ (m : State) (i e : ℕ) (es : List ℕ) where
     goes-on : enabled events r m e ≡ Done → ran m i (e ∷ es) ≡ ran (after r m e) (i + 1) es
     unfolding replayFrom
-    goes-on h = ap (λ (a : Answer). when isDone a then ran (after r m e) (i + 1) es else ending a i m false) h
+    goes-on h = ap (λ (a : Answer). when isDone a then ran (after r m e) (i + 1) es else ending a i (marked events r m) false) h
 
-    stops : Refused (enabled events r m e) → ran m i (e ∷ es) ≡ ending (enabled events r m e) i m false
+    stops : Refused (enabled events r m e) → ran m i (e ∷ es) ≡ ending (enabled events r m e) i (marked events r m) false
     unfolding replayFrom
-    stops h = ap (λ (t : Bool). when t then ran (after r m e) (i + 1) es else ending (enabled events r m e) i m false) h
+    stops h = ap (λ (t : Bool). when t then ran (after r m e) (i + 1) es else ending (enabled events r m e) i (marked events r m) false) h
 
-  by-event : (m : Marking) (e : ℕ) {C : Type 0} → (enabled events r m e ≡ Done → C) → (Refused (enabled events r m e) → C) → C
+  by-event : (m : State) (e : ℕ) {C : Type 0} → (enabled events r m e ≡ Done → C) → (Refused (enabled events r m e) → C) → C
   by-event m e f g = either (split (isDone (enabled events r m e))) (λ y. f (done-is _ (T→true _ y))) (λ n. g (F→false _ n))
 
   -- ---- a refusal, at n places after i
 
-  record Stopped (m : Marking) (i : ℕ) (σ : List ℕ) (end : Replayed) : Type 0 where
+  record Stopped (m : State) (i : ℕ) (σ : List ℕ) (end : Replayed) : Type 0 where
     n : ℕ
     within-trace : n < length σ
     there : end .place .0 ≡ i + n
     earlier : ran m i (take n σ) .answer ≡ Done
     marking-then : ran m i (take n σ) .marking ≡ end .marking
-    refusal : enabled events r (end .marking) (getD σ n 0) ≡ end .answer
+    refusal : enabled events r (end .marking .state) (getD σ n 0) ≡ end .answer
     not-accepting : end .accepting ≡ false
 
-  nothing-left : (m : Marking) (i : ℕ) → Refused (ran m i [] .answer) → ⊥
+  nothing-left : (m : State) (i : ℕ) → Refused (ran m i [] .answer) → ⊥
   unfolding replayFrom
   nothing-left m i h = false→F h tt
 
-  stopped : (m : Marking) (i : ℕ) (σ : List ℕ) → Refused (ran m i σ .answer) → Stopped m i σ (ran m i σ)
+  stopped : (m : State) (i : ℕ) (σ : List ℕ) → Refused (ran m i σ .answer) → Stopped m i σ (ran m i σ)
   stopped m i [] h = absurd (nothing-left m i h)
   stopped m i (e ∷ es) h = by-event m e (λ y. later y (λ k. stopped (after r m e) (i + 1) es k)) here
     where
@@ -88,14 +89,14 @@ module _ (events : Set) (r : Relations) where
 
   -- ---- no refusal
 
-  abbrev Turn : Marking → ℕ → List ℕ → ℕ → Type 0
-  Turn m i σ n = (ran m i (take n σ) .answer ≡ Done) × (enabled events r (ran m i (take n σ) .marking) (getD σ n 0) ≡ Done)
+  abbrev Turn : State → ℕ → List ℕ → ℕ → Type 0
+  Turn m i σ n = (ran m i (take n σ) .answer ≡ Done) × (enabled events r (ran m i (take n σ) .marking .state) (getD σ n 0) ≡ Done)
 
-  first-done : (m : Marking) (i e : ℕ) (es : List ℕ) → ran m i (e ∷ es) .answer ≡ Done → enabled events r m e ≡ Done
+  first-done : (m : State) (i e : ℕ) (es : List ℕ) → ran m i (e ∷ es) .answer ≡ Done → enabled events r m e ≡ Done
   first-done m i e es h =
       by-event m e (λ y. y) (λ n. absurd (false→F (ap (λ (x : Replayed). isDone (x .answer)) (stops m i e es n) ∙ n) (true→T (ap isDone h))))
 
-  turns : (m : Marking) (i : ℕ) (σ : List ℕ) → ran m i σ .answer ≡ Done → (n : ℕ) → n < length σ → Turn m i σ n
+  turns : (m : State) (i : ℕ) (σ : List ℕ) → ran m i σ .answer ≡ Done → (n : ℕ) → n < length σ → Turn m i σ n
   turns m i [] h n l = absurd (not-suc-le-zero l)
   turns m i (e ∷ es) h zero l = (unfold replayFrom in refl, unfold replayFrom in first-done m i e es h)
   turns m i (e ∷ es) h (suc n) l =
@@ -103,10 +104,10 @@ module _ (events : Set) (r : Relations) where
       let t = turns (after r m e) (i + 1) es (ap (λ (x : Replayed). x .answer) (sym (goes-on m i e es y)) ∙ h) n (le-of-suc-le-suc l) in
       let first : ran m i (e ∷ take n es) ≡ ran (after r m e) (i + 1) (take n es) = goes-on m i e (take n es) y in (
         ap (λ (x : Replayed). x .answer) first ∙ t .0,
-        ap (λ (x : Replayed). enabled events r (x .marking) (getD es n 0)) first ∙ t .1,
+        ap (λ (x : Replayed). enabled events r (x .marking .state) (getD es n 0)) first ∙ t .1,
       )
 
-  through : (m : Marking) (i : ℕ) (σ : List ℕ) → ran m i σ .answer ≡ Done → (ran m i σ .place .0 ≡ i + length σ) × (ran m i σ .accepting ≡ accepting (ran m i σ .marking))
+  through : (m : State) (i : ℕ) (σ : List ℕ) → ran m i σ .answer ≡ Done → (ran m i σ .place .0 ≡ i + length σ) × (ran m i σ .accepting ≡ accepting (ran m i σ .marking .state))
   through m i [] h = (unfold replayFrom in sym (add-zero i), unfold replayFrom in refl)
   through m i (e ∷ es) h =
       let on = goes-on m i e es (first-done m i e es h) in
@@ -114,12 +115,12 @@ module _ (events : Set) (r : Relations) where
       let p = t .0 in
       let q : ran m i (e ∷ es) .place .0 ≡ ran (after r m e) (i + 1) es .place .0 = ap (λ (x : Replayed). x .place .0) on in (
         omega arith,
-        ap (λ (x : Replayed). x .accepting) on ∙ t .1 ∙ ap (λ (x : Replayed). accepting (x .marking)) (sym on),
+        ap (λ (x : Replayed). x .accepting) on ∙ t .1 ∙ ap (λ (x : Replayed). accepting (x .marking .state)) (sym on),
       )
 
   -- ---- a whole replay
 
-  module _ (opening : Marking) (σ : List ℕ) (end : Replayed) (h : end ≡ ran opening 0 σ) where
+  module _ (opening : State) (σ : List ℕ) (end : Replayed) (h : end ≡ ran opening 0 σ) where
     pub stops-at : Refused (end .answer) → StopsAt events r opening σ end
     stops-at n =
         subst (StopsAt events r opening σ) (sym h)
@@ -129,7 +130,7 @@ module _ (events : Set) (r : Relations) where
           within-trace = subst (λ (k : ℕ). k < length σ) (sym at) (s .within-trace);
           earlier = ap (λ (k : ℕ). ran opening 0 (take k σ) .answer) at ∙ s .earlier;
           marking-then = ap (λ (k : ℕ). ran opening 0 (take k σ) .marking) at ∙ s .marking-then;
-          refusal = ap (λ (k : ℕ). enabled events r (ran opening 0 σ .marking) (getD σ k 0)) at ∙ s .refusal;
+          refusal = ap (λ (k : ℕ). enabled events r (ran opening 0 σ .marking .state) (getD σ k 0)) at ∙ s .refusal;
           not-accepting = s .not-accepting;
         })
 

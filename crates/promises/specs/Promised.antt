@@ -40,7 +40,7 @@ OwnReplayed log p k r =
     (r ≡ ownReplay log p k)
     × ((r .answer ≡ findingOf log k)
     × ((r .place .0 ≡ length (traceOf log k))
-    × ((r .marking .pending ≡ noSet)
+    × ((r .marking .state .pending ≡ noSet)
     × (r .accepting ≡ isDone (findingOf log k)))))
 
 -- a graph that was written into so many bytes and read again: the graph itself, or the refusals of the write

@@ -2,7 +2,6 @@
 ghost use mathlib.Core.Path.{_≡_};
 ghost use mathlib.Core.Bool.{true};
 ghost use Rattle.sets.specs.declared.answer.Answer.the-variants.{Done};
-ghost use Rattle.engine.specs.Markings.{openingOf};
 ghost use Rattle.engine.specs.Replay.{ending};
 ghost use Rattle.miner.specs.Mine.{minedOf};
 ghost use Rattle.promises.specs.Promised.{OwnReplayed};
@@ -38,7 +37,7 @@ pub fn replay_own(log: &[u8], profile: Profile, k: usize) -> Replayed
 
 // The empty trace, replayed on the graph that is mined of any bytes.
 pub fn replay_none(log: &[u8], profile: Profile) -> Replayed
-    ensures { λ r. ⌜ r ≡ ending Done 0 (openingOf (minedOf (now (log .entry)) profile .graph .head .events)) true ⌝ }
+    ensures { λ r. ⌜ r ≡ ending Done 0 (minedOf (now (log .entry)) profile .graph .head .opening) true ⌝ }
 {
     let mined = mine(log, profile);
     let graph = mined.graph;

@@ -1,17 +1,17 @@
 -- The listings of the log L, full (01) and light (02, 3/12), computed from the definition, and the line of a log that is refused. Assumes
 -- nothing.
-use mathlib.Core.Path.{_≡_, refl, ap, _∙_}
+use mathlib.Core.Path.{_≡_, refl, sym, ap, _∙_}
 use mathlib.Core.List.{List, [], _∷_, _++_}
 use Prim.Native.Nat.{ℕ, _+_}
-use lib.ListN.{getD}
+use lib.ListN.{length, getD}
 use Rattle.sets.specs.Tests.{_and_, _or_, non}
 use Rattle.sets.specs.Members.{bit, bitsOf, someBelow, everyBelow, countBelow, isEmpty, within, mem, those}
 use Rattle.sets.specs.Rows.{rowAt, inRow, listFrom, rowsOf}
 use Rattle.sets.specs.Tables.{tableAt, tablesOf}
 use Rattle.engine.specs.declared.graph.Graph.{Graph}
 use Rattle.engine.specs.Steps.{waits, enabled, after, accepting}
-use Rattle.engine.specs.Judged.{markingWithin, rowWithin, rowsWithin, relationsWithin, graphWithin, judgedFor}
-use Rattle.engine.specs.Replay.{replayFrom, replayOf}
+use Rattle.engine.specs.Relations.{relationsOf}
+use Rattle.engine.specs.Replay.{replayFrom}
 use Rattle.sets.specs.Files.{valueOf, numberAt, opensWith}
 use Rattle.calllog.specs.Layout.{activitiesIn, tracesIn, offsetAt, lengthAt, bodiesStart, eventsBefore}
 use Rattle.sets.specs.Answers.{firstRefusal}
@@ -25,7 +25,11 @@ use Rattle.rules.specs.Mining.{step10, afterFive, afterSix, afterSeven, afterEi
 use Rattle.rules.specs.declared.Profile.{Profile}
 use Rattle.rules.specs.declared.Profile.the-variants.{Full, Light}
 use Rattle.rules.specs.Mined.{graphFrom, minedGraph}
+use Rattle.rules.specs.Replays.{Accepted}
+use Rattle.rules.proofs.Acceptable.{acceptable}
+use Rattle.rules.proofs.FromFile.{file-accepted}
 use Rattle.rules.proofs.Cases.{L, G, lightG}
+use Rattle.report.proofs.WholeLaws.{replays-are}
 use Rattle.report.specs.Lines.{figures, decimal, line}
 use Rattle.report.specs.Pairs.{passing, pairsFrom}
 use Rattle.report.specs.Listing.{firstLine, pairLine, pairLines, traceLine, traceLines, relationLines, linesOf, refusedLine}
@@ -88,11 +92,29 @@ unfolding L G lightG
     afterFive afterSix afterSeven afterEight mined graphFrom minedGraph
 graphs = (refl, refl)
 
-lines : (linesOf G L ≡ printed) × (linesOf lightG L ≡ printedLight)
-unfolding L G lightG printed printedLight listing first
-    _and_ _or_ non bit mem those bitsOf someBelow everyBelow countBelow isEmpty within rowAt tableAt inRow listFrom
-    waits enabled after accepting markingWithin rowWithin rowsWithin relationsWithin graphWithin judgedFor replayFrom replayOf
-    figures line passing pairsFrom firstLine pairLine pairLines traceLine traceLines relationLines linesOf
+-- L is accepted, so its graphs need not be judged at each replay
+accepted : Accepted 3 L
+unfolding file L
+    _and_ _or_ non opensWith valueOf numberAt activitiesIn tracesIn offsetAt lengthAt bodiesStart eventsBefore
+    firstRefusal allBelow judgedHead judgedEntry judgedBodies judgedContents judgedLog tracesFrom logOf
+accepted = file-accepted file
+
+linesBy : Graph → List ℕ
+linesBy g =
+    firstLine g (length L) ++ relationLines g ++ traceLines (replayFrom (g .head .events) (relationsOf g) (g .head .opening .state) 0) 0 L
+
+once : (p : Profile) → linesOf (minedGraph 3 L p) L ≡ linesBy (minedGraph 3 L p)
+unfolding linesOf linesBy
+once p =
+    let g = minedGraph 3 L p in
+    ap (λ (replays : List ℕ). firstLine g (length L) ++ relationLines g ++ replays)
+    (sym (replays-are g (acceptable 3 L accepted p) 0 L (accepted .lengths)))
+
+lines : (linesBy G ≡ printed) × (linesBy lightG ≡ printedLight)
+unfolding L G lightG printed printedLight listing first linesBy
+    _and_ _or_ non bit mem those bitsOf someBelow countBelow rowAt tableAt inRow listFrom
+    waits enabled after accepting replayFrom
+    figures line passing pairsFrom firstLine pairLine pairLines traceLine traceLines relationLines
 lines = (refl, refl)
 
 read : (p : Profile) → listingOf file p ≡ linesOf (minedGraph 3 L p) L
@@ -104,8 +126,8 @@ read p = refl
 -- THE THEOREM
 pub listing-of-L : (listingOf file Full ≡ printed) × (listingOf file Light ≡ printedLight)
 listing-of-L = (
-  read Full ∙ ap (λ (g : Graph). linesOf g L) (graphs .0) ∙ lines .0,
-  read Light ∙ ap (λ (g : Graph). linesOf g L) (graphs .1) ∙ lines .1,
+  read Full ∙ once Full ∙ ap linesBy (graphs .0) ∙ lines .0,
+  read Light ∙ once Light ∙ ap linesBy (graphs .1) ∙ lines .1,
 )
 
 -- refused 1: no bytes at all

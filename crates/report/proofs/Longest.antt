@@ -14,7 +14,7 @@ use Rattle.sets.specs.Answers.{numberOf, isDone}
 use Rattle.sets.specs.declared.answer.Answer.{Answer}
 use Rattle.sets.specs.declared.answer.Answer.the-variants.{Done, TooShort, WrongLetters, AboveLimit, WrongOffset, Outside, BadRow}
 use Rattle.sets.specs.declared.answer.Answer.the-variants.{BufferTooSmall, NoEvent, NotIncluded, Waiting, NoTrace, WrongArgument}
-use Rattle.sets.specs.declared.answer.Answer.the-variants.{NoPlaceFree, NotOpen, NotAccepting, NoWayOut}
+use Rattle.sets.specs.declared.answer.Answer.the-variants.{NoPlaceFree, NotOpen, NotAccepting, FalseEnabled, NoWayOut}
 use Rattle.sets.proofs.Below.{count-le}
 use Rattle.engine.specs.Relations.{relationsOf}
 use Rattle.engine.specs.Replay.{replayOf}
@@ -100,6 +100,7 @@ number-small WrongArgument = omega arith
 number-small NoPlaceFree = omega arith
 number-small NotOpen = omega arith
 number-small NotAccepting = omega arith
+number-small FalseEnabled = omega arith
 number-small NoWayOut = omega arith
 
 digit-small : (b : Bool) → digit b < 10

@@ -5,7 +5,7 @@ use Prim.Native.Nat.{ℕ, _+_, _-_, _≤_, _<_}
 use native.Mathlib.Numerals.{add-one}
 use lib.ListN.{length, take, drop}
 use Rattle.sets.specs.declared.set.Set.{Set}
-use Rattle.engine.specs.declared.marking.Marking.{Marking}
+use Rattle.engine.specs.declared.marking.State.{State}
 use Rattle.engine.specs.declared.replay.Replayed.{Replayed}
 use Rattle.engine.specs.Relations.{Relations}
 use Rattle.engine.specs.Replay.{replayFrom}
@@ -17,7 +17,7 @@ use Rattle.report.specs.Listing.{traceLine, traceLines}
 use Rattle.report.specs.Puts.{Put}
 use Rattle.report.proofs.PutLaws.{Left, left-all, left-as, left-next, left-room, left-none}
 
-module _ (events : Set) (q : Relations) (m : Marking) (log : List ℕ) (n : ℕ) where
+module _ (events : Set) (q : Relations) (m : State) (log : List ℕ) (n : ℕ) where
   -- what a replay on these relations gives, and the lines from trace k on
   abbrev pub ended : List ℕ → Replayed
   ended σ = replayFrom events q m 0 σ

@@ -64,7 +64,7 @@ module _ (head : Head) (tables c listed log : List ℕ) (n : ℕ) (o : List ℕ)
   pairs = relationsText listed tables
 
   abbrev replays : List ℕ
-  replays = traceLines (replayFrom (head .events) (inTables tables) (head .opening) 0) 0 (walked log n 0)
+  replays = traceLines (replayFrom (head .events) (inTables tables) (head .opening .state) 0) 0 (walked log n 0)
 
   by-source : three heading pairs replays ≡ linesText head tables log n
   by-source =
@@ -133,8 +133,8 @@ module _ (g : Graph) where
       turned-pairs
 
   -- a graph that was judged need not be judged at each replay
-  replays-are : judged g ≡ Done → (k : ℕ) (L : Traces) → ((σ : List ℕ) → List·Memᴰ σ L → length σ ≤ longestTrace)
-      → traceLines (replayFrom (g .head .events) (relationsOf g) (g .head .opening) 0) k L ≡ traceLines (replayOf g) k L
+  pub replays-are : judged g ≡ Done → (k : ℕ) (L : Traces) → ((σ : List ℕ) → List·Memᴰ σ L → length σ ≤ longestTrace)
+      → traceLines (replayFrom (g .head .events) (relationsOf g) (g .head .opening .state) 0) k L ≡ traceLines (replayOf g) k L
   unfolding traceLines
   replays-are d k [] h = refl
   replays-are d k (σ ∷ L) h =
@@ -154,7 +154,7 @@ module _ (log : List ℕ) (p : Profile) where
       let g = minedGraph A L p in
       let ok = file-accepted log in
       ap₂ _++_ (ap₂ _++_ (heading-is g (length L)) (relations-are g))
-      (ap (traceLines (replayFrom (g .head .events) (relationsOf g) (g .head .opening) 0) 0) (walk-all log)
+      (ap (traceLines (replayFrom (g .head .events) (relationsOf g) (g .head .opening .state) 0) 0) (walk-all log)
       ∙ replays-are g (acceptable A L ok p) 0 L (ok .lengths))
 
   -- the two ways of the definition

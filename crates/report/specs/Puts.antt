@@ -71,7 +71,7 @@ linesText head tables log n =
     three
     (headingText (countBelow width (mem (head .events))) (pairCounts (bySource tables) tables) n)
     (relationsText (bySource tables) tables)
-    (traceLines (replayFrom (head .events) (inTables tables) (head .opening) 0) 0 (walked log n 0))
+    (traceLines (replayFrom (head .events) (inTables tables) (head .opening .state) 0) 0 (walked log n 0))
 
 -- the same, of all traces of a log
 abbrev pub graphText : Graph → List ℕ → List ℕ

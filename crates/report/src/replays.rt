@@ -51,8 +51,8 @@ fn put_trace<'a>(
     head: Head,
     relations: &'a Relations,
 ) -> usize
-    requires { ⌜ at + length (traceLine k (length (now trace)) (replayFrom (head .events) (inTables (now relations)) (head .opening) 0 (now trace))) ≤ length (now out) ⌝ }
-    ensures { λ r. ⌜ Put (now (out .entry)) at (traceLine k (length (now (trace .entry))) (replayFrom (head .events) (inTables (now (relations .entry))) (head .opening) 0 (now (trace .entry)))) (now (out .exit)) r ⌝ }
+    requires { ⌜ at + length (traceLine k (length (now trace)) (replayFrom (head .events) (inTables (now relations)) (head .opening .state) 0 (now trace))) ≤ length (now out) ⌝ }
+    ensures { λ r. ⌜ Put (now (out .entry)) at (traceLine k (length (now (trace .entry))) (replayFrom (head .events) (inTables (now (relations .entry))) (head .opening .state) 0 (now (trace .entry)))) (now (out .exit)) r ⌝ }
 {
     let ended = replay::run(head, relations, trace);
     let answer = ended.answer;
@@ -70,8 +70,8 @@ pub(crate) fn put_traces<'a>(
     head: Head,
     relations: &'a Relations,
 ) -> usize
-    requires { ⌜ at + length (traceLines (replayFrom (head .events) (inTables (now relations)) (head .opening) 0) 0 (walked (now log) traces 0)) ≤ length (now out) ⌝ }
-    ensures { λ r. ⌜ Put (now (out .entry)) at (traceLines (replayFrom (head .events) (inTables (now (relations .entry))) (head .opening) 0) 0 (walked (now (log .entry)) traces 0)) (now (out .exit)) r ⌝ }
+    requires { ⌜ at + length (traceLines (replayFrom (head .events) (inTables (now relations)) (head .opening .state) 0) 0 (walked (now log) traces 0)) ≤ length (now out) ⌝ }
+    ensures { λ r. ⌜ Put (now (out .entry)) at (traceLines (replayFrom (head .events) (inTables (now (relations .entry))) (head .opening .state) 0) 0 (walked (now (log .entry)) traces 0)) (now (out .exit)) r ⌝ }
 {
     let mut next = at;
     let mut k: usize = 0;

@@ -1,4 +1,4 @@
--- A graph of relations with reasons in an accepted log is acceptable by the engine's own test: it is never refused with 3 or 5. So is the
+-- A graph of relations with reasons in an accepted log is acceptable by the engine's own test: it is never refused with 3, 5 or 16. So is the
 -- mined graph, in both profiles. Assumes nothing.
 use mathlib.Core.Path.{_≡_, sym, subst}
 use mathlib.Core.Bool.{Bool, false}
@@ -11,7 +11,7 @@ use Rattle.sets.specs.Tests.{non}
 use Rattle.sets.specs.Members.{width, mem, those, isEmpty, within}
 use Rattle.sets.specs.Rows.{Relation, rowAt, inRow, rowsOf}
 use Rattle.sets.specs.declared.answer.Answer.the-variants.{Done}
-use Rattle.sets.proofs.Tests.{and-i, or-l, or-r, non-i, non-e, T-eq, true→T, F→false, split, either}
+use Rattle.sets.proofs.Tests.{and-i, or-l, or-r, non-i, non-e, T-eq, true→T, T→true, F→false, split, either}
 use Rattle.sets.proofs.Members.{mem-none}
 use Rattle.sets.proofs.Below.{every-i}
 use Rattle.sets.proofs.Members.{those-i, those-e, within-i}
@@ -19,9 +19,9 @@ use Rattle.sets.proofs.RowLaws.{in-rowsOf}
 use Rattle.sets.proofs.TableLaws.{table-tablesOf}
 use Rattle.sets.specs.Members.{noSet}
 use Rattle.engine.specs.Relations.{Relations, relationCount, kept}
-use Rattle.engine.specs.Judged.{rowWithin, rowsWithin, relationsWithin, graphWithin, judgedFor, judged}
+use Rattle.engine.specs.Judged.{rowWithin, rowsWithin, relationsWithin, graphWithin, judged}
 use Rattle.sets.specs.Sizes.{mostActivities}
-use Rattle.engine.proofs.Acceptable.{marking-whole}
+use Rattle.engine.proofs.Acceptable.{state-whole, judged-at}
 use Rattle.rules.specs.declared.Profile.{Profile}
 use Rattle.rules.specs.Traces.{Traces}
 use Rattle.rules.specs.Mining.{event, mined}
@@ -61,7 +61,7 @@ module _ (A : ℕ) (L : Traces) (ok : Accepted A L) where
         and-i _ _
         (and-i _ _
         (within-i E _ (λ a l t. those-i _ a l (true→T (lt-ltb a A (event-below a (those-e (event L) a t .1))))))
-        (marking-whole E _ none none (within-i E E (λ a l t. t))))
+        (state-whole E _ none none (within-i E E (λ a l t. t))))
         (every-i relationCount _
         (λ k l. subst (λ (rows : List ℕ). T (rowsWithin E rows)) (sym (table-tablesOf relationCount (kept g) k l)) (of-table k)))
       where
@@ -72,8 +72,8 @@ module _ (A : ℕ) (L : Traces) (ok : Accepted A L) where
         of-table (suc (suc (suc k))) = rows-within (event L) _ (λ s t h. why .exclude s t h .0)
 
     pub acceptable-by : judged (graphFrom A (those (event L)) g) ≡ Done
-    unfolding judgedFor graphFrom
-    acceptable-by = rw (le-ltb mostActivities A (ok .activities), passed _ graph-within)
+    unfolding graphFrom
+    acceptable-by = judged-at A _ _ _ (le-ltb mostActivities A (ok .activities)) (T→true _ graph-within)
 
   pub mined-reasons : (p : Profile) → Reasons L (mined L p)
   mined-reasons p = reasons L small p

@@ -7,8 +7,9 @@ use lib.ListN.{length}
 use Rattle.sets.specs.Sizes.{longestTrace}
 use Rattle.sets.specs.declared.answer.Answer.the-variants.{Done}
 use Rattle.engine.specs.Judged.{judged}
-use Rattle.engine.specs.Relations.{headOf, graphOf, relationsOf}
-use Rattle.engine.proofs.Acceptable.{replay-judged, stepped-judged, opening-inside, judged-within}
+use Rattle.engine.specs.Relations.{relationsOf}
+use Rattle.engine.specs.Enabled.{marked, graphAt}
+use Rattle.engine.proofs.Acceptable.{judged-at, replay-judged, stepped-judged, opening-kept}
 use Rattle.engine.proofs.Examples.{table-judged}
 use mathlib.Core.Path.{_≡_, refl}
 use mathlib.Core.Bool.{true, false}
@@ -21,9 +22,9 @@ use Rattle.sets.specs.Tables.{tableAt, withRowIn, tablesOf}
 use Rattle.engine.specs.declared.graph.Graph.{Graph}
 use Rattle.engine.specs.Markings.{openingOf}
 use Rattle.engine.specs.Steps.{waits, blocker, enabled, after, accepting}
-use Rattle.engine.specs.Judged.{markingWithin, rowWithin, rowsWithin, relationsWithin, graphWithin, judgedFor, judgedWith}
+use Rattle.engine.specs.Judged.{stateWithin, rowWithin, rowsWithin, relationsWithin, graphWithin, judgedFor, judgedWith}
 use Rattle.engine.specs.Replay.{enabledOf, steppedOf, replayFrom, replayOf}
-use Rattle.engine.proofs.Examples.{table3, table3-before, table3-after}
+use Rattle.engine.proofs.Examples.{table3, table3-after}
 use Rattle.sets.specs.Files.{valueOf, numberAt, opensWith}
 use Rattle.calllog.specs.Layout.{activitiesIn, tracesIn, offsetAt, lengthAt, bodiesStart, eventsBefore}
 use Rattle.sets.specs.Answers.{firstRefusal}
@@ -54,7 +55,7 @@ listing excludes =
 -- the same in numbers: each set, and each row of a relation from row 0, as the number that the graph file holds
 abbrev inNumbers : List ℕ → Graph
 inNumbers excludes =
-    graphOf (headOf 3 (those (λ a. ltb a 3)) (openingOf (those (λ a. ltb a 3))))
+    graphAt 3 (those (λ a. ltb a 3)) (openingOf (those (λ a. ltb a 3)))
     (rows (0 ∷ 1 ∷ 1 ∷ []) ++ (rows (4 ∷ 4 ∷ []) ++ (rows (2 ∷ []) ++ rows excludes)))
 
 unfoldable pub G : Graph
@@ -111,7 +112,7 @@ part7 =
 
 part8 : List Case
 part8 =
-    stepping table3 table3-before 4 gives stepped 0 255 table3-after
+    stepping table3 (table3 .head .opening) 4 gives stepped 0 255 (marked (table3 .head .events) (relationsOf table3) table3-after)
     ∷ []
 
 -- without step 6 only the exclusions differ
@@ -126,7 +127,7 @@ table = part0 ++ part1 ++ part2 ++ part3 ++ part4 ++ part5 ++ part6 ++ part7 ++ 
 same0 : map asked part0 ≡ map wanted part0
 unfolding part0 file L listing G
     _and_ _or_ non bit mem those bitsOf someBelow leastBelow everyBelow isEmpty within rowAt tableAt withRowIn inRow listFrom rowsOf tablesOf
-    waits blocker enabled after accepting markingWithin rowWithin rowsWithin relationsWithin graphWithin judgedFor judgedWith enabledOf steppedOf replayFrom replayOf
+    waits blocker enabled after accepting stateWithin rowWithin rowsWithin relationsWithin graphWithin judgedFor judgedWith enabledOf steppedOf replayFrom replayOf
     opensWith valueOf numberAt activitiesIn tracesIn offsetAt lengthAt bodiesStart eventsBefore
     firstRefusal allBelow judgedHead judgedEntry judgedBodies judgedContents judgedLog tracesFrom logOf
     _has_ _beginsWith_ atEachFrom atSomeFrom everyTrace someTrace
@@ -138,7 +139,7 @@ same0 = refl
 same1 : map asked part1 ≡ map wanted part1
 unfolding part1 file L listing G
     _and_ _or_ non bit mem those bitsOf someBelow leastBelow everyBelow isEmpty within rowAt tableAt withRowIn inRow listFrom rowsOf tablesOf
-    waits blocker enabled after accepting markingWithin rowWithin rowsWithin relationsWithin graphWithin judgedFor judgedWith enabledOf steppedOf replayFrom replayOf
+    waits blocker enabled after accepting stateWithin rowWithin rowsWithin relationsWithin graphWithin judgedFor judgedWith enabledOf steppedOf replayFrom replayOf
     opensWith valueOf numberAt activitiesIn tracesIn offsetAt lengthAt bodiesStart eventsBefore
     firstRefusal allBelow judgedHead judgedEntry judgedBodies judgedContents judgedLog tracesFrom logOf
     _has_ _beginsWith_ atEachFrom atSomeFrom everyTrace someTrace
@@ -150,7 +151,7 @@ same1 = refl
 same2 : map asked part2 ≡ map wanted part2
 unfolding part2 file L listing G
     _and_ _or_ non bit mem those bitsOf someBelow leastBelow everyBelow isEmpty within rowAt tableAt withRowIn inRow listFrom rowsOf tablesOf
-    waits blocker enabled after accepting markingWithin rowWithin rowsWithin relationsWithin graphWithin judgedFor judgedWith enabledOf steppedOf replayFrom replayOf
+    waits blocker enabled after accepting stateWithin rowWithin rowsWithin relationsWithin graphWithin judgedFor judgedWith enabledOf steppedOf replayFrom replayOf
     opensWith valueOf numberAt activitiesIn tracesIn offsetAt lengthAt bodiesStart eventsBefore
     firstRefusal allBelow judgedHead judgedEntry judgedBodies judgedContents judgedLog tracesFrom logOf
     _has_ _beginsWith_ atEachFrom atSomeFrom everyTrace someTrace
@@ -159,11 +160,11 @@ unfolding part2 file L listing G
     afterFive afterSix afterSeven afterEight mined graphFrom minedGraph
 same2 = refl
 
-judged-G : judged G ≡ Done
-unfolding G judgedFor graphWithin relationsWithin rowsWithin rowWithin markingWithin within isEmpty everyBelow bitsOf bit mem those _and_ _or_ non rowAt tableAt listFrom
-judged-G = refl
+pub judged-G : judged G ≡ Done
+unfolding G graphWithin relationsWithin rowsWithin rowWithin stateWithin within isEmpty everyBelow bitsOf bit mem those _and_ _or_ non rowAt tableAt listFrom
+judged-G = judged-at 3 (G .head .events) (G .head .opening .state) (G .relations) refl refl
 
-on-G : (σ : List ℕ) → length σ ≤ longestTrace → end (replayOf G σ) ≡ end (replayFrom (G .head .events) (relationsOf G) (G .head .opening) 0 σ)
+on-G : (σ : List ℕ) → length σ ≤ longestTrace → end (replayOf G σ) ≡ end (replayFrom (G .head .events) (relationsOf G) (G .head .opening .state) 0 σ)
 on-G σ l = ap end (replay-judged G judged-G σ l)
 
 same3 : map asked part3 ≡ map wanted part3
@@ -177,7 +178,7 @@ same4 = λ i. on-G (2 ∷ []) (lit≤ tt) i ∷ on-G (0 ∷ 0 ∷ []) (lit≤ tt
 same5 : map asked part5 ≡ map wanted part5
 unfolding part5 file L listing G
     _and_ _or_ non bit mem those bitsOf someBelow leastBelow everyBelow isEmpty within rowAt tableAt withRowIn inRow listFrom rowsOf tablesOf
-    waits blocker enabled after accepting markingWithin rowWithin rowsWithin relationsWithin graphWithin judgedFor judgedWith enabledOf steppedOf replayFrom replayOf
+    waits blocker enabled after accepting stateWithin rowWithin rowsWithin relationsWithin graphWithin judgedFor judgedWith enabledOf steppedOf replayFrom replayOf
     opensWith valueOf numberAt activitiesIn tracesIn offsetAt lengthAt bodiesStart eventsBefore
     firstRefusal allBelow judgedHead judgedEntry judgedBodies judgedContents judgedLog tracesFrom logOf
     _has_ _beginsWith_ atEachFrom atSomeFrom everyTrace someTrace
@@ -189,7 +190,7 @@ same5 = refl
 same6 : map asked part6 ≡ map wanted part6
 unfolding part6 file L listing G
     _and_ _or_ non bit mem those bitsOf someBelow leastBelow everyBelow isEmpty within rowAt tableAt withRowIn inRow listFrom rowsOf tablesOf
-    waits blocker enabled after accepting markingWithin rowWithin rowsWithin relationsWithin graphWithin judgedFor judgedWith enabledOf steppedOf replayFrom replayOf
+    waits blocker enabled after accepting stateWithin rowWithin rowsWithin relationsWithin graphWithin judgedFor judgedWith enabledOf steppedOf replayFrom replayOf
     opensWith valueOf numberAt activitiesIn tracesIn offsetAt lengthAt bodiesStart eventsBefore
     firstRefusal allBelow judgedHead judgedEntry judgedBodies judgedContents judgedLog tracesFrom logOf
     _has_ _beginsWith_ atEachFrom atSomeFrom everyTrace someTrace
@@ -201,7 +202,7 @@ same6 = refl
 same7 : map asked part7 ≡ map wanted part7
 unfolding part7 file L listing G
     _and_ _or_ non bit mem those bitsOf someBelow leastBelow everyBelow isEmpty within rowAt tableAt withRowIn inRow listFrom rowsOf tablesOf
-    waits blocker enabled after accepting markingWithin rowWithin rowsWithin relationsWithin graphWithin judgedFor judgedWith enabledOf steppedOf replayFrom replayOf
+    waits blocker enabled after accepting stateWithin rowWithin rowsWithin relationsWithin graphWithin judgedFor judgedWith enabledOf steppedOf replayFrom replayOf
     opensWith valueOf numberAt activitiesIn tracesIn offsetAt lengthAt bodiesStart eventsBefore
     firstRefusal allBelow judgedHead judgedEntry judgedBodies judgedContents judgedLog tracesFrom logOf
     _has_ _beginsWith_ atEachFrom atSomeFrom everyTrace someTrace
@@ -212,12 +213,12 @@ same7 = refl
 
 same8 : map asked part8 ≡ map wanted part8
 unfolding part8 replayFrom enabled waits blocker after accepting someBelow leastBelow bitsOf bit mem those _and_ _or_ non rowAt tableAt withRowIn inRow G listFrom
-same8 = λ i. step (stepped-judged table3 table-judged table3-before (opening-inside table3 (judged-within table3 0 table-judged)) 4 i) ∷ []
+same8 = λ i. step (stepped-judged table3 table-judged (table3 .head .opening) (opening-kept table3 table-judged) 4 i) ∷ []
 
 same9 : map asked part9 ≡ map wanted part9
 unfolding part9 file L listing G
     _and_ _or_ non bit mem those bitsOf someBelow everyBelow isEmpty within rowAt tableAt withRowIn inRow listFrom rowsOf tablesOf
-    waits enabled after accepting markingWithin rowWithin rowsWithin relationsWithin graphWithin judgedFor judgedWith enabledOf steppedOf replayFrom replayOf
+    waits enabled after accepting stateWithin rowWithin rowsWithin relationsWithin graphWithin judgedFor judgedWith enabledOf steppedOf replayFrom replayOf
     opensWith valueOf numberAt activitiesIn tracesIn offsetAt lengthAt bodiesStart eventsBefore
     firstRefusal allBelow judgedHead judgedEntry judgedBodies judgedContents judgedLog tracesFrom logOf
     _has_ _beginsWith_ atEachFrom atSomeFrom everyTrace someTrace

@@ -23,13 +23,14 @@ use Rattle.sets.proofs.Members.{mem-those, those-i, those-ext}
 use Rattle.sets.specs.Rows.{inRow}
 use Rattle.sets.specs.Tables.{tableAt}
 use Rattle.sets.proofs.TableLaws.{in-tablesOf}
-use Rattle.engine.specs.declared.marking.Marking.{Marking}
+use Rattle.engine.specs.declared.marking.State.{State}
 use Rattle.engine.specs.declared.graph.Graph.{Graph}
 use Rattle.engine.specs.declared.replay.Replayed.{Replayed}
 use Rattle.sets.specs.Members.{noSet}
 use Rattle.engine.specs.Relations.{Relations, relationCount, kept, relationsOf}
 use Rattle.engine.specs.Steps.{waits, enabled, after, accepting}
 use Rattle.sets.specs.Sizes.{longestTrace}
+use Rattle.engine.specs.Enabled.{marked}
 use Rattle.engine.specs.Replay.{ending, replayFrom}
 use Rattle.engine.proofs.Acceptable.{replay-judged}
 use Rattle.rules.specs.declared.Profile.{Profile}
@@ -42,9 +43,9 @@ use Rattle.rules.proofs.Why.{Reasons}
 use Rattle.rules.proofs.InTurn.{is-event, included-here, condition-here, response-here}
 use Rattle.rules.proofs.Acceptable.{passed, small, acceptable-by, mined-reasons}
 
--- the marking m between past and rest: executed is what stands in the past, included is what step 9 found, and what is pending stands in
+-- the state m between past and rest: executed is what stands in the past, included is what step 9 found, and what is pending stands in
 -- the rest
-pub record Marks (L : Traces) (g : Relations) (past rest : List ℕ) (m : Marking) : Type 0 where
+pub record Marks (L : Traces) (g : Relations) (past rest : List ℕ) (m : State) : Type 0 where
   pub ran : (a : ℕ) → a < width → mem (m .executed) a ≡ past has a
   pub open-now : (a : ℕ) → a < width → mem (m .included) a ≡ includedAfter L g past a
   pub due : ℕ → Bool
@@ -55,7 +56,7 @@ pub record Marks (L : Traces) (g : Relations) (past rest : List ℕ) (m : Markin
 pub record Through (n : ℕ) (r : Replayed) : Type 0 where
   pub done : r .answer ≡ Done
   pub whole : r .place .0 ≡ n
-  pub settled : r .marking .pending ≡ noSet
+  pub settled : r .marking .state .pending ≡ noSet
   pub accepted : r .accepting ≡ true
 
 or-swap : (a b : Bool) → (a or b) ≡ (b or a)
@@ -66,11 +67,11 @@ unfolding bitsOf those
 none = refl
 
 -- nothing is pending where nothing is left to come
-settles : (L : Traces) (g : Relations) (past : List ℕ) (m : Marking) → Marks L g past [] m → m .pending ≡ noSet
+settles : (L : Traces) (g : Relations) (past : List ℕ) (m : State) → Marks L g past [] m → m .pending ≡ noSet
 unfolding _has_
 settles L g past m f = f .pends ∙ those-ext (f .due) (λ a. false) (λ a l. F→false _ (f .later a l)) ∙ none
 
-accepts : (m : Marking) → m .pending ≡ noSet → accepting m ≡ true
+accepts : (m : State) → m .pending ≡ noSet → accepting m ≡ true
 unfolding accepting
 accepts m e =
     T→true _ (non-i _ (λ t.
@@ -86,7 +87,7 @@ module _ (A : ℕ) (L : Traces) (ok : Accepted A L) (g : Relations) (why : Reaso
   unfolding graphFrom
   in-kept k a b l la lb = in-tablesOf relationCount (kept g) k a b l la lb
 
-  opens : (σ : List ℕ) → Marks L g [] σ (G .head .opening)
+  opens : (σ : List ℕ) → Marks L g [] σ (G .head .opening .state)
   unfolding graphFrom includedAfter _has_
   opens σ =
       record {
@@ -99,7 +100,7 @@ module _ (A : ℕ) (L : Traces) (ok : Accepted A L) (g : Relations) (why : Reaso
 
   -- ---- the event e, at its place
 
-  module _ (e : ℕ) (past rest : List ℕ) (here : List·Memᴰ (reverseAux past (e ∷ rest)) L) (m : Marking) (f : Marks L g past (e ∷ rest) m) where
+  module _ (e : ℕ) (past rest : List ℕ) (here : List·Memᴰ (reverseAux past (e ∷ rest)) L) (m : State) (f : Marks L g past (e ∷ rest) m) where
     low : e < width
     low = small A L ok e (is-event L e here (has-rest e past (e ∷ rest) (has-first e rest)))
 
@@ -149,17 +150,17 @@ module _ (A : ℕ) (L : Traces) (ok : Accepted A L) (g : Relations) (why : Reaso
 
   -- ---- from place to place
 
-  ends : (past : List ℕ) (i : ℕ) (m : Marking) → Marks L g past [] m → Through i (replayFrom (G .head .events) (relationsOf G) m i [])
+  ends : (past : List ℕ) (i : ℕ) (m : State) → Marks L g past [] m → Through i (replayFrom (G .head .events) (relationsOf G) m i [])
   unfolding replayFrom
   ends past i m f = let e = settles L g past m f in record { done = refl; whole = refl; settled = e; accepted = accepts m e }
 
-  goes-on : (e : ℕ) (rest : List ℕ) (i : ℕ) (m : Marking) → enabled (G .head .events) (relationsOf G) m e ≡ Done
+  goes-on : (e : ℕ) (rest : List ℕ) (i : ℕ) (m : State) → enabled (G .head .events) (relationsOf G) m e ≡ Done
       → replayFrom (G .head .events) (relationsOf G) m i (e ∷ rest) ≡ replayFrom (G .head .events) (relationsOf G) (after (relationsOf G) m e) (i + 1) rest
   unfolding replayFrom
   goes-on e rest i m h =
-      ap (λ (a : Answer). when isDone a then replayFrom (G .head .events) (relationsOf G) (after (relationsOf G) m e) (i + 1) rest else ending a i m false) h
+      ap (λ (a : Answer). when isDone a then replayFrom (G .head .events) (relationsOf G) (after (relationsOf G) m e) (i + 1) rest else ending a i (marked (G .head .events) (relationsOf G) m) false) h
 
-  through : (past rest : List ℕ) (i : ℕ) (m : Marking) → List·Memᴰ (reverseAux past rest) L → Marks L g past rest m
+  through : (past rest : List ℕ) (i : ℕ) (m : State) → List·Memᴰ (reverseAux past rest) L → Marks L g past rest m
       → Through (i + length rest) (replayFrom (G .head .events) (relationsOf G) m i rest)
   through past [] i m here f = rw add-zero (ends past i m f)
   through past (e ∷ rest) i m here f =
@@ -168,21 +169,21 @@ module _ (A : ℕ) (L : Traces) (ok : Accepted A L) (g : Relations) (why : Reaso
       (through (e ∷ past) rest (i + 1) (after (relationsOf G) m e) here (steps e past rest here m f))
 
   -- the engine takes the graph, and then replays
-  replays : (σ : List ℕ) → length σ ≤ longestTrace → Through (length σ) (replayFrom (G .head .events) (relationsOf G) (G .head .opening) 0 σ)
+  replays : (σ : List ℕ) → length σ ≤ longestTrace → Through (length σ) (replayFrom (G .head .events) (relationsOf G) (G .head .opening .state) 0 σ)
       → Replays G σ
   replays σ l t =
       let taken = replay-judged G (acceptable-by A L ok g why) σ l in
       record {
         done = ap (λ (r : Replayed). r .answer) taken ∙ t .done;
         whole = ap (λ (r : Replayed). r .place .0) taken ∙ t .whole;
-        settled = ap (λ (r : Replayed). r .marking .pending) taken ∙ t .settled;
+        settled = ap (λ (r : Replayed). r .marking .state .pending) taken ∙ t .settled;
         accepted = ap (λ (r : Replayed). r .accepting) taken ∙ t .accepted;
       }
 
   -- THE THEOREM, for any relations with reasons
   pub replay-by : (σ : List ℕ) → List·Memᴰ σ L ⊎ (σ ≡ []) → Replays (graphFrom A (those (event L)) g) σ
-  replay-by σ (inl m) = replays σ (ok .lengths σ m) (rw (← zero-add (length σ)) (through [] σ 0 (G .head .opening) m (opens σ)))
-  replay-by σ (inr e) = subst (λ (τ : List ℕ). Replays G τ) (sym e) (replays [] (omega arith) (ends [] 0 (G .head .opening) (opens [])))
+  replay-by σ (inl m) = replays σ (ok .lengths σ m) (rw (← zero-add (length σ)) (through [] σ 0 (G .head .opening .state) m (opens σ)))
+  replay-by σ (inr e) = subst (λ (τ : List ℕ). Replays G τ) (sym e) (replays [] (omega arith) (ends [] 0 (G .head .opening .state) (opens [])))
 
 -- and for those that are mined
 pub demand3 : (A : ℕ) (L : Traces) (p : Profile) → Accepted A L → (σ : List ℕ) → List·Memᴰ σ L ⊎ (σ ≡ []) → Replays (minedGraph A L p) σ

@@ -13,8 +13,9 @@ use Rattle.engine.specs.declared.marking.Marking.{Marking}
 use Rattle.engine.specs.declared.graph.Graph.{Graph}
 use Rattle.engine.specs.declared.step.Stepped.{Stepped}
 use Rattle.engine.specs.declared.replay.Replayed.{Replayed}
-use Rattle.engine.specs.Markings.{markingOf}
-use Rattle.engine.specs.Relations.{headOf, graphOf, tablesFrom}
+use Rattle.engine.specs.Markings.{stateOf}
+use Rattle.engine.specs.Relations.{tablesFrom}
+use Rattle.engine.specs.Enabled.{graphAt}
 use Rattle.engine.specs.Replay.{replayOf, steppedOf}
 use Rattle.calllog.specs.Logs.{logOf}
 use Rattle.rules.specs.declared.Profile.{Profile}
@@ -40,7 +41,7 @@ setOf xs = those (λ a. xs has a)
 -- A, the events, and the pairs of the four relations as in a listing: C, R, I, E
 abbrev pub listed : ℕ → List ℕ → List Pair → List Pair → List Pair → List Pair → Graph
 listed A events c r i e =
-    graphOf (headOf A (setOf events) (markingOf (setOf []) (setOf []) (setOf events)))
+    graphAt A (setOf events) (stateOf (setOf []) (setOf []) (setOf events))
     (tablesFrom (record { conditions = oneOf c; responses = oneOf r; includes = oneOf i; excludes = oneOf e }))
 
 -- the first rows, each as the number of its set; the others are empty

@@ -25,7 +25,7 @@ pub record Accepted (A : ℕ) (L : Traces) : Type 0 where
 pub record Replays (g : Graph) (σ : List ℕ) : Type 0 where
   pub done : replayOf g σ .answer ≡ Done
   pub whole : replayOf g σ .place .0 ≡ length σ
-  pub settled : replayOf g σ .marking .pending ≡ noSet
+  pub settled : replayOf g σ .marking .state .pending ≡ noSet
   pub accepted : replayOf g σ .accepting ≡ true
 
 -- so it is for the empty trace and for each trace of the log, by its number, on the graph mined of the log in the profile

@@ -8,13 +8,14 @@ use native.Mathlib.Omega.{arith}
 use borrow.Author.Tests.{lt-ltb, le-ltb, ltb-true, ltb-false, eqb-true, eqb-false}
 use lib.Dec.{T, eqb, eqb→eq, ltb}
 use Rattle.sets.specs.Tests.{_and_, _or_, non, when_then_else_}
-use Rattle.sets.specs.Members.{width, mem, those, leastBelow, nextAbove}
+use Rattle.sets.specs.Members.{width, mem, those, noSet, leastBelow, nextAbove}
 use Rattle.sets.specs.Rows.{Relation, noRows, rowAt, withRow, rowsOf, rowsFor, turned}
 use Rattle.sets.specs.declared.set.Set.{Set}
 use Rattle.sets.proofs.Tests.{T-ext, and-l, and-r, and-i, or-e, or-l, or-r, non-i, non-e, T→true, true→T, F→false, false→F, eqb-of, true-and, false-and, and-true, and-false, and-assoc, or-true, or-false, false-or, split, either}
 use Rattle.sets.proofs.Below.{least-ext, least-le, least-is, least-before}
 use Rattle.sets.proofs.RowLaws.{put-rowsOf, rowsOf-ext, empty-rowsOf}
-use Rattle.sets.proofs.MadeSets.{Is, is-those, is-row, less}
+use Rattle.sets.proofs.Members.{those-ext, those-of}
+use Rattle.sets.proofs.MadeSets.{Is, is-those, is-row, less, none}
 
 -- ---- from one member to the next
 
@@ -168,6 +169,56 @@ module _ (s : Set) (F : Relation) where
       inv .rows ∙ rowsOf-ext (upTo s F i) (λ a x. mem s a and F a x) (λ a x la lx. ap (λ (t : Bool). t and F a x) (below-all s i a h la))
 
 pub ruleset filling = (fill-start, fill-turn, fill-end, nearer)
+
+-- ---- a loop that gathers: of the members of a set those that pass
+
+-- the members below i that pass
+unfoldable pub passing : Set → (ℕ → Bool) → ℕ → ℕ → Bool
+passing s p i a = below s i a and p a
+
+pub record Gathered (s : Set) (p : ℕ → Bool) (out : Set) (i : ℕ) : Type 0 where
+  pub at : At s i
+  pub got : out ≡ those (passing s p i)
+
+-- what passes, passes already
+covered : (a b : Bool) → (a and b or b) ≡ b
+covered a b = T-ext (a and b or b) b (λ t. either (or-e _ _ t) (λ x. and-r _ _ x) (λ x. x)) (λ t. or-r _ _ t)
+
+module _ (s : Set) (p : ℕ → Bool) where
+  pub gather-start : (i : ℕ) → i ≡ leastBelow width (mem s) → Gathered s p noSet i
+  unfolding passing
+  gather-start i h =
+      record {
+        at = at-first s i h;
+        got = none (passing s p i) (λ a l. ap (λ (t : Bool). t and p a) (below-first s i h a) ∙ false-and (p a));
+      }
+
+  joins : (i a : ℕ) (b c t : Bool) → eqb a i ≡ t → c ≡ (b or t) → (b and p a or p i and t) ≡ (c and p a)
+  joins i a b c true e h =
+      ap₂ (λ (x y : Bool). x or y) refl (and-true (p i) ∙ ap p (sym (eqb-true a i e)))
+      ∙ covered b (p a)
+      ∙ sym (true-and (p a)) ∙ ap (λ (q : Bool). q and p a) (sym (h ∙ or-true b))
+  joins i a b c false e h =
+      ap (λ (x : Bool). b and p a or x) (and-false (p i)) ∙ or-false (b and p a) ∙ ap (λ (q : Bool). q and p a) (sym (h ∙ or-false b))
+
+  pub gather-turn : (i i′ : ℕ) (out out′ : Set) → Gathered s p out i → i < width
+      → out′ ≡ those (λ a. mem out a or p i and eqb a i) → i′ ≡ nextAbove s i → Gathered s p out′ i′
+  unfolding passing
+  gather-turn i i′ out out′ inv l h e =
+      record {
+        at = at-next s i i′ e;
+        got =
+            h ∙ those-of out (passing s p i) (λ a t. t or p i and eqb a i) (inv .got)
+            ∙ those-ext (λ a. passing s p i a or p i and eqb a i) (passing s p i′)
+            (λ a la. joins i a (below s i a) (below s i′ a) (eqb a i) refl (below-next s i i′ (inv .at) l e a));
+      }
+
+  pub gather-end : (i : ℕ) (out : Set) → Gathered s p out i → width ≤ i → out ≡ those (λ a. mem s a and p a)
+  unfolding passing
+  gather-end i out inv h =
+      inv .got ∙ those-ext (passing s p i) (λ a. mem s a and p a) (λ a la. ap (λ (t : Bool). t and p a) (below-all s i a h la))
+
+pub ruleset gathering = (gather-start, gather-turn, gather-end, nearer)
 
 -- ---- one number further, where all are passed
 

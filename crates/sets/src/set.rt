@@ -24,6 +24,13 @@ impl Set {
         }
     }
 
+    // The set of one activity where a test holds; else empty.
+    pub fn one_if(test: bool, a: Activity) -> Set
+        ensures { λ r. ⌜ r ≡ those (λ b. test and eqb b (a .0)) ⌝ }
+    {
+        if test { Set::one(a) } else { Set::EMPTY }
+    }
+
     // All activities below n; every activity where n is the width or more.
     pub fn below(n: u8) -> Set
         ensures { λ r. ⌜ r ≡ those (λ a. ltb a n) ⌝ }

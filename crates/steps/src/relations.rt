@@ -53,16 +53,6 @@ fn excludes_itself<'a>(tables: &'a [u64], before: u8, chains: &'a Rows, a: Activ
     !rows::row(chains, a).is_empty()
 }
 
-// The target's own number, where it excludes itself.
-fn itself_if(test: bool, a: Activity) -> Set
-    ensures { λ r. ⌜ r ≡ those (λ x. test and eqb x (a .0)) ⌝ }
-{
-    if test {
-        return Set::one(a);
-    }
-    Set::EMPTY
-}
-
 // Of the sources of one step's pairs the smallest. An empty set has the width as its least member, which no set can hold.
 fn smallest(sources: Set) -> Set
     ensures { λ r. ⌜ r ≡ those (smallest (mem sources)) ⌝ }
@@ -103,7 +93,7 @@ fn excluders<'a>(
     let itself = excludes_itself(tables, before, chains, a);
     let four = smallest(apart_row(events, tables, before, later, a));
     let five = smallest(closing_row(events, itself, tables, before, later, a));
-    itself_if(itself, a).union(four).union(five)
+    Set::one_if(itself, a).union(four).union(five)
 }
 
 // Steps 1 to 5: for each target what excludes it. It may itself, and so does the smallest source of step 4's own pairs and of step 5's.

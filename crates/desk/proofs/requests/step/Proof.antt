@@ -9,4 +9,4 @@ step-spec =
     tie.close
     (tie.spec (λ c κs. search needs) (λ c κs. search needs) (λ c. search needs)
     (λ c. unfold tableStepped in search (serving, needs)) (λ c κs. search (ready, needs)) (λ c κs. search needs)
-    (λ c κs. search (ready, needs)) (λ c. search needs) (λ c. unfold tableStepped in search (serving, needs)))
+    (λ c κs. search needs) (λ c κs. search (ready, needs)) (λ c. search needs) (λ c. unfold tableStepped in search (serving, needs)))

@@ -9,12 +9,12 @@ use Rattle.engine.proofs.replay.run.Statement.{statement}
 use Rattle.engine.proofs.replay.run.Tie as tie
 
 abbrev Inv-loop : tie.InvT-loop
-Inv-loop head relations trace m₀ i₀ m i =
+Inv-loop head relations trace s₀ i₀ s i =
     (i ≤ length trace)
-    × (replayFrom (head .events) (inTables relations) m i (drop i trace) ≡ replayFrom (head .events) (inTables relations) m₀ 0 trace)
+    × (replayFrom (head .events) (inTables relations) s i (drop i trace) ≡ replayFrom (head .events) (inTables relations) s₀ 0 trace)
 
 abbrev μ-loop : tie.MeasureT-loop
-μ-loop head relations trace m₀ i₀ m i = length trace - i
+μ-loop head relations trace s₀ i₀ s i = length trace - i
 
 loop-holds : tie.Need-loop-holds Inv-loop μ-loop
 loop-holds c = search needs
@@ -32,10 +32,12 @@ run-spec =
     (λ c. search needs)
     (λ c κs. search needs)
     (λ c κs. search needs)
+    (λ c κs. search needs)
     returns
     (λ c κs. search needs)
     (λ c. search needs)
     (λ c. search needs)
     (λ c. search (run-next, needs))
+    (λ c κs. search needs)
     (λ c κs. search needs)
     (λ c. search (run-end, needs)))

@@ -21,6 +21,7 @@ machine c =
       executed = those-mem _ (search needs);
       pending = those-mem _ (search needs);
       included = those-mem _ (search needs);
+      enabled = those-mem _ (search needs);
       many = search needs;
       rows = λ r a. table-whole _ r a small;
     }

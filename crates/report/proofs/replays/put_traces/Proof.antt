@@ -14,8 +14,8 @@ use Rattle.report.proofs.replays.put_traces.Tie as tie
 abbrev Inv-loop : tie.InvT-loop
 Inv-loop out₀ at log traces head relations next₀ k₀ out next k =
     (k ≤ traces)
-    × Left out₀ at (traceLines (replayFrom (head .events) (inTables relations) (head .opening) 0) 0 (walked log traces 0)) out next
-    (tracesText (head .events) (inTables relations) (head .opening) log traces k)
+    × Left out₀ at (traceLines (replayFrom (head .events) (inTables relations) (head .opening .state) 0) 0 (walked log traces 0)) out next
+    (tracesText (head .events) (inTables relations) (head .opening .state) log traces k)
 
 abbrev μ-loop : tie.MeasureT-loop
 μ-loop out₀ at log traces head relations next₀ k₀ out next k = traces - k

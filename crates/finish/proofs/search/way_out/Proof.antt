@@ -1,8 +1,8 @@
 use borrow.Author.Needs.{needs}
 use Rattle.finish.specs.Ways.{finishOf}
 use Rattle.finish.proofs.Searching.{finish-refused, finish-done}
-use Rattle.finish.proofs.search.finish.Statement.{statement}
-use Rattle.finish.proofs.search.finish.Tie as tie
+use Rattle.finish.proofs.search.way_out.Statement.{statement}
+use Rattle.finish.proofs.search.way_out.Tie as tie
 
 returns : tie.Need-returns
 unfolding finishOf
@@ -12,5 +12,6 @@ returns-2 : tie.Need-returns-2
 unfolding finishOf
 returns-2 c = search (finish-done, needs)
 
-pub finish-spec : {M : Type 1} → statement M
-finish-spec = tie.close (tie.spec (λ c κs. search needs) (λ c κs. search needs) returns (λ c κs. search needs) (λ c κs. search needs) returns-2)
+pub way-out-spec : {M : Type 1} → statement M
+way-out-spec =
+    tie.close (tie.spec (λ c κs. search needs) (λ c κs. search needs) returns (λ c κs. search needs) (λ c κs. search needs) returns-2)

@@ -1,0 +1,90 @@
+-- The set of enabled activities, gathered from the events that are included; and a marking that is true has that very set. Assumes nothing.
+use mathlib.Core.Path.{_≡_, refl, sym, ap, ap₂, _∙_}
+use mathlib.Core.Bool.{Bool, true, false, not}
+use mathlib.Core.List.{List}
+use Prim.Native.Nat.{ℕ, _≤_, _<_}
+use lib.Dec.{T, eqb}
+use Rattle.sets.specs.Tests.{_and_, _or_, non, when_then_else_}
+use Rattle.sets.specs.Members.{width, mem, those, within}
+use Rattle.sets.specs.Answers.{isDone}
+use Rattle.sets.specs.declared.set.Set.{Set}
+use Rattle.sets.specs.declared.answer.Answer.{Answer}
+use Rattle.sets.specs.declared.answer.Answer.the-variants.{Done, NoEvent, NotIncluded, Waiting}
+use Rattle.sets.proofs.Tests.{T-ext, T-eq, and-l, and-r, and-i}
+use Rattle.sets.proofs.Members.{Whole, those-ext, those-of, within-i, within-e, mem-those}
+use Rattle.sets.proofs.Loops.{Gathered, gather-end}
+use Rattle.engine.specs.declared.marking.State.{State}
+use Rattle.engine.specs.declared.marking.Marking.{Marking}
+use Rattle.engine.specs.Markings.{markingOf}
+use Rattle.engine.specs.Relations.{Relations}
+use Rattle.engine.specs.Steps.{waits, blocker, enabled}
+use Rattle.engine.specs.Enabled.{enabledSet, marked, isTrue}
+
+module _ (events : Set) (r : Relations) (s : State) where
+  -- what the step rules ask: an event, included, that waits for nothing
+  pub done-parts : (a : ℕ) → isDone (enabled events r s a) ≡ (mem events a and mem (s .included) a and non (waits r s a))
+  unfolding enabled _and_ non
+  done-parts a = by (mem events a) (mem (s .included) a) (waits r s a)
+    where
+      by : (e i w : Bool) → isDone (when non e then NoEvent else when non i then NotIncluded else when w then Waiting (blocker r s a) else Done)
+          ≡ (e and i and non w)
+      by false i w = refl
+      by true false w = refl
+      by true true false = refl
+      by true true true = refl
+
+  -- an event that is enabled is among those that are asked
+  asked-once : (a : ℕ) → (mem events a and mem (s .included) a and isDone (enabled events r s a)) ≡ isDone (enabled events r s a)
+  asked-once a =
+      T-ext (mem events a and mem (s .included) a and isDone (enabled events r s a)) (isDone (enabled events r s a)) (λ t. and-r _ _ t)
+      (λ t. and-i _ _ (and-l _ _ (T-eq (done-parts a) t)) t)
+
+  -- so all of them are had, once every event that is included was asked
+  pub gathered : (asked out : Set) (i : ℕ) → Gathered asked (λ a. isDone (enabled events r s a)) out i → width ≤ i
+      → asked ≡ those (λ a. mem events a and mem (s .included) a) → out ≡ enabledSet events r s
+  unfolding enabledSet
+  gathered asked out i inv l ha =
+      gather-end asked (λ a. isDone (enabled events r s a)) i out inv l
+      ∙ those-of asked (λ a. mem events a and mem (s .included) a) (λ a t. t and isDone (enabled events r s a)) ha
+      ∙ those-ext (λ a. mem events a and mem (s .included) a and isDone (enabled events r s a)) (λ a. isDone (enabled events r s a))
+      (λ a la. asked-once a)
+
+-- what the code makes: the set with one more where a test holds, and the marking of a state
+pub joined-if : (events : Set) (r : Relations) (s : State) (out one u : Set) (a : Answer) (e : ℕ) (t : Bool) → a ≡ enabled events r s e
+    → t ≡ isDone a → one ≡ those (λ b. t and eqb b e) → u ≡ those (λ b. mem out b or mem one b)
+    → u ≡ those (λ b. mem out b or isDone (enabled events r s e) and eqb b e)
+joined-if events r s out one u a e t ha ht ho hu =
+    hu ∙ those-of one (λ b. t and eqb b e) (λ b y. mem out b or y) ho
+    ∙ ap (λ (y : Bool). those (λ b. mem out b or y and eqb b e)) (ht ∙ ap isDone ha)
+
+pub marked-by : (events : Set) (r : Relations) (s : State) (u : Set) → u ≡ enabledSet events r s → markingOf s u ≡ marked events r s
+marked-by events r s u h j = markingOf s (h j)
+
+pub true-in : (e all x : Set) (t : Bool) → all ≡ x → t ≡ within e all → t ≡ within e x
+true-in e all x t h k = k ∙ ap (within e) h
+
+pub true-of : (e all x : Set) (t : Bool) → all ≡ x → t ≡ within all e → t ≡ within x e
+true-of e all x t h k = k ∙ ap (λ (u : Set). within u e) h
+
+-- ---- a true marking
+
+module _ (events : Set) (r : Relations) where
+  -- what is worked out is true
+  pub marked-true : (s : State) → T (isTrue events r (marked events r s))
+  unfolding isTrue
+  marked-true s = let w = within-i (enabledSet events r s) (enabledSet events r s) (λ a l t. t) in and-i _ _ w w
+
+  module _ (m : Marking) (t : T (isTrue events r m)) where
+    -- the members of its set are those to which the step rules say yes
+    pub true-says : (a : ℕ) → a < width → mem (m .enabled) a ≡ isDone (enabled events r (m .state) a)
+    unfolding isTrue enabledSet
+    true-says a l =
+        T-ext (mem (m .enabled) a) (mem (enabledSet events r (m .state)) a) (λ x. within-e _ _ (and-l _ _ t) a l x)
+        (λ x. within-e _ _ (and-r _ _ t) a l x)
+        ∙ mem-those (λ e. isDone (enabled events r (m .state) e)) a l
+
+    -- so what is true was worked out, or could have been
+    pub true-marked : Whole (m .enabled) → m ≡ marked events r (m .state)
+    unfolding enabledSet
+    true-marked w j =
+        markingOf (m .state) ((sym w ∙ those-ext (mem (m .enabled)) (λ e. isDone (enabled events r (m .state) e)) true-says) j)
