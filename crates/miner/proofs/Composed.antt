@@ -5,8 +5,9 @@ use mathlib.Core.List.{List, []}
 use Prim.Native.Nat.{ℕ, _*_}
 use native.Mathlib.Omega.{arith}
 use lib.ListN.{length, length-replicate}
-use Rattle.sets.specs.Members.{width, those}
-use Rattle.sets.specs.Rows.{noRows, rowsOf, rowsFor, turned}
+use Rattle.sets.specs.Tests.{_and_}
+use Rattle.sets.specs.Members.{width, mem, those}
+use Rattle.sets.specs.Rows.{Relation, noRows, rowsOf, rowsFor, turned}
 use Rattle.sets.specs.Tables.{noTables, tableAt, withTable}
 use Rattle.sets.specs.declared.set.Set.{Set}
 use Rattle.sets.proofs.RowLaws.{length-rowsOf}
@@ -71,6 +72,12 @@ module _ (L : Traces) (events : Set) (tally : List ℕ) where
   length-excludes Full = length-for events _
   length-excludes Light = length-rowsOf _
 
+  -- the excludes after step 6 are some relation's rows
+  excludes-some : (p : Profile) → (r : Relation) × (excludesSix p events tally ≡ rowsOf r)
+  unfolding rowsFor
+  excludes-some Full = ((λ a x. mem events a and inEither (fiveOf events tally) (neverOf events tally) a x), refl)
+  excludes-some Light = (_, refl)
+
   -- ---- step 6
   module _ (t t₁ t₂ t₃ : List ℕ) (h₁ : t₁ ≡ withTable t 1 (neverOf events tally))
       (h₂ : t₂ ≡ withTable t₁ 2 (through (λ r σ. forward (gains (letIn (withTable noRows 0 (tableAt t₁ 1)))) r [] σ)
@@ -129,14 +136,14 @@ module _ (L : Traces) (events : Set) (tally : List ℕ) where
     answersOf = rowsFor events (reducedOf (responsesOf events tally))
 
     abbrev afterSeven : List ℕ
-    afterSeven = sevenFrom events tally (excludesSix p events tally)
+    afterSeven = sevenFrom events tally (includesSix p events tally L) (excludesSix p events tally) L
 
     abbrev excludedOf : List ℕ
     excludedOf = rowsFor events (excluders events (tableAt tally beforeTable) (tableAt tally laterTable) (chainsOf events tally))
 
     pub eight-four : Held (fourTables eightOf answersOf (includesSix p events tally L) afterSeven) eightOf answersOf
         (includesSix p events tally L) afterSeven
-    eight-four = held-four _ _ _ _ (length-for events _) (length-for events _) (length-includes p) (length-for events _)
+    eight-four = held-four _ _ _ _ (length-for events _) (length-for events _) (length-includes p) (length-rowsOf _)
 
     pub eight-by : (t t₁ t₂ t₃ t₄ t₅ t₆ t₇ : List ℕ) → t₁ ≡ withTable t 2 (rowsOf (turned (chainsOf events tally)))
         → t₂ ≡ withTable t₁ 3 excludedOf → t₃ ≡ withTable t₂ 3 (rowsOf (turned (withTable noRows 0 (tableAt t₂ 3))))
@@ -144,7 +151,7 @@ module _ (L : Traces) (events : Set) (tally : List ℕ) where
         → (length t₃ ≡ relationCount * width → tableAt t₃ 2 ≡ includesSix Light events tally L → tableAt t₄ 2 ≡ includesSix p events tally L)
         → (length t₃ ≡ relationCount * width → tableAt t₃ 2 ≡ includesSix Light events tally L
         → tableAt t₃ 3 ≡ excludesSix Light events tally → tableAt t₄ 3 ≡ excludesSix p events tally)
-        → t₅ ≡ withTable t₄ 3 (sevenFrom events tally (withTable noRows 0 (tableAt t₄ 3)))
+        → ((r : Relation) → tableAt t₄ 3 ≡ rowsOf r → t₅ ≡ withTable t₄ 3 (sevenFrom events tally (tableAt t₄ 2) (tableAt t₄ 3) L))
         → t₆ ≡ withTable t₅ 0 eightOf → t₇ ≡ withTable t₆ 1 answersOf
         → length t ≡ relationCount * width → t₇ ≡ fourTables eightOf answersOf (includesSix p events tally L) afterSeven
     eight-by t t₁ t₂ t₃ t₄ t₅ t₆ t₇ h₁ h₂ h₃ l₄ i₄ x₄ h₅ h₆ h₇ long =
@@ -159,10 +166,11 @@ module _ (L : Traces) (events : Set) (tally : List ℕ) where
           includes = i₄ (five .long) (five .includes);
           excludes = x₄ (five .long) (five .includes) (five .excludes);
         } in
-        let seven = held-x _ _ _ _ _ t₅ afterSeven six (length-for events _)
-        (h₅ ∙ ap (λ (x : List ℕ). withTable t₄ 3 (sevenFrom events tally x)) (taken-from t₄ 3 _ (six .excludes) (length-excludes p))) in
+        let seven = held-x _ _ _ _ _ t₅ afterSeven six (length-rowsOf _)
+        (h₅ (excludes-some p .0) (six .excludes ∙ excludes-some p .1)
+        ∙ ap₂ (λ (i x : List ℕ). withTable t₄ 3 (sevenFrom events tally i x L)) (six .includes) (six .excludes)) in
         let eight = held-c _ _ _ _ _ t₆ _ seven (length-for events _) h₆ in
-        held-is _ _ _ _ (length-for events _) (length-for events _) (length-includes p) (length-for events _) t₇
+        held-is _ _ _ _ (length-for events _) (length-for events _) (length-includes p) (length-rowsOf _) t₇
         (held-r _ _ _ _ _ t₇ _ eight (length-for events _) h₇)
 
 -- from the tally of the traces
@@ -214,10 +222,10 @@ module _ (A : ℕ) (L : Traces) (p : Profile) (events : Set) (t₁ t₂ t₃ : L
       (h₂
       ∙ (λ i. withTable t₁ 0 (nineFrom (taken-from t₁ 0 eight (one .conditions) (length-for events _) i)
       (taken-from t₁ 2 included (one .includes) (length-includes L events (tallied L) p) i)
-      (taken-from t₁ 3 excluding (one .excludes) (length-for events _) i)))) in
+      (taken-from t₁ 3 excluding (one .excludes) (length-rowsOf _) i)))) in
       let ten = held-c _ _ _ _ _ t₃ (waitedOf events eight included excluding L) nine (length-for events _)
       (h₃ ∙ ap (λ (x : List ℕ). withTable t₂ 0 (rowsFor events (reducedOf x)))
       (taken-from t₂ 0 _ (nine .conditions) (length-for events _))) in
-      let all = held-is _ _ _ _ (length-for events _) (length-for events _) (length-includes L events (tallied L) p) (length-for events _) t₃ ten in
+      let all = held-is _ _ _ _ (length-for events _) (length-for events _) (length-includes L events (tallied L) p) (length-rowsOf _) t₃ ten in
       (λ i. graphOf (headOf A events (ho i)) (all i))
       ∙ ap (λ (v : Set). graphOf (headOf A v (openingOf v)) (tablesRead L v (tallied L) p)) hv
