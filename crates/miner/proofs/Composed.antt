@@ -5,12 +5,12 @@ use mathlib.Core.List.{List, []}
 use Prim.Native.Nat.{ℕ, _*_}
 use native.Mathlib.Omega.{arith}
 use lib.ListN.{length, length-replicate}
-use Rattle.sets.specs.Tests.{_and_}
-use Rattle.sets.specs.Members.{width, mem, those}
-use Rattle.sets.specs.Rows.{Relation, noRows, rowsOf, rowsFor, turned}
+use Rattle.sets.specs.Tests.{_and_, non}
+use Rattle.sets.specs.Members.{width, mem, those, someBelow}
+use Rattle.sets.specs.Rows.{Relation, inRow, noRows, rowsOf, rowsFor, turned}
 use Rattle.sets.specs.Tables.{noTables, tableAt, withTable}
 use Rattle.sets.specs.declared.set.Set.{Set}
-use Rattle.sets.proofs.RowLaws.{length-rowsOf}
+use Rattle.sets.proofs.RowLaws.{in-rowsOf, rowsOf-ext, length-rowsOf}
 use Rattle.engine.specs.Markings.{openingOf}
 use Rattle.engine.specs.Relations.{relationCount, headOf, graphOf}
 use Rattle.engine.specs.declared.marking.Marking.{Marking}
@@ -23,8 +23,8 @@ use Rattle.steps.specs.Rowwise.{excluders, inEither, reducedOf, waited}
 use Rattle.tally.specs.Passes.{gains, forward, through}
 use Rattle.tally.specs.Tallies.{tableCount, noted, tallied, beforeTable, laterTable}
 use Rattle.tally.proofs.Folds.{forward-rowsOf, through-rowsOf}
-use Rattle.miner.specs.Facts.{letIn, beforeFirst, missed}
-use Rattle.miner.specs.Stages.{conditionsOf, chainsOf, responsesOf, neverOf, fiveOf, sevenFrom, includesSix, excludesSix}
+use Rattle.miner.specs.Facts.{Less, letIn, beforeFirst, missed}
+use Rattle.miner.specs.Stages.{conditionsOf, chainsOf, responsesOf, neverOf, fiveOf, followersOf, redundantBy, sevenFrom, includesSix, excludesSix}
 use Rattle.miner.specs.Stages.{waitedOf, fourTables, tablesRead, graphFound}
 use Rattle.miner.proofs.Holding.{Held, held-any, length-held, held-c, held-r, held-i, held-x, held-four, held-is, taken-from, put-long}
 
@@ -54,6 +54,20 @@ nine-by L events eight includes excludes t t′ first₀ unmet₀ first unmet h 
     ∙ ap₂ (λ (x y : List ℕ). withTable t 0 (rowsFor events (waited events eight x y)))
     (hf ∙ ap (λ (x : List ℕ). through (λ r σ. forward (gains beforeFirst) r [] σ) x L) h₀)
     (hu ∙ ap (λ (x : List ℕ). through (λ r σ. forward (gains (missed events includes excludes)) r [] σ) x L) k₀)
+
+-- step 7: what is left of the excludes
+pub seven-by : (L : Traces) (events : Set) (tally t left₀ left t′ : List ℕ) → left₀ ≡ withTable noRows 0 (tableAt t 3)
+    → Less left₀ (λ s x. someBelow width (λ u. mem events u
+    and redundantBy tally (followersOf events tally) (tableAt t 2) (tableAt t 3) L u s x)) left
+    → t′ ≡ withTable t 3 left → (r : Relation) → tableAt t 3 ≡ rowsOf r
+    → t′ ≡ withTable t 3 (sevenFrom events tally (tableAt t 2) (tableAt t 3) L)
+seven-by L events tally t left₀ left t′ h₀ l h r hr =
+    h
+    ∙ ap (withTable t 3)
+    (l r (h₀ ∙ taken-from t 3 (rowsOf r) hr (length-rowsOf r))
+    ∙ rowsOf-ext _ _ (λ s x ls lx. ap (λ (b : Bool). b and non (someBelow width (λ u. mem events u
+    and redundantBy tally (followersOf events tally) (tableAt t 2) (tableAt t 3) L u s x)))
+    (sym (ap (λ (rows : List ℕ). inRow rows s x) hr ∙ in-rowsOf r s x ls lx))))
 
 -- ---- the rows of a stage are rows of the width
 

@@ -91,6 +91,11 @@ first-too e f g p h =
     ap (λ (x : Bool). e and (x and p)) h ∙ by4 (λ v w x y. v and (v and w and x and y)) (λ v w x y. v and w and x and y) tt e f g p
     ∙ ap (λ (x : Bool). x and p) (sym h)
 
+-- the tests of step 7 in the order of the rules
+as-asked : (e x i a l : Bool) → (e and (x and non i and (true and (e and a)) and non l)) ≡ (e and (x and a and non i and non l))
+unfolding _and_ _or_ non
+as-asked = by5 (λ e x i a l. e and (x and non i and (true and (e and a)) and non l)) (λ e x i a l. e and (x and a and non i and non l)) tt
+
 -- what excludes itself by step 1 or by step 3
 unfoldable pub selfExcluding : Traces → ℕ → Bool
 selfExcluding L s = event L s and (non (before L s s) or someEvent L (λ u. directlyBefore L u s))
@@ -256,8 +261,7 @@ module _ (L : Traces) where
         ∙ simp (mem-those, in-rowsOf, reopened-is)
         (ap (λ (b : Bool). event L u and (six .excludes u t and non (six .includes u t) and (b and (event L u and alternates L u s))
         and non (letInBetween L six u s t))) es
-        ∙ by5 (λ e x i al z. e and (x and non i and (true and (e and al)) and non z)) (λ e x i al z. e and (x and al and non i and non z)) tt
-        (event L u) (six .excludes u t) (six .includes u t) (alternates L u s) (letInBetween L six u s t))
+        ∙ as-asked (event L u) (six .excludes u t) (six .includes u t) (alternates L u s) (letInBetween L six u s t))
 
     pub excludes-seven : sevenFrom (events L) (tallied L) includes (excludesSix p (events L) (tallied L)) L ≡ rowsOf (afterSeven L p .excludes)
     unfolding afterSeven step7 _without_ someEvent

@@ -277,7 +277,13 @@ fn lose_redundant<'a>(
 }
 
 // Step 7, on the tables after step 6.
-pub fn put_seven(log: &[u8], traces: usize, events: Set, tally: &Tally, out: &mut Relations)
+pub fn put_seven<'a>(
+    log: &'a [u8],
+    traces: usize,
+    events: Set,
+    tally: &'a Tally,
+    out: &mut Relations,
+)
     ensures { λ _. ⌜ ((r : Relation) → tableAt (now (out .entry)) 3 ≡ rowsOf r → now (out .exit) ≡ withTable (now (out .entry)) 3
         (sevenFrom events (now (tally .entry)) (tableAt (now (out .entry)) 2) (tableAt (now (out .entry)) 3)
         (walked (now (log .entry)) traces 0))) ⌝ }

@@ -131,7 +131,7 @@ part9 =
 part10 : List Case
 part10 =
     mining 3 ((0 ∷ 1 ∷ 2 ∷ []) ∷ []) Full gives graph
-        (listed 3 (0 ∷ 1 ∷ 2 ∷ []) (0 to 1 ∷ 1 to 2 ∷ []) (0 to 1 ∷ 1 to 2 ∷ []) (0 to 1 ∷ 1 to 2 ∷ []) (0 to 0 ∷ 0 to 2 ∷ 1 to 1 ∷ 2 to 2 ∷ []))
+    (listed 3 (0 ∷ 1 ∷ 2 ∷ []) (0 to 1 ∷ 1 to 2 ∷ []) (0 to 1 ∷ 1 to 2 ∷ []) (0 to 1 ∷ 1 to 2 ∷ []) (0 to 0 ∷ 0 to 2 ∷ 1 to 1 ∷ 2 to 2 ∷ []))
     ∷ []
 
 -- the trainers' story: its graph, and Amend after Seal
