@@ -68,7 +68,7 @@ fn a_refused_log_prints_one_line() {
 /// Step 6: u may be s or t, and t is any later t.
 #[test]
 fn reading_1_what_stands_between() {
-    let whole = "C 0 1, C 1 2, R 0 1, R 1 2, I 0 1, I 0 2, I 1 2, E 0 2, E 1 0, E 1 1";
+    let whole = "C 0 1, C 1 2, R 0 1, R 1 2, I 0 1, I 0 2, I 1 2, E 0 2, E 1 0, E 1 1, E 2 2";
     for door in doors() {
         assert_eq!(
             pairs(&door, &log(3, &[&[0, 0, 1, 2]])),
@@ -96,6 +96,34 @@ fn reading_2_redundant_excludes() {
         assert!(!has(&door, &at_once, "E 2 0"), "{}", door.name);
         assert!(!has(&door, &at_once, "E 1 0"), "{}", door.name);
         assert!(has(&door, &at_once, "E 3 0"), "{}", door.name);
+    }
+}
+
+/// 02, 7/12: what another step lets in again is not redundantly excluded.
+#[test]
+fn reading_19_exclusions_that_were_not_redundant() {
+    let whole = "C 0 1, C 1 2, R 0 1, R 1 2, I 0 1, I 1 2, E 0 0, E 0 2, E 1 1, E 2 2";
+    let kept: [(u8, &[&[u8]], &str); 7] = [
+        (3, &[&[0, 1, 0, 2]], "E 2 0"),
+        (3, &[&[0, 1, 2, 0, 1]], "E 1 0"),
+        (4, &[&[0, 1, 0, 1], &[0, 1, 2, 3]], "E 1 3"),
+        (4, &[&[0, 1, 2, 0, 2, 3]], "E 3 1"),
+        (4, &[&[0, 1, 2, 3, 0]], "E 2 0"),
+        (2, &[&[0, 1, 1]], "E 1 0"),
+        (4, &[&[0, 1, 2, 3], &[0, 1, 3]], "E 3 2"),
+    ];
+    let lost: [(u8, &[&[u8]], &str); 2] = [
+        (4, &[&[0, 1, 2, 3]], "E 3 2"),
+        (3, &[&[0, 1, 2, 0]], "E 2 1"),
+    ];
+    for door in doors() {
+        assert_eq!(pairs(&door, &log(3, &[&[0, 1, 2]])), whole, "{}", door.name);
+        for (a, traces, pair) in kept {
+            assert!(has(&door, &log(a, traces), pair), "{} {pair}", door.name);
+        }
+        for (a, traces, pair) in lost {
+            assert!(!has(&door, &log(a, traces), pair), "{} {pair}", door.name);
+        }
     }
 }
 
@@ -157,7 +185,12 @@ fn no_such_profile() {
         }
         let mut short = [9; 127];
         assert_eq!((door.summary)(&L, FULL, &mut short), 7, "{}", door.name);
-        assert_eq!((door.summary)(&L[..18], FULL, &mut short), 1, "{}", door.name);
+        assert_eq!(
+            (door.summary)(&L[..18], FULL, &mut short),
+            1,
+            "{}",
+            door.name
+        );
         assert_eq!(short, [9; 127], "{}", door.name);
     }
 }
@@ -189,7 +222,12 @@ fn reading_7_the_empty_trace() {
     for door in doors() {
         for empty in [log(0, &[]), log(0, &[&[], &[]]), log(5, &[])] {
             let mut file = vec![0; 52];
-            assert_eq!((door.mine)(&empty, FULL, &mut file), 256 * 52, "{}", door.name);
+            assert_eq!(
+                (door.mine)(&empty, FULL, &mut file),
+                256 * 52,
+                "{}",
+                door.name
+            );
             assert_eq!(
                 replay(&door, &file, &[]),
                 (0, 255, 0, true),

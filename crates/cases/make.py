@@ -276,6 +276,21 @@ case("mine", "sample.log", "sample.graph", "mine sample.log sample.graph: 0" + s
 case("mine", "a-0.log", "bytes-52.graph", "mine a-0.log bytes-52.graph: 0" + said(0, [], []) + same(52, NONE))
 case("mine", "a-65.log", "bytes-52.graph", "mine a-65.log bytes-52.graph: 3" + said(0, [], []))
 
+# 02, 7/12: 0 Draft, 1 Check, 2 Amend, 3 Seal; no call has Amend after Seal. 0 excludes 2, but 1, which stands between 0 and 3, includes it: so
+# "3 excludes 2" is not redundant, and neither are 2 to 2 and 3 to 3, which 0 and 1 exclude and let in. Amend after Seal is refused with 9
+files["story.log"] = log_file(4, [[0, 1, 2, 3], [0, 1, 3]])
+files["story.graph"] = graph_file(
+    4, [0, 1, 2, 3], [], [], [0, 1, 2, 3],
+    [(1, [0]), (2, [1]), (3, [1])], [(0, [1]), (1, [3]), (2, [3])], [(0, [1]), (1, [2, 3]), (2, [3])],
+    [(0, [0, 2, 3]), (1, [1]), (2, [2]), (3, [2, 3])],
+)  # fmt: skip
+case("mine", "story.log", "story.graph", "mine story.log story.graph: 0" + said(4, [0, 1, 2, 3], [0]) + same(169, "0 3 27 3 54 3 81 4"))
+replays(
+    "story.graph", "story-astray.log", 4,
+    ([0, 1, 3], (0, 3, [0, 1, 3], [], [], [], "yes")),
+    ([0, 1, 3, 2], (9, 3, [0, 1, 3], [], [], [], "no")),
+)  # fmt: skip
+
 # ---- replay: the paper's runs on a, b, c, d. After c, d, c the conditions between a and b bar both, and d has excluded itself.
 
 LOCKED = ([2, 3], [0], [0, 1, 2], [2], "no")

@@ -12,6 +12,9 @@ pub fn once(comparison: &mut Comparison) {
     for log in logs::exhaustive(6) {
         on_log(comparison, &mut prng, "log: exhaustive", &log);
     }
+    for log in logs::telling() {
+        on_log(comparison, &mut prng, "log: telling", &log);
+    }
     for (number, log) in logs::borders(&mut prng) {
         let judged = judge::log::read(&log).err().unwrap_or(0);
         if judged != number {

@@ -118,18 +118,28 @@ pub fn step6(facts: &Facts, stood: &Relations) -> Relations {
     after
 }
 
-/// Remove s excludes t, if some u excludes t and alternately precedes s.
+/// Remove s excludes t, if some u makes it redundant.
 pub fn step7(facts: &Facts, stood: &Relations) -> Relations {
     let mut after = stood.clone();
     for &(s, t) in &stood.excludes {
         for &u in &facts.events {
-            let alternately = !facts.lacks_alternate.contains(&(u, s));
-            if stood.excludes.contains(&(u, t)) && alternately {
+            if makes_redundant(facts, stood, u, s, t) {
                 after.excludes.remove(&(s, t));
             }
         }
     }
     after
+}
+
+/// u excludes t and alternately precedes s (01); besides, u doesn't include t and no v that
+/// includes t stands between a u and a later s in any trace (02, 7/12).
+pub fn makes_redundant(facts: &Facts, stood: &Relations, u: u8, s: u8, t: u8) -> bool {
+    let alternately = !facts.lacks_alternate.contains(&(u, s));
+    if !stood.excludes.contains(&(u, t)) || !alternately || stood.includes.contains(&(u, t)) {
+        return false;
+    }
+    let lets_in = |&v: &u8| facts.between.has(u, v, s) && stood.includes.contains(&(v, t));
+    !facts.events.iter().any(lets_in)
 }
 
 /// Responses and conditions without the pairs that a middle activity explains.

@@ -177,6 +177,25 @@ pub fn borders(prng: &mut Prng) -> Vec<(u8, Vec<u8>)> {
     ]
 }
 
+/// Short logs on which wrong readings of step 7 differ from 02, 7/12.
+pub fn telling() -> Vec<Vec<u8>> {
+    let logs: [(u8, &[&[u8]]); 10] = [
+        (3, &[&[0, 1, 2]]),
+        (4, &[&[0, 1, 2, 3], &[0, 1, 3]]),
+        (3, &[&[0, 1, 0, 2]]),
+        (3, &[&[0, 1, 2, 0, 1]]),
+        (4, &[&[0, 1, 0, 1], &[0, 1, 2, 3]]),
+        (3, &[&[0, 1, 2, 0]]),
+        (4, &[&[0, 1, 2, 0, 2, 3]]),
+        (4, &[&[0, 1, 2, 3, 0]]),
+        (4, &[&[0, 1, 2, 3]]),
+        (2, &[&[0, 1, 1]]),
+    ];
+    logs.iter()
+        .map(|(a, traces)| log_file(*a, &traces.iter().map(|t| t.to_vec()).collect::<Vec<_>>()))
+        .collect()
+}
+
 /// Every log of one trace over three activities up to this length, and every log of two
 /// traces over two activities up to length four.
 pub fn exhaustive(length: usize) -> Vec<Vec<u8>> {

@@ -1,8 +1,9 @@
 //! The ten steps on rows. Conditions are kept by target, the others by source.
 use super::facts::{gather, Facts};
 use super::log::Log;
+use super::redundant::{not_redundant, Around};
 use super::replayed_pass::{between, held_up};
-use super::rows::{reduced, transposed, without, Bits};
+use super::rows::{reduced, transposed, Bits};
 use crate::value::{GraphValue, MarkingValue, Rows};
 
 pub fn mine(log: &Log) -> GraphValue {
@@ -32,8 +33,11 @@ fn mined<const STEP6: bool>(log: &Log) -> GraphValue {
     if STEP6 {
         step6(log, &facts, &mut graph);
     }
-    let alternately = row_of_each(&facts, |fact| fact.alternately_before());
-    graph.excludes = without(&graph.excludes, &alternately);
+    let around = Around {
+        before: row_of_each(&facts, |fact| fact.before),
+        alternately: row_of_each(&facts, |fact| fact.alternately_before()),
+    };
+    graph.excludes = not_redundant(log, facts.events, &around, &graph.includes, &graph.excludes);
     graph.responses = reduced(&graph.responses);
     graph.conditions = reduced(&graph.conditions);
     let held = held_up(log, facts.events, &graph.includes, &graph.excludes);

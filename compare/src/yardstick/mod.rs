@@ -11,6 +11,7 @@ pub mod listing;
 pub mod log;
 pub mod miner;
 pub mod plain;
+pub mod redundant;
 pub mod replayed_pass;
 pub mod rows;
 

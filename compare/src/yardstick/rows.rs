@@ -40,27 +40,22 @@ pub fn transposed(rows: &Rows) -> Rows {
     out
 }
 
-/// Each row without what the rows of `through` hold together: the form of both step 7
-/// (through the alternate predecessors) and step 8 (through the row's own members).
+/// What stands in the row of some member.
 #[inline(always)]
-pub fn without(rows: &Rows, through: &Rows) -> Rows {
-    let mut out = [0; 64];
-    for key in 0..64 {
-        if rows[key] == 0 {
-            continue;
-        }
-        let mut gone = 0;
-        for middle in Bits(through[key]) {
-            gone |= rows[middle];
-        }
-        out[key] = rows[key] & !gone;
-    }
-    out
+pub fn union(rows: &Rows, members: u64) -> u64 {
+    Bits(members).fold(0, |all, member| all | rows[member])
 }
 
 /// A pair goes where a middle activity explains it; by source or by target alike.
+#[inline(always)]
 pub fn reduced(rows: &Rows) -> Rows {
-    without(rows, rows)
+    let mut out = [0; 64];
+    for key in 0..64 {
+        if rows[key] != 0 {
+            out[key] = rows[key] & !union(rows, rows[key]);
+        }
+    }
+    out
 }
 
 pub fn count(rows: &Rows) -> u32 {

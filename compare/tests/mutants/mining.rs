@@ -3,17 +3,24 @@ use super::wrong_steps::*;
 use super::{all_found, SEEDS};
 use compare::door::{self, Door, GRAPH_ROOM};
 use compare::judge::facts::{gather, Facts};
-use compare::judge::log;
 use compare::judge::graph_file;
+use compare::judge::log;
 use compare::judge::miner::relations_by;
 use compare::judge::steps::{Step, ALL};
 use compare::judge::Relations;
 use compare::seeds::{logs, Prng};
 use compare::{judge, port, yardstick};
 
-/// The logs that the comparison's rounds make, and their facts.
+/// The logs that the comparison makes once for step 7, those of its rounds, and their facts.
 fn each_log(mut look: impl FnMut(&[u8], &Facts) -> bool) -> Option<u64> {
     let mut count = 0;
+    for bytes in logs::telling() {
+        count += 1;
+        let log = log::read(&bytes).expect("sound logs");
+        if look(&bytes, &gather(&log)) {
+            return Some(count);
+        }
+    }
     for seed in 0..SEEDS {
         let mut prng = Prng::new(seed);
         for (_, of_a_kind, make) in logs::KINDS {
@@ -47,7 +54,7 @@ fn found(number: usize, mutant: Step) -> Option<u64> {
     each_log(|_, facts| relations_by(facts, &right) != relations_by(facts, &wrong))
 }
 
-const FULL: [(&str, usize, Step); 20] = [
+const FULL: [(&str, usize, Step); 28] = [
     (
         "step 2, responses of the first s only",
         2,
@@ -73,6 +80,18 @@ const FULL: [(&str, usize, Step); 20] = [
     ("step 7, u is not t", 7, step7_other_u),
     ("step 7, any earlier u", 7, step7_any_earlier),
     ("step 7, left out", 7, |_, r| r.clone()),
+    ("step 7, as 01 had it", 7, step7_of_01),
+    ("step 7, v since the nearest u", 7, step7_nearest_u),
+    (
+        "step 7, v since the first u after the last s",
+        7,
+        step7_since_last_s,
+    ),
+    ("step 7, v before the first s", 7, step7_first_s),
+    ("step 7, v is not s", 7, step7_v_is_not_s),
+    ("step 7, v in two traces", 7, step7_in_two_traces),
+    ("step 7, v beside u or s", 7, step7_neighbours),
+    ("step 7, u may include t", 7, step7_u_may_include),
     ("step 8, while pairs go", 8, step8_in_place),
     ("step 8, left out for responses", 8, step8_conditions_only),
     ("step 9, left out", 9, |_, r| r.clone()),
@@ -130,9 +149,8 @@ fn found_in_the_light_graph() {
     for door in doors {
         let told = |&(name, n, step): &(&'static str, usize, Step)| {
             let wrong = with(n, step, true);
-            let differs = |bytes: &[u8], facts: &Facts| {
-                light_by(&door, bytes) != relations_by(facts, &wrong)
-            };
+            let differs =
+                |bytes: &[u8], facts: &Facts| light_by(&door, bytes) != relations_by(facts, &wrong);
             (name, each_log(differs))
         };
         all_found(LIGHT.iter().map(told).collect());
@@ -150,4 +168,14 @@ fn hidden_in_the_full_graph() {
         !LIGHT.iter().all(same)
     });
     assert_eq!(shown, None);
+}
+
+/// 02, 7/12: in the light graph the new step 7 and that of 01 never differ.
+#[test]
+fn light_graphs_do_not_change() {
+    let changed = each_log(|_, facts| {
+        let before = with(7, step7_of_01, true);
+        relations_by(facts, &judge::miner::Profile::Light.steps()) != relations_by(facts, &before)
+    });
+    assert_eq!(changed, None);
 }

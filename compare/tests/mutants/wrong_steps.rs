@@ -1,6 +1,6 @@
 //! Mining steps with a slip in each, written beside the judge's.
 use compare::judge::facts::{Facts, Table};
-use compare::judge::steps::{held_up, pairs_of, reduced, smallest_sources, ALL};
+use compare::judge::steps::{held_up, makes_redundant, pairs_of, reduced, smallest_sources, ALL};
 use compare::judge::{Pairs, Relations, Set};
 
 pub fn responses_of_first(facts: &Facts, stood: &Relations) -> Relations {
@@ -131,41 +131,169 @@ pub fn step6_next_t(facts: &Facts, stood: &Relations) -> Relations {
 pub fn step7_in_place(facts: &Facts, stood: &Relations) -> Relations {
     let mut after = stood.clone();
     for &(s, t) in &stood.excludes {
-        let goes = facts
-            .events
-            .iter()
-            .any(|&u| after.excludes.contains(&(u, t)) && !facts.lacks_alternate.contains(&(u, s)));
-        if goes {
+        let goes = |&u: &u8| makes_redundant(facts, &after, u, s, t);
+        if facts.events.iter().any(goes) {
             after.excludes.remove(&(s, t));
         }
     }
     after
 }
 
+/// Step 7 with another test of u, s, t.
+fn step7_by(facts: &Facts, stood: &Relations, redundant: impl Fn(u8, u8, u8) -> bool) -> Relations {
+    let mut after = stood.clone();
+    after
+        .excludes
+        .retain(|&(s, t)| !facts.events.iter().any(|&u| redundant(u, s, t)));
+    after
+}
+
+/// As 01 had it: whatever let t in again.
+pub fn step7_of_01(facts: &Facts, stood: &Relations) -> Relations {
+    step7_by(facts, stood, |u, s, t| {
+        excludes_ahead(facts, stood, u, s, t)
+    })
+}
+
+fn excludes_ahead(facts: &Facts, stood: &Relations, u: u8, s: u8, t: u8) -> bool {
+    stood.excludes.contains(&(u, t)) && !facts.lacks_alternate.contains(&(u, s))
+}
+
 pub fn step7_other_u(facts: &Facts, stood: &Relations) -> Relations {
-    let test = |u, t| u != t && stood.excludes.contains(&(u, t));
-    step7_by(facts, stood, test, &facts.lacks_alternate)
+    step7_by(facts, stood, |u, s, t| {
+        u != t && makes_redundant(facts, stood, u, s, t)
+    })
 }
 
 pub fn step7_any_earlier(facts: &Facts, stood: &Relations) -> Relations {
-    let test = |u, t| stood.excludes.contains(&(u, t));
-    step7_by(facts, stood, test, &facts.lacks_earlier)
+    step7_by(facts, stood, |u, s, t| {
+        stood.excludes.contains(&(u, t))
+            && !facts.lacks_earlier.contains(&(u, s))
+            && !stood.includes.contains(&(u, t))
+            && !let_in(facts, stood, (u, s, t), all_spans, |_, _, _| true)
+    })
 }
 
-fn step7_by(
+/// The places of a u and a later s of a trace between which v is looked for.
+type Spans = fn(&[u8], u8, u8) -> Vec<(usize, usize)>;
+
+fn let_in(
     facts: &Facts,
     stood: &Relations,
-    test: impl Fn(u8, u8) -> bool,
-    lacks: &Table,
+    (u, s, t): (u8, u8, u8),
+    spans: Spans,
+    counts: fn(u8, u8, u8) -> bool,
+) -> bool {
+    facts.traces.iter().any(|trace| {
+        spans(trace, u, s).into_iter().any(|(from, to)| {
+            trace[from + 1..to]
+                .iter()
+                .any(|&v| counts(v, u, s) && stood.includes.contains(&(v, t)))
+        })
+    })
+}
+
+/// Step 7 with other spans, or with a v that doesn't always count.
+fn step7_spans(
+    facts: &Facts,
+    stood: &Relations,
+    spans: Spans,
+    counts: fn(u8, u8, u8) -> bool,
 ) -> Relations {
-    let mut after = stood.clone();
-    after.excludes.retain(|&(s, t)| {
-        !facts
-            .events
-            .iter()
-            .any(|&u| test(u, t) && !lacks.contains(&(u, s)))
-    });
-    after
+    step7_by(facts, stood, |u, s, t| {
+        excludes_ahead(facts, stood, u, s, t)
+            && !stood.includes.contains(&(u, t))
+            && !let_in(facts, stood, (u, s, t), spans, counts)
+    })
+}
+
+fn places(trace: &[u8], e: u8) -> Vec<usize> {
+    (0..trace.len())
+        .filter(|&place| trace[place] == e)
+        .collect()
+}
+
+fn all_spans(trace: &[u8], u: u8, s: u8) -> Vec<(usize, usize)> {
+    let from_each = |to: usize| {
+        places(&trace[..to], u)
+            .into_iter()
+            .map(move |from| (from, to))
+    };
+    places(trace, s).into_iter().flat_map(from_each).collect()
+}
+
+fn from_nearest(trace: &[u8], u: u8, s: u8) -> Vec<(usize, usize)> {
+    let nearest = |to: usize| places(&trace[..to], u).last().map(|&from| (from, to));
+    places(trace, s).into_iter().filter_map(nearest).collect()
+}
+
+/// From the first u since the last s.
+fn since_last(trace: &[u8], u: u8, s: u8) -> Vec<(usize, usize)> {
+    let since = |to: usize| {
+        let last = places(&trace[..to], s).last().map_or(0, |&place| place + 1);
+        let first = places(&trace[..to], u)
+            .into_iter()
+            .find(|&place| place >= last);
+        first.map(|from| (from, to))
+    };
+    places(trace, s).into_iter().filter_map(since).collect()
+}
+
+fn to_first(trace: &[u8], u: u8, s: u8) -> Vec<(usize, usize)> {
+    let first = places(trace, s).first().copied();
+    let mut spans = all_spans(trace, u, s);
+    spans.retain(|&(_, to)| Some(to) == first);
+    spans
+}
+
+/// Only what stands directly after a u or directly before an s.
+fn neighbours(trace: &[u8], u: u8, s: u8) -> Vec<(usize, usize)> {
+    all_spans(trace, u, s)
+        .into_iter()
+        .filter(|(from, to)| to - from > 1)
+        .flat_map(|(from, to)| [(from, from + 2), (to - 2, to)])
+        .collect()
+}
+
+pub fn step7_nearest_u(facts: &Facts, stood: &Relations) -> Relations {
+    step7_spans(facts, stood, from_nearest, |_, _, _| true)
+}
+
+pub fn step7_since_last_s(facts: &Facts, stood: &Relations) -> Relations {
+    step7_spans(facts, stood, since_last, |_, _, _| true)
+}
+
+pub fn step7_first_s(facts: &Facts, stood: &Relations) -> Relations {
+    step7_spans(facts, stood, to_first, |_, _, _| true)
+}
+
+pub fn step7_v_is_not_s(facts: &Facts, stood: &Relations) -> Relations {
+    step7_spans(facts, stood, all_spans, |v, _, s| v != s)
+}
+
+pub fn step7_neighbours(facts: &Facts, stood: &Relations) -> Relations {
+    step7_spans(facts, stood, neighbours, |_, _, _| true)
+}
+
+/// v after some u and before some s, but not between the two.
+pub fn step7_in_two_traces(facts: &Facts, stood: &Relations) -> Relations {
+    step7_by(facts, stood, |u, s, t| {
+        let lets_in = |&v: &u8| {
+            facts.before.contains(&(u, v))
+                && facts.before.contains(&(v, s))
+                && stood.includes.contains(&(v, t))
+        };
+        excludes_ahead(facts, stood, u, s, t)
+            && !stood.includes.contains(&(u, t))
+            && !facts.events.iter().any(lets_in)
+    })
+}
+
+pub fn step7_u_may_include(facts: &Facts, stood: &Relations) -> Relations {
+    step7_by(facts, stood, |u, s, t| {
+        excludes_ahead(facts, stood, u, s, t)
+            && !let_in(facts, stood, (u, s, t), all_spans, |_, _, _| true)
+    })
 }
 
 fn reduced_in_place(events: &Set, stood: &Pairs) -> Pairs {

@@ -5,11 +5,12 @@ use mathlib.Core.List.{List, []}
 use Prim.Native.Nat.{ℕ, _*_}
 use native.Mathlib.Omega.{arith}
 use lib.ListN.{length, length-replicate}
-use Rattle.sets.specs.Members.{width, those}
-use Rattle.sets.specs.Rows.{noRows, rowsOf, rowsFor, turned}
+use Rattle.sets.specs.Tests.{_and_, non}
+use Rattle.sets.specs.Members.{width, mem, those, someBelow}
+use Rattle.sets.specs.Rows.{Relation, inRow, noRows, rowsOf, rowsFor, turned}
 use Rattle.sets.specs.Tables.{noTables, tableAt, withTable}
 use Rattle.sets.specs.declared.set.Set.{Set}
-use Rattle.sets.proofs.RowLaws.{length-rowsOf}
+use Rattle.sets.proofs.RowLaws.{in-rowsOf, rowsOf-ext, length-rowsOf}
 use Rattle.engine.specs.Markings.{openingOf}
 use Rattle.engine.specs.Relations.{relationCount, headOf, graphOf, inTables}
 use Rattle.engine.specs.declared.marking.State.{State}
@@ -24,8 +25,8 @@ use Rattle.steps.specs.Rowwise.{excluders, inEither, reducedOf, waited}
 use Rattle.tally.specs.Passes.{gains, forward, through}
 use Rattle.tally.specs.Tallies.{tableCount, noted, tallied, beforeTable, laterTable}
 use Rattle.tally.proofs.Folds.{forward-rowsOf, through-rowsOf}
-use Rattle.miner.specs.Facts.{letIn, beforeFirst, missed}
-use Rattle.miner.specs.Stages.{conditionsOf, chainsOf, responsesOf, neverOf, fiveOf, sevenFrom, includesSix, excludesSix}
+use Rattle.miner.specs.Facts.{Less, letIn, beforeFirst, missed}
+use Rattle.miner.specs.Stages.{conditionsOf, chainsOf, responsesOf, neverOf, fiveOf, followersOf, redundantBy, sevenFrom, includesSix, excludesSix}
 use Rattle.miner.specs.Stages.{waitedOf, fourTables, tablesRead, graphFound}
 use Rattle.miner.proofs.Holding.{Held, held-any, length-held, held-c, held-r, held-i, held-x, held-four, held-is, taken-from, put-long}
 
@@ -56,6 +57,20 @@ nine-by L events eight includes excludes t t′ first₀ unmet₀ first unmet h 
     (hf ∙ ap (λ (x : List ℕ). through (λ r σ. forward (gains beforeFirst) r [] σ) x L) h₀)
     (hu ∙ ap (λ (x : List ℕ). through (λ r σ. forward (gains (missed events includes excludes)) r [] σ) x L) k₀)
 
+-- step 7: what is left of the excludes
+pub seven-by : (L : Traces) (events : Set) (tally t left₀ left t′ : List ℕ) → left₀ ≡ withTable noRows 0 (tableAt t 3)
+    → Less left₀ (λ s x. someBelow width (λ u. mem events u
+    and redundantBy tally (followersOf events tally) (tableAt t 2) (tableAt t 3) L u s x)) left
+    → t′ ≡ withTable t 3 left → (r : Relation) → tableAt t 3 ≡ rowsOf r
+    → t′ ≡ withTable t 3 (sevenFrom events tally (tableAt t 2) (tableAt t 3) L)
+seven-by L events tally t left₀ left t′ h₀ l h r hr =
+    h
+    ∙ ap (withTable t 3)
+    (l r (h₀ ∙ taken-from t 3 (rowsOf r) hr (length-rowsOf r))
+    ∙ rowsOf-ext _ _ (λ s x ls lx. ap (λ (b : Bool). b and non (someBelow width (λ u. mem events u
+    and redundantBy tally (followersOf events tally) (tableAt t 2) (tableAt t 3) L u s x)))
+    (sym (ap (λ (rows : List ℕ). inRow rows s x) hr ∙ in-rowsOf r s x ls lx))))
+
 -- ---- the rows of a stage are rows of the width
 
 length-for : (events : Set) (r : ℕ → ℕ → Bool) → length (rowsFor events r) ≡ width
@@ -72,6 +87,12 @@ module _ (L : Traces) (events : Set) (tally : List ℕ) where
   length-excludes : (p : Profile) → length (excludesSix p events tally) ≡ width
   length-excludes Full = length-for events _
   length-excludes Light = length-rowsOf _
+
+  -- the excludes after step 6 are some relation's rows
+  excludes-some : (p : Profile) → (r : Relation) × (excludesSix p events tally ≡ rowsOf r)
+  unfolding rowsFor
+  excludes-some Full = ((λ a x. mem events a and inEither (fiveOf events tally) (neverOf events tally) a x), refl)
+  excludes-some Light = (_, refl)
 
   -- ---- step 6
   module _ (t t₁ t₂ t₃ : List ℕ) (h₁ : t₁ ≡ withTable t 1 (neverOf events tally))
@@ -131,14 +152,14 @@ module _ (L : Traces) (events : Set) (tally : List ℕ) where
     answersOf = rowsFor events (reducedOf (responsesOf events tally))
 
     abbrev afterSeven : List ℕ
-    afterSeven = sevenFrom events tally (excludesSix p events tally)
+    afterSeven = sevenFrom events tally (includesSix p events tally L) (excludesSix p events tally) L
 
     abbrev excludedOf : List ℕ
     excludedOf = rowsFor events (excluders events (tableAt tally beforeTable) (tableAt tally laterTable) (chainsOf events tally))
 
     pub eight-four : Held (fourTables eightOf answersOf (includesSix p events tally L) afterSeven) eightOf answersOf
         (includesSix p events tally L) afterSeven
-    eight-four = held-four _ _ _ _ (length-for events _) (length-for events _) (length-includes p) (length-for events _)
+    eight-four = held-four _ _ _ _ (length-for events _) (length-for events _) (length-includes p) (length-rowsOf _)
 
     pub eight-by : (t t₁ t₂ t₃ t₄ t₅ t₆ t₇ : List ℕ) → t₁ ≡ withTable t 2 (rowsOf (turned (chainsOf events tally)))
         → t₂ ≡ withTable t₁ 3 excludedOf → t₃ ≡ withTable t₂ 3 (rowsOf (turned (withTable noRows 0 (tableAt t₂ 3))))
@@ -146,7 +167,7 @@ module _ (L : Traces) (events : Set) (tally : List ℕ) where
         → (length t₃ ≡ relationCount * width → tableAt t₃ 2 ≡ includesSix Light events tally L → tableAt t₄ 2 ≡ includesSix p events tally L)
         → (length t₃ ≡ relationCount * width → tableAt t₃ 2 ≡ includesSix Light events tally L
         → tableAt t₃ 3 ≡ excludesSix Light events tally → tableAt t₄ 3 ≡ excludesSix p events tally)
-        → t₅ ≡ withTable t₄ 3 (sevenFrom events tally (withTable noRows 0 (tableAt t₄ 3)))
+        → ((r : Relation) → tableAt t₄ 3 ≡ rowsOf r → t₅ ≡ withTable t₄ 3 (sevenFrom events tally (tableAt t₄ 2) (tableAt t₄ 3) L))
         → t₆ ≡ withTable t₅ 0 eightOf → t₇ ≡ withTable t₆ 1 answersOf
         → length t ≡ relationCount * width → t₇ ≡ fourTables eightOf answersOf (includesSix p events tally L) afterSeven
     eight-by t t₁ t₂ t₃ t₄ t₅ t₆ t₇ h₁ h₂ h₃ l₄ i₄ x₄ h₅ h₆ h₇ long =
@@ -161,10 +182,11 @@ module _ (L : Traces) (events : Set) (tally : List ℕ) where
           includes = i₄ (five .long) (five .includes);
           excludes = x₄ (five .long) (five .includes) (five .excludes);
         } in
-        let seven = held-x _ _ _ _ _ t₅ afterSeven six (length-for events _)
-        (h₅ ∙ ap (λ (x : List ℕ). withTable t₄ 3 (sevenFrom events tally x)) (taken-from t₄ 3 _ (six .excludes) (length-excludes p))) in
+        let seven = held-x _ _ _ _ _ t₅ afterSeven six (length-rowsOf _)
+        (h₅ (excludes-some p .0) (six .excludes ∙ excludes-some p .1)
+        ∙ ap₂ (λ (i x : List ℕ). withTable t₄ 3 (sevenFrom events tally i x L)) (six .includes) (six .excludes)) in
         let eight = held-c _ _ _ _ _ t₆ _ seven (length-for events _) h₆ in
-        held-is _ _ _ _ (length-for events _) (length-for events _) (length-includes p) (length-for events _) t₇
+        held-is _ _ _ _ (length-for events _) (length-for events _) (length-includes p) (length-rowsOf _) t₇
         (held-r _ _ _ _ _ t₇ _ eight (length-for events _) h₇)
 
 -- from the tally of the traces
@@ -216,11 +238,11 @@ module _ (A : ℕ) (L : Traces) (p : Profile) (events : Set) (t₁ t₂ t₃ : L
       (h₂
       ∙ (λ i. withTable t₁ 0 (nineFrom (taken-from t₁ 0 eight (one .conditions) (length-for events _) i)
       (taken-from t₁ 2 included (one .includes) (length-includes L events (tallied L) p) i)
-      (taken-from t₁ 3 excluding (one .excludes) (length-for events _) i)))) in
+      (taken-from t₁ 3 excluding (one .excludes) (length-rowsOf _) i)))) in
       let ten = held-c _ _ _ _ _ t₃ (waitedOf events eight included excluding L) nine (length-for events _)
       (h₃ ∙ ap (λ (x : List ℕ). withTable t₂ 0 (rowsFor events (reducedOf x)))
       (taken-from t₂ 0 _ (nine .conditions) (length-for events _))) in
-      let all = held-is _ _ _ _ (length-for events _) (length-for events _) (length-includes L events (tallied L) p) (length-for events _) t₃ ten in
+      let all = held-is _ _ _ _ (length-for events _) (length-for events _) (length-includes L events (tallied L) p) (length-rowsOf _) t₃ ten in
       (λ i. graphOf (headOf A events (ho i)) t₃)
       ∙ (λ i. graphAt A events (hs i) (all i))
       ∙ ap (λ (v : Set). graphAt A v (openingOf v) (tablesRead L v (tallied L) p)) hv

@@ -8,8 +8,8 @@ use borrow.Author.Tests.{eqb-true, eqb-false}
 use lib.Dec.{T, eqb, eqb-refl}
 use Rattle.sets.specs.Tests.{_and_, _or_, non}
 use Rattle.sets.specs.Members.{width, mem, those, someBelow}
-use Rattle.sets.specs.Rows.{Relation, inRow, rowsOf, rowsFor, turned}
-use Rattle.sets.proofs.Tests.{and-l, and-r, and-i, and-assoc, and-true, and-false, non-e, non-non, T-ext, T→true, F→false, false→F}
+use Rattle.sets.specs.Rows.{Relation, rowAt, inRow, rowsOf, rowsFor, turned}
+use Rattle.sets.proofs.Tests.{and-l, and-r, and-i, and-true, and-false, non-e, non-non, T-ext, T-eq, T→true, F→false, false→F}
 use Rattle.sets.proofs.Tautologies.{by2, by4, by5}
 use Rattle.sets.proofs.Below.{some-ext}
 use Rattle.sets.proofs.Members.{mem-those}
@@ -19,14 +19,18 @@ use Rattle.rules.specs.declared.Profile.{Profile}
 use Rattle.rules.specs.declared.Profile.the-variants.{Full, Light}
 use Rattle.rules.specs.Traces.{Traces}
 use Rattle.rules.specs.Mining.{noPair, noRelations, smallestSource, event, someEvent, _with_, _without_, before, followed, alternates}
-use Rattle.rules.specs.Mining.{atMostOnce, together, directlyBefore, neverTogether, closes, step1, step2, step3, step4, step5, step6, step7}
+use Rattle.rules.specs.Mining.{atMostOnce, together, directlyBefore, neverTogether, closes, step1, step2, step3, step4, step5, step6, letInBetween, makesRedundant, step7}
 use Rattle.rules.specs.Mining.{afterFive, afterSix, afterSeven}
-use Rattle.steps.specs.Rowwise.{excludesItself, smallest, apart, closing, excluders, absent, inEither, notRedundant}
+use Rattle.steps.specs.Rowwise.{excludesItself, smallest, apart, closing, excluders, absent, inEither}
 use Rattle.tally.specs.Tallies.{tallied}
 use Rattle.tally.proofs.Tallying.{before-table, later-table, unalternated-table, followed-table}
 use Rattle.tally.proofs.LogLaws.{once, together-before}
-use Rattle.miner.specs.Stages.{chainsOf, neverOf, fiveOf, excludesSix, sevenFrom}
-use Rattle.miner.proofs.RowReadings.{absent-rows, united-rows, smallest-read}
+use Rattle.miner.specs.Facts.{reopened, doubted}
+use Rattle.miner.specs.Stages.{chainsOf, neverOf, fiveOf, excludesSix, followersOf, redundantBy, sevenFrom}
+use Rattle.miner.proofs.RowReadings.{turned-rows, absent-rows, united-rows, smallest-read}
+use Rattle.rules.proofs.Why.{Small}
+use Rattle.miner.proofs.OverLog.{reopened-is}
+use Rattle.miner.proofs.Losing.{under}
 use Rattle.miner.proofs.EarlySteps.{events, chains-read}
 
 -- ---- tests alone
@@ -86,6 +90,11 @@ unfolding _and_ _or_ non
 first-too e f g p h =
     ap (λ (x : Bool). e and (x and p)) h ∙ by4 (λ v w x y. v and (v and w and x and y)) (λ v w x y. v and w and x and y) tt e f g p
     ∙ ap (λ (x : Bool). x and p) (sym h)
+
+-- the tests of step 7 in the order of the rules
+as-asked : (e x i a l : Bool) → (e and (x and non i and (true and (e and a)) and non l)) ≡ (e and (x and a and non i and non l))
+unfolding _and_ _or_ non
+as-asked = by5 (λ e x i a l. e and (x and non i and (true and (e and a)) and non l)) (λ e x i a l. e and (x and a and non i and non l)) tt
 
 -- what excludes itself by step 1 or by step 3
 unfoldable pub selfExcluding : Traces → ℕ → Bool
@@ -227,17 +236,38 @@ module _ (L : Traces) where
   six-events Full s t = with-events (afterFive L .excludes) (λ x y. non (followed L x y)) s t
   six-events Light s t = with-events (afterFour L .excludes) (smallestSource (closes L (afterFour L))) s t
 
-  pub excludes-seven : (p : Profile) → sevenFrom (events L) (tallied L) (excludesSix p (events L) (tallied L)) ≡ rowsOf (afterSeven L p .excludes)
-  unfolding afterSeven step7 _without_ notRedundant rowsFor someEvent
-  excludes-seven p =
-      (λ i. rowsFor (events L) (notRedundant (events L) (excludes-six p i) (unalternated-table L i)))
-      ∙ rowsOf-ext _ _
-      (λ s t ls lt.
-      ap₂ _and_ (mem-those (event L) s ls)
-      (ap₂ (λ (x y : Bool). x and non y) (in-rowsOf (six .excludes) s t ls lt)
-      (some-ext width _ (λ u. event L u and (six .excludes u t and alternates L u s))
-      (λ u lu. simp (mem-those, in-rowsOf, non-non) (and-assoc (event L u) (six .excludes u t) (alternates L u s)))))
-      ∙ first-too (event L s) (event L t) (six .excludes s t) _ (six-events p s t))
-    where
-      six : Relations
-      six = afterSix L p
+  -- ---- after seven: what a row says of u is what the rules ask of it
+
+  followers-read : followersOf (events L) (tallied L) ≡ rowsOf (λ u s. event L s and (event L u and alternates L u s))
+  followers-read =
+      ap (λ (rows : List ℕ). rowsOf (turned (rowsFor (events L) (absent (events L) rows)))) (unalternated-table L)
+      ∙ ap (λ (rows : List ℕ). rowsOf (turned rows)) (absent-rows (event L) (λ s u. non (alternates L u s)))
+      ∙ turned-rows (λ s u. event L s and (event L u and non (non (alternates L u s))))
+      ∙ rowsOf-ext _ _ (λ u s lu ls. ap (λ (b : Bool). event L s and (event L u and b)) (non-non (alternates L u s)))
+
+  module _ (small : Small L) (p : Profile) (includes : List ℕ) (hi : includes ≡ rowsOf (afterSix L p .includes)) where
+    abbrev six : Relations
+    six = afterSix L p
+
+    redundant-read : (u s t : ℕ) → u < width → s < width → t < width → event L s ≡ true
+        → (mem (events L) u and redundantBy (tallied L) (followersOf (events L) (tallied L)) includes (excludesSix p (events L) (tallied L)) L u s t)
+        ≡ (event L u and makesRedundant L six u s t)
+    unfolding redundantBy makesRedundant
+    redundant-read u s t lu ls lt es =
+        (λ i.
+        mem (events L) u
+        and (inRow (excludes-six p i) u t and non (inRow (hi i) u t) and inRow (followers-read i) u s
+        and non (doubted (before-table L i) (hi i) (rowAt (later-table L i) u) s t and reopened (hi i) u L s t)))
+        ∙ simp (mem-those, in-rowsOf, reopened-is)
+        (ap (λ (b : Bool). event L u and (six .excludes u t and non (six .includes u t) and (b and (event L u and alternates L u s))
+        and non (letInBetween L six u s t))) es
+        ∙ as-asked (event L u) (six .excludes u t) (six .includes u t) (alternates L u s) (letInBetween L six u s t))
+
+    pub excludes-seven : sevenFrom (events L) (tallied L) includes (excludesSix p (events L) (tallied L)) L ≡ rowsOf (afterSeven L p .excludes)
+    unfolding afterSeven step7 _without_ someEvent
+    excludes-seven =
+        rowsOf-ext _ _
+        (λ s t ls lt.
+        ap₂ (λ (x y : Bool). x and non y) (ap (λ (rows : List ℕ). inRow rows s t) (excludes-six p) ∙ in-rowsOf (six .excludes) s t ls lt) refl
+        ∙ under (six .excludes s t) _ _
+        (λ h. some-ext width _ _ (λ u lu. redundant-read u s t lu ls lt (T→true _ (and-l _ _ (and-l _ _ (T-eq (six-events p s t) h)))))))

@@ -20,6 +20,7 @@ use Rattle.rules.specs.Traces.{Traces}
 use Rattle.rules.specs.Mining.{event, someEvent, _with_, _without_, followed, between, beforeFirst, neverMissed, directlyBefore}
 use Rattle.rules.specs.Mining.{noRelations, reduced, step1, step2, step3, step4, step5, step6, step7, step8, step9, step10, afterFive}
 use Rattle.rules.specs.Mining.{afterSix, afterSeven, afterEight, mined}
+use Rattle.rules.proofs.Why.{Small}
 use Rattle.steps.specs.Rowwise.{reducedOf, waited}
 use Rattle.tally.specs.Tallies.{tallied}
 use Rattle.tally.proofs.LogLaws.{middle-event, later-event}
@@ -155,6 +156,7 @@ module _ (L : Traces) where
       rowsOf-ext _ _ (λ u t lu lt. joined (event L u) (event L t) (afterFive L .includes u t) (betweens u t)
       (with-events L (step2 L (step1 L noRelations) .includes) (directlyBefore L) u t) (betweens-events u t))
 
-  pub excludes-mined : (p : Profile) → sevenFrom (events L) (tallied L) (excludesSix p (events L) (tallied L)) ≡ rowsOf (mined L p .excludes)
+  pub excludes-mined : Small L → (p : Profile) (includes : List ℕ) → includes ≡ rowsOf (afterSix L p .includes)
+      → sevenFrom (events L) (tallied L) includes (excludesSix p (events L) (tallied L)) L ≡ rowsOf (mined L p .excludes)
   unfolding mined step10 step9 afterEight step8
-  excludes-mined p = excludes-seven L p
+  excludes-mined small p includes hi = excludes-seven L small p includes hi

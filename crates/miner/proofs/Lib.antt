@@ -12,3 +12,6 @@ pub mod Holding
 pub mod Composed
 pub mod PairForPair
 pub mod FromLog
+pub mod Losing
+pub mod Reopening
+pub mod Settling

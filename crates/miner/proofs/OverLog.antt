@@ -1,4 +1,4 @@
--- What the facts of steps 6 and 9 say of a whole log, in the words of the rules. What is assumed stands with each.
+-- What the facts of steps 6, 7 and 9 say of a whole log, in the words of the rules. What is assumed stands with each.
 use mathlib.Core.Path.{_≡_, refl, sym, ap, ap₂, _∙_, subst}
 use mathlib.Core.Bool.{Bool}
 use mathlib.Core.List.{List, [], _∷_, reverseAux, List·Memᴰ}
@@ -6,21 +6,22 @@ use Prim.Native.Nat.{ℕ, _<_}
 use lib.Dec.{T, eqb→eq, eqb-refl}
 use Rattle.sets.specs.Tests.{_and_, _or_, non}
 use Rattle.sets.specs.Members.{width, those, someBelow}
-use Rattle.sets.specs.Rows.{rowsOf, inRow}
+use Rattle.sets.specs.Rows.{rowAt, rowsOf, inRow}
 use Rattle.sets.proofs.Tests.{and-l, and-r, and-i, or-e, or-l, or-r, T-ext, T-eq, either}
 use Rattle.sets.proofs.Below.{some-i, some-e}
 use Rattle.sets.proofs.Members.{mem-those}
-use Rattle.sets.proofs.RowLaws.{in-rowsOf}
+use Rattle.sets.proofs.RowLaws.{row-mem, in-rowsOf}
 use Rattle.engine.specs.Relations.{Relations}
 use Rattle.rules.specs.Traces.{Traces, _has_, atSomeFrom, atSome, someTrace}
-use Rattle.rules.specs.Mining.{event, someEvent, followed, between, includedAfter, neverMissed, beforeFirst as rule-beforeFirst}
-use Rattle.rules.proofs.Places.{some-at, has-past, some-of, some-trace}
-use Rattle.rules.proofs.Why.{Small}
+use Rattle.rules.specs.Mining.{event, someEvent, before, followed, between, letInBetween, includedAfter, neverMissed, beforeFirst as rule-beforeFirst}
+use Rattle.rules.proofs.Places.{some-at, has-first, has-past, some-of, some-trace}
+use Rattle.rules.proofs.Why.{Small, some-event, the-event}
 use Rattle.rules.proofs.InTurn.{is-event}
-use Rattle.miner.specs.Facts.{letIn, beforeFirst, stillIncluded, missed}
+use Rattle.miner.specs.Facts.{letIn, letInSince, reopened, doubted, beforeFirst, stillIncluded, missed}
 use Rattle.tally.proofs.Folds.{heard}
-use Rattle.tally.proofs.Heard.{non-every}
-use Rattle.tally.proofs.LogLaws.{later-event}
+use Rattle.tally.specs.Passes.{isLater}
+use Rattle.tally.proofs.Heard.{non-every, heard-later}
+use Rattle.tally.proofs.LogLaws.{middle-event, later-event}
 use Rattle.sets.proofs.Tautologies.{by2}
 
 -- ---- the places of a log where an activity stands
@@ -89,6 +90,70 @@ module _ (L : Traces) where
           (and-i _ _ (and-l _ _ (r .2)) (and-i _ _ e (and-l _ _ (and-r _ _ (r .2))))) in
           at-place u here L (k .0) (k .1) (k .2) (and-i _ _ (and-r _ _ (k .3))
           (some-i width _ (r .0) (r .1) (and-i _ _ (and-l _ _ (k .3)) w)))
+
+  -- ---- step 7
+
+  module _ (g : Relations) (u x : ℕ) (lu : u < width) (lx : x < width) where
+    abbrev includes : List ℕ
+    includes = rowsOf (g .includes)
+
+    -- what was let in before a place was let in by some v, with a u before it; s stands from the place on
+    since-e : (s : ℕ) (past rest : List ℕ) → T (letInSince includes u past x) → T (rest has s)
+        → (v : ℕ) × (far : List ℕ) × (near : List ℕ) × (reverseAux far (v ∷ near) ≡ reverseAux past rest)
+        × T (far has u) × T (near has s) × T (inRow includes v x)
+    unfolding letInSince _has_
+    since-e s [] rest t h = absurd t
+    since-e s (y ∷ past) rest t h =
+        either (or-e _ _ t)
+        (λ k. since-e s past (y ∷ rest) k (or-r _ _ h))
+        (λ k. (y, past, rest, refl, and-l _ _ k, h, and-r _ _ k))
+
+    -- and what was let in stays so, up to an s that comes later
+    since-i : (s : ℕ) (past rest : List ℕ) → T (letInSince includes u past x) → T (rest has s)
+        → (q : List ℕ) × (r : List ℕ) × (reverseAux q (s ∷ r) ≡ reverseAux past rest) × T (letInSince includes u q x)
+    unfolding letInSince _has_
+    since-i s past [] t h = absurd h
+    since-i s past (y ∷ rest) t h =
+        either (or-e _ _ h)
+        (λ k. (past, rest, ap (λ (z : ℕ). reverseAux past (z ∷ rest)) (eqb→eq s y k), t))
+        (λ k. since-i s (y ∷ past) rest (or-l _ _ t) k)
+
+    module _ (small : Small L) (s : ℕ) (ls : s < width) where
+      abbrev asked : Bool
+      asked =
+          doubted (rowsOf (λ b a. before L a b)) includes (rowAt (rowsOf (before L)) u) s x and reopened includes u L s x
+
+      there : T asked → T (letInBetween L g u s x)
+      unfolding letInBetween between
+      there h =
+          let p = some-place s (λ past rest. letInSince includes u past x) L (and-r _ _ h) in
+          let v = since-e s (p .0) (s ∷ p .1) (p .3) (has-first s (p .1)) in
+          let b = at-place (v .0) (λ past rest. past has u and rest has s) L (v .1) (v .2)
+          (subst (λ (σ : List ℕ). List·Memᴰ σ L) (sym (v .3)) (p .2)) (and-i _ _ (v .4) (v .5)) in
+          let e = middle-event L u (v .0) s b in
+          some-event L _ (v .0) (small _ e) e (and-i _ _ b (T-eq (in-rowsOf (g .includes) (v .0) x (small _ e) lx) (v .6)))
+
+      back : T (letInBetween L g u s x) → T asked
+      unfolding letInBetween between letInSince doubted before isLater
+      back h =
+          let v = the-event L (λ w. between L u w s and g .includes w x) h in
+          let lv = small (v .0) (v .1) in
+          let p = some-place (v .0) (λ past rest. past has u and rest has s) L (and-l _ _ (v .2)) in
+          let i = T-eq (sym (in-rowsOf (g .includes) (v .0) x lv lx)) (and-r _ _ (v .2)) in
+          let q = since-i s (v .0 ∷ p .0) (p .1) (or-r _ _ (and-i _ _ (and-l _ _ (p .3)) i)) (and-r _ _ (p .3)) in
+          and-i _ _
+          (some-i width _ (v .0) lv
+          (and-i _ _
+          (and-i _ _
+          (T-eq (sym (row-mem (before L) u (v .0) lu lv)) (at-place (v .0) (λ past rest. past has u) L (p .0) (p .1) (p .2) (and-l _ _ (p .3))))
+          (T-eq (sym (in-rowsOf (λ b a. before L a b) s (v .0) ls lv))
+          (T-eq (heard-later L (v .0) s) (at-place (v .0) (λ past rest. rest has s) L (p .0) (p .1) (p .2) (and-r _ _ (p .3))))))
+          i))
+          (at-place s (λ past rest. letInSince includes u past x) L (q .0) (q .1)
+          (subst (λ (σ : List ℕ). List·Memᴰ σ L) (sym (q .2)) (p .2)) (q .3))
+
+      pub reopened-is : asked ≡ letInBetween L g u s x
+      reopened-is = T-ext _ _ there back
 
   -- ---- step 9
 

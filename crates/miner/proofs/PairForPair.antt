@@ -91,14 +91,18 @@ module _ (L : Traces) where
         (λ t s. non (neverMissed L (afterEight L p) s t))
         (λ t s lt ls. missed-is L (afterEight L p) s ls small t)
 
+    excludes-are : sevenFrom (events L) (tallied L) (includesSix p (events L) (tallied L) L) (excludesSix p (events L) (tallied L)) L
+        ≡ rowsOf (mined L p .excludes)
+    excludes-are = excludes-mined L small p _ (includes-six p)
+
     pub pair-for-pair : (A : ℕ) → graphFound A L p ≡ minedGraph A L p
     unfolding graphFound minedGraph graphFrom
     pair-for-pair A =
         let conditions-are =
         conditions-mined L p _ _ (walk-is beforeFirst (λ t s. ruleBeforeFirst L s t) (λ t s lt ls. before-first-is L s t))
         (ap₂ (λ (x y : List ℕ). through (λ r σ. forward (gains (missed (events L) x y)) r [] σ) noRows L) (includes-are p)
-        (excludes-mined L p) ∙ missed-are) in
+        excludes-are ∙ missed-are) in
         (λ i.
         graphAt A (events L) (openingOf (events L))
-        (fourTables (conditions-are i) (responses-mined L p i) (includes-are p i) (excludes-mined L p i)))
+        (fourTables (conditions-are i) (responses-mined L p i) (includes-are p i) (excludes-are i)))
         ∙ ap (graphAt A (events L) (openingOf (events L))) (four-tables (mined L p))

@@ -1,9 +1,10 @@
--- What the stages of mining put together, from the tally of a log and its events: what the functions of src/mining.rt, src/includes.rt and
--- src/conditions.rt give. That it is the rules' graph is a theorem, so a reader of `mine` need not believe this file.
+-- What the stages of mining put together, from the tally of a log and its events: what the functions of src/mining.rt, src/includes.rt,
+-- src/redundant.rt and src/conditions.rt give. That it is the rules' graph is a theorem, so a reader of `mine` need not believe this file.
 use mathlib.Core.List.{List, []}
 use Prim.Native.Nat.{ℕ}
-use Rattle.sets.specs.Members.{those}
-use Rattle.sets.specs.Rows.{noRows, rowsOf, rowsFor, turned}
+use Rattle.sets.specs.Tests.{_and_, non}
+use Rattle.sets.specs.Members.{width, mem, those, someBelow}
+use Rattle.sets.specs.Rows.{Relation, noRows, rowAt, inRow, rowsOf, rowsFor, turned}
 use Rattle.sets.specs.Tables.{noTables, tableAt, withTable}
 use Rattle.sets.specs.declared.set.Set.{Set}
 use Rattle.engine.specs.Markings.{openingOf}
@@ -14,11 +15,11 @@ use Rattle.rules.specs.declared.Profile.{Profile}
 use Rattle.rules.specs.declared.Profile.the-variants.{Full, Light}
 use Rattle.rules.specs.Traces.{Traces}
 use Rattle.rules.specs.Mining.{event}
-use Rattle.steps.specs.Rowwise.{unbroken, absent, excluders, inEither, notRedundant, reducedOf, waited}
+use Rattle.steps.specs.Rowwise.{unbroken, absent, excluders, inEither, reducedOf, waited}
 use Rattle.tally.specs.Passes.{gains, forward, through}
 use Rattle.tally.specs.Tallies.{beforeTable, laterTable, unprecededTable, unansweredTable, unchainedTable, unalternatedTable, followedTable}
 use Rattle.tally.specs.Tallies.{tallied}
-use Rattle.miner.specs.Facts.{letIn, beforeFirst, missed}
+use Rattle.miner.specs.Facts.{letIn, reopened, doubted, beforeFirst, missed}
 
 -- conditions and chains by target, responses by source (steps 2 and 3)
 abbrev pub conditionsOf : Set → List ℕ → List ℕ
@@ -55,9 +56,22 @@ abbrev pub excludesSix : Profile → Set → List ℕ → List ℕ
 excludesSix Full events tally = rowsFor events (inEither (fiveOf events tally) (neverOf events tally))
 excludesSix Light events tally = fiveOf events tally
 
--- the excludes after step 7
-abbrev pub sevenFrom : Set → List ℕ → List ℕ → List ℕ
-sevenFrom events tally six = rowsFor events (notRedundant events six (tableAt tally unalternatedTable))
+-- row u: the events that u alternately precedes (step 7)
+abbrev pub followersOf : Set → List ℕ → List ℕ
+followersOf events tally = rowsOf (turned (rowsFor events (absent events (tableAt tally unalternatedTable))))
+
+-- u makes "s excludes x" redundant: u excludes x and does not include it, alternately precedes s, and nothing lets x in between them. The log
+-- is asked that only where it is in doubt
+unfoldable pub redundantBy : List ℕ → List ℕ → List ℕ → List ℕ → Traces → ℕ → Relation
+redundantBy tally followers includes excludes L u s x =
+    inRow excludes u x and non (inRow includes u x) and inRow followers u s
+    and non (doubted (tableAt tally beforeTable) includes (rowAt (tableAt tally laterTable) u) s x and reopened includes u L s x)
+
+-- the excludes after step 7, from the includes and excludes that it begins with
+abbrev pub sevenFrom : Set → List ℕ → List ℕ → List ℕ → Traces → List ℕ
+sevenFrom events tally includes excludes L =
+    rowsOf (λ s x. inRow excludes s x
+    and non (someBelow width (λ u. mem events u and redundantBy tally (followersOf events tally) includes excludes L u s x)))
 
 -- the conditions of steps 9 and 10, from those after step 8
 abbrev pub waitedOf : Set → List ℕ → List ℕ → List ℕ → Traces → List ℕ
@@ -76,10 +90,10 @@ fourTables c r i x = withTable (withTable (withTable (withTable (noTables relati
 abbrev pub tablesAfterSix : Traces → Set → List ℕ → List ℕ → List ℕ → List ℕ
 tablesAfterSix L events tally includes six =
     fourTables
-    (waitedOf events (rowsFor events (reducedOf (conditionsOf events tally))) includes (sevenFrom events tally six) L)
+    (waitedOf events (rowsFor events (reducedOf (conditionsOf events tally))) includes (sevenFrom events tally includes six L) L)
     (rowsFor events (reducedOf (responsesOf events tally)))
     includes
-    (sevenFrom events tally six)
+    (sevenFrom events tally includes six L)
 
 abbrev pub tablesRead : Traces → Set → List ℕ → Profile → List ℕ
 tablesRead L events tally p = tablesAfterSix L events tally (includesSix p events tally L) (excludesSix p events tally)

@@ -1,11 +1,11 @@
-// The excludes of steps 1 to 7, put into the tables that are lent: a stage takes its rows from there and leaves its own, so no stage holds
+// The excludes of steps 1 to 6, put into the tables that are lent: a stage takes its rows from there and leaves its own, so no stage holds
 // another's.
 ghost use mathlib.Core.Path.{_≡_};
 ghost use Rattle.sets.specs.Rows.{noRows, rowsOf, rowsFor, turned};
 ghost use Rattle.sets.specs.Tables.{tableAt, withTable};
 ghost use Rattle.steps.specs.Rowwise.{excluders, inEither};
 ghost use Rattle.tally.specs.Tallies.{beforeTable, laterTable};
-ghost use Rattle.miner.specs.Stages.{chainsOf, sevenFrom};
+ghost use Rattle.miner.specs.Stages.{chainsOf};
 use engine::Relations;
 use engine::graph::EXCLUDES;
 use engine::graph::RESPONSES;
@@ -52,14 +52,4 @@ pub fn put_six(events: Set, out: &mut Relations)
     let never = tables::taken(out, RESPONSES);
     let six = relations::united(events, &five, &never);
     tables::put_rows(out, EXCLUDES, &six);
-}
-
-// Step 7: those that are not redundant.
-pub fn put_seven(events: Set, tally: &Tally, out: &mut Relations)
-    ensures { λ _. ⌜ now (out .exit) ≡ withTable (now (out .entry)) 3
-        (sevenFrom events (now (tally .entry)) (withTable noRows 0 (tableAt (now (out .entry)) 3))) ⌝ }
-{
-    let six = tables::taken(out, EXCLUDES);
-    let seven = relations::not_redundant(events, &six, tally, log::UNALTERNATED);
-    tables::put_rows(out, EXCLUDES, &seven);
 }

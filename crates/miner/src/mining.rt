@@ -18,6 +18,7 @@ ghost use Rattle.miner.specs.Mine.{minedOf};
 use crate::conditions;
 use crate::excludes;
 use crate::includes;
+use crate::redundant;
 use engine::Graph;
 use engine::Head;
 use engine::Relations;
@@ -106,13 +107,14 @@ fn put_eight<'a>(
         (rowsFor events (reducedOf (conditionsOf events (now (tally .entry)))))
         (rowsFor events (reducedOf (responsesOf events (now (tally .entry)))))
         (includesSix profile events (now (tally .entry)) (walked (now (bytes .entry)) traces 0))
-        (sevenFrom events (now (tally .entry)) (excludesSix profile events (now (tally .entry))))) ⌝ }
+        (sevenFrom events (now (tally .entry)) (includesSix profile events (now (tally .entry)) (walked (now (bytes .entry)) traces 0))
+        (excludesSix profile events (now (tally .entry))) (walked (now (bytes .entry)) traces 0))) ⌝ }
 {
     includes::put_three(events, tally, out);
     excludes::put_excluded(events, tally, out);
     excludes::turn(out);
     put_six(bytes, traces, events, tally, profile, out);
-    excludes::put_seven(events, tally, out);
+    redundant::put_seven(bytes, traces, events, tally, out);
     conditions::put_eight(events, tally, out);
     put_responses(events, tally, out);
 }
@@ -124,8 +126,9 @@ fn tables_eight(bytes: &[u8], traces: usize, profile: Profile, out: &mut Relatio
         (rowsFor r (reducedOf (conditionsOf r (tallied (walked (now (bytes .entry)) traces 0)))))
         (rowsFor r (reducedOf (responsesOf r (tallied (walked (now (bytes .entry)) traces 0)))))
         (includesSix profile r (tallied (walked (now (bytes .entry)) traces 0)) (walked (now (bytes .entry)) traces 0))
-        (sevenFrom r (tallied (walked (now (bytes .entry)) traces 0)) (excludesSix profile r (tallied (walked (now (bytes .entry)) traces 0)))))
-        ⌝ }
+        (sevenFrom r (tallied (walked (now (bytes .entry)) traces 0))
+        (includesSix profile r (tallied (walked (now (bytes .entry)) traces 0)) (walked (now (bytes .entry)) traces 0))
+        (excludesSix profile r (tallied (walked (now (bytes .entry)) traces 0))) (walked (now (bytes .entry)) traces 0))) ⌝ }
 {
     let mut tally = log::empty();
     let events = log::note_traces(bytes, traces, &mut tally);

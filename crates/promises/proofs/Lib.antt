@@ -17,3 +17,4 @@ pub mod Desk
 pub mod Enabled
 pub mod Finish
 pub mod ShutOut
+pub mod NotRedundant

@@ -84,7 +84,7 @@ use Rattle.steps.proofs.relations.unbroken.Reads as unbroken
 use Rattle.steps.proofs.relations.excluded_by.Reads as excluded-by
 use Rattle.steps.proofs.relations.absent.Reads as absent
 use Rattle.steps.proofs.relations.united.Reads as united
-use Rattle.steps.proofs.relations.not_redundant.Reads as not-redundant
+use Rattle.steps.proofs.relations.union_of.Reads as union-of
 use Rattle.steps.proofs.relations.waited.Reads as waited
 use Rattle.steps.proofs.reduce.reduced.Reads as reduced
 use Rattle.tally.proofs.log.empty.Reads as log-empty
@@ -413,8 +413,8 @@ absent-once κ a r r′ s s′ h h′ = h ∙ sym h′
 pub united-once : Once united.Post
 united-once κ a r r′ s s′ h h′ = h ∙ sym h′
 
-pub not-redundant-once : Once not-redundant.Post
-not-redundant-once κ a r r′ s s′ h h′ = h ∙ sym h′
+pub union-of-once : Once union-of.Post
+union-of-once κ a r r′ s s′ h h′ = h ∙ sym h′
 
 pub waited-once : Once waited.Post
 waited-once κ a r r′ s s′ h h′ = h ∙ sym h′

@@ -30,7 +30,7 @@ use Rattle.engine.proofs.Examples.{table3, examples}
 use Rattle.calllog.specs.Logs.{Log}
 use Rattle.calllog.proofs.Examples.{logL, tracesL, reads-L}
 use Rattle.rules.specs.Traces.{_has_, _beginsWith_, atEachFrom, atSomeFrom, everyTrace, someTrace}
-use Rattle.rules.specs.Mining.{noPair, noRelations, smallestSource, _without_, event, someEvent, _with_, atMostOnce, precedes, answers, chained, together, before, followed, between, alternates, beforeFirst, step1, step2, directlyBefore, step3, neverTogether, step4, closes, step5, step6, step7, reduced, step8, includedAfter, neverMissed, step9, step10, afterFive, afterSix, afterSeven, afterEight, mined}
+use Rattle.rules.specs.Mining.{noPair, noRelations, smallestSource, _without_, event, someEvent, _with_, atMostOnce, precedes, answers, chained, together, before, followed, between, alternates, beforeFirst, step1, step2, directlyBefore, step3, neverTogether, step4, closes, step5, step6, letInBetween, makesRedundant, step7, reduced, step8, includedAfter, neverMissed, step9, step10, afterFive, afterSix, afterSeven, afterEight, mined}
 use Rattle.rules.specs.declared.Profile.the-variants.{Full}
 use Rattle.rules.specs.Mined.{graphFrom, minedGraph}
 use Rattle.rules.proofs.Cases.{G, judged-G}
@@ -46,7 +46,7 @@ unfolding tracesL G
     _and_ _or_ non bit mem those bitsOf someBelow listFrom rowsOf tablesOf
     _has_ _beginsWith_ atEachFrom atSomeFrom everyTrace someTrace
     noPair noRelations smallestSource _without_ event someEvent _with_ atMostOnce precedes answers chained together before followed between alternates beforeFirst
-    step1 step2 directlyBefore step3 neverTogether step4 closes step5 step6 step7 reduced step8 includedAfter neverMissed step9 step10
+    step1 step2 directlyBefore step3 neverTogether step4 closes step5 step6 letInBetween makesRedundant step7 reduced step8 includedAfter neverMissed step9 step10
     afterFive afterSix afterSeven afterEight mined graphFrom minedGraph
 graph-L = refl
 

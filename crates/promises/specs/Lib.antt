@@ -1,3 +1,4 @@
 pub mod Promised
 pub mod Demanded
 pub mod Counted
+pub mod Redundant

@@ -20,7 +20,7 @@ use Rattle.calllog.specs.Logs.{tracesFrom, logOf}
 use Rattle.rules.specs.Traces.{_has_, _beginsWith_, atEachFrom, atSomeFrom, everyTrace, someTrace}
 use Rattle.rules.specs.Mining.{noPair, noRelations, smallestSource, _without_, event, someEvent, _with_, atMostOnce, precedes, answers}
 use Rattle.rules.specs.Mining.{chained, together, before, followed, between, alternates, beforeFirst, step1, step2, directlyBefore, step3}
-use Rattle.rules.specs.Mining.{neverTogether, step4, closes, step5, step6, step7, reduced, step8, includedAfter, neverMissed, step9}
+use Rattle.rules.specs.Mining.{neverTogether, step4, closes, step5, step6, letInBetween, makesRedundant, step7, reduced, step8, includedAfter, neverMissed, step9}
 use Rattle.rules.specs.Mining.{step10, afterFive, afterSix, afterSeven, afterEight, mined}
 use Rattle.rules.specs.declared.Profile.{Profile}
 use Rattle.rules.specs.declared.Profile.the-variants.{Full, Light}
@@ -88,7 +88,7 @@ unfolding L G lightG
     _and_ _or_ non bit mem those bitsOf someBelow everyBelow listFrom rowsOf tablesOf
     _has_ _beginsWith_ atEachFrom atSomeFrom everyTrace someTrace
     noPair noRelations smallestSource _without_ event someEvent _with_ atMostOnce precedes answers chained together before followed between alternates beforeFirst
-    step1 step2 directlyBefore step3 neverTogether step4 closes step5 step6 step7 reduced step8 includedAfter neverMissed step9 step10
+    step1 step2 directlyBefore step3 neverTogether step4 closes step5 step6 letInBetween makesRedundant step7 reduced step8 includedAfter neverMissed step9 step10
     afterFive afterSix afterSeven afterEight mined graphFrom minedGraph
 graphs = (refl, refl)
 

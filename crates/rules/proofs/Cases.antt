@@ -1,5 +1,5 @@
--- The cases of 01, "Calls to try", that are marked (P), with the blockers of 02, 2/12, and the light graph of L (02, 3/12): one table, computed by
--- antt.
+-- The cases of 01, "Calls to try", that are marked (P), with the blockers of 02, 2/12, the light graph of L (02, 3/12), and where the step 7 of
+-- 02, 7/12, gives more than that of 01: one table, computed by antt.
 use lib.Dec.{ltb, lit≤}
 use mathlib.Core.Path.{ap}
 use Prim.Native.Nat.{_≤_}
@@ -32,7 +32,7 @@ use Rattle.calllog.specs.Judged.{allBelow, judgedHead, judgedEntry, judgedBodie
 use Rattle.calllog.specs.Logs.{tracesFrom, logOf}
 use Rattle.rules.specs.declared.Profile.the-variants.{Full, Light}
 use Rattle.rules.specs.Traces.{Traces, _has_, _beginsWith_, atEachFrom, atSomeFrom, everyTrace, someTrace}
-use Rattle.rules.specs.Mining.{noPair, noRelations, smallestSource, _without_, event, someEvent, _with_, atMostOnce, precedes, answers, chained, together, before, followed, between, alternates, beforeFirst, step1, step2, directlyBefore, step3, neverTogether, step4, closes, step5, step6, step7, reduced, step8, includedAfter, neverMissed, step9, step10, afterFive, afterSix, afterSeven, afterEight, mined}
+use Rattle.rules.specs.Mining.{noPair, noRelations, smallestSource, _without_, event, someEvent, _with_, atMostOnce, precedes, answers, chained, together, before, followed, between, alternates, beforeFirst, step1, step2, directlyBefore, step3, neverTogether, step4, closes, step5, step6, letInBetween, makesRedundant, step7, reduced, step8, includedAfter, neverMissed, step9, step10, afterFive, afterSix, afterSeven, afterEight, mined}
 use Rattle.rules.specs.Mined.{graphFrom, minedGraph}
 use Rattle.rules.proofs.Listed.{Pair, _to_, listed, rows, Case, _gives_, reading, mining, replaying, stepping, log, graph, ended, stepped, end, step, asked, wanted}
 
@@ -52,17 +52,24 @@ listing excludes =
     (0 to 1 ∷ [])
     excludes
 
--- the same in numbers: each set, and each row of a relation from row 0, as the number that the graph file holds
-abbrev inNumbers : List ℕ → Graph
-inNumbers excludes =
-    graphAt 3 (those (λ a. ltb a 3)) (openingOf (those (λ a. ltb a 3)))
-    (rows (0 ∷ 1 ∷ 1 ∷ []) ++ (rows (4 ∷ 4 ∷ []) ++ (rows (2 ∷ []) ++ rows excludes)))
+-- a graph in numbers: A, all below it events, and for each relation its rows from row 0, each as the number that the graph file holds
+abbrev inNumbers : ℕ → List ℕ → List ℕ → List ℕ → List ℕ → Graph
+inNumbers A c r i e =
+    graphAt A (those (λ a. ltb a A)) (openingOf (those (λ a. ltb a A))) (rows c ++ (rows r ++ (rows i ++ rows e)))
 
 unfoldable pub G : Graph
-G = inNumbers (1 ∷ 2 ∷ 6 ∷ [])
+G = inNumbers 3 (0 ∷ 1 ∷ 1 ∷ []) (4 ∷ 4 ∷ []) (2 ∷ []) (1 ∷ 2 ∷ 6 ∷ [])
 
 unfoldable pub lightG : Graph
-lightG = inNumbers (1 ∷ 2 ∷ 4 ∷ [])
+lightG = inNumbers 3 (0 ∷ 1 ∷ 1 ∷ []) (4 ∷ 4 ∷ []) (2 ∷ []) (1 ∷ 2 ∷ 4 ∷ [])
+
+-- the trainers' story (02, 7/12): 0 is Draft, 1 Check, 2 Amend, 3 Seal. No call has Amend after Seal. Draft excludes Amend and Check lets it in
+-- again, so Draft does not make "Seal excludes Amend" redundant
+unfoldable pub story : Traces
+story = (0 ∷ 1 ∷ 2 ∷ 3 ∷ []) ∷ (0 ∷ 1 ∷ 3 ∷ []) ∷ []
+
+unfoldable pub storyG : Graph
+storyG = inNumbers 4 (0 ∷ 1 ∷ 2 ∷ 2 ∷ []) (2 ∷ 8 ∷ 8 ∷ []) (2 ∷ 12 ∷ 8 ∷ []) (13 ∷ 2 ∷ 4 ∷ 12 ∷ [])
 
 part0 : List Case
 part0 =
@@ -121,8 +128,27 @@ part9 =
     mining 3 L Light gives graph (listing (0 to 0 ∷ 1 to 1 ∷ 2 to 2 ∷ []))
     ∷ []
 
+-- 02, 7/12: the shortest log on which the step 7 of 01 gave less: 2 to 2 is new
+part10 : List Case
+part10 =
+    mining 3 ((0 ∷ 1 ∷ 2 ∷ []) ∷ []) Full gives graph
+    (listed 3 (0 ∷ 1 ∷ 2 ∷ []) (0 to 1 ∷ 1 to 2 ∷ []) (0 to 1 ∷ 1 to 2 ∷ []) (0 to 1 ∷ 1 to 2 ∷ []) (0 to 0 ∷ 0 to 2 ∷ 1 to 1 ∷ 2 to 2 ∷ []))
+    ∷ []
+
+-- the trainers' story: its graph, and Amend after Seal
+part11 : List Case
+part11 =
+    mining 4 story Full gives graph storyG
+    ∷ []
+
+part12 : List Case
+part12 =
+    replaying storyG (0 ∷ 1 ∷ 3 ∷ 2 ∷ []) gives ended 9 255 3 false
+    ∷ replaying storyG (0 ∷ 1 ∷ 3 ∷ []) gives ended 0 255 3 true
+    ∷ []
+
 pub table : List Case
-table = part0 ++ part1 ++ part2 ++ part3 ++ part4 ++ part5 ++ part6 ++ part7 ++ part8 ++ part9
+table = part0 ++ part1 ++ part2 ++ part3 ++ part4 ++ part5 ++ part6 ++ part7 ++ part8 ++ part9 ++ part10 ++ part11 ++ part12
 
 same0 : map asked part0 ≡ map wanted part0
 unfolding part0 file L listing G
@@ -132,7 +158,7 @@ unfolding part0 file L listing G
     firstRefusal allBelow judgedHead judgedEntry judgedBodies judgedContents judgedLog tracesFrom logOf
     _has_ _beginsWith_ atEachFrom atSomeFrom everyTrace someTrace
     noPair noRelations smallestSource _without_ event someEvent _with_ atMostOnce precedes answers chained together before followed between alternates beforeFirst
-    step1 step2 directlyBefore step3 neverTogether step4 closes step5 step6 step7 reduced step8 includedAfter neverMissed step9 step10
+    step1 step2 directlyBefore step3 neverTogether step4 closes step5 step6 letInBetween makesRedundant step7 reduced step8 includedAfter neverMissed step9 step10
     afterFive afterSix afterSeven afterEight mined graphFrom minedGraph
 same0 = refl
 
@@ -144,7 +170,7 @@ unfolding part1 file L listing G
     firstRefusal allBelow judgedHead judgedEntry judgedBodies judgedContents judgedLog tracesFrom logOf
     _has_ _beginsWith_ atEachFrom atSomeFrom everyTrace someTrace
     noPair noRelations smallestSource _without_ event someEvent _with_ atMostOnce precedes answers chained together before followed between alternates beforeFirst
-    step1 step2 directlyBefore step3 neverTogether step4 closes step5 step6 step7 reduced step8 includedAfter neverMissed step9 step10
+    step1 step2 directlyBefore step3 neverTogether step4 closes step5 step6 letInBetween makesRedundant step7 reduced step8 includedAfter neverMissed step9 step10
     afterFive afterSix afterSeven afterEight mined graphFrom minedGraph
 same1 = refl
 
@@ -156,7 +182,7 @@ unfolding part2 file L listing G
     firstRefusal allBelow judgedHead judgedEntry judgedBodies judgedContents judgedLog tracesFrom logOf
     _has_ _beginsWith_ atEachFrom atSomeFrom everyTrace someTrace
     noPair noRelations smallestSource _without_ event someEvent _with_ atMostOnce precedes answers chained together before followed between alternates beforeFirst
-    step1 step2 directlyBefore step3 neverTogether step4 closes step5 step6 step7 reduced step8 includedAfter neverMissed step9 step10
+    step1 step2 directlyBefore step3 neverTogether step4 closes step5 step6 letInBetween makesRedundant step7 reduced step8 includedAfter neverMissed step9 step10
     afterFive afterSix afterSeven afterEight mined graphFrom minedGraph
 same2 = refl
 
@@ -183,7 +209,7 @@ unfolding part5 file L listing G
     firstRefusal allBelow judgedHead judgedEntry judgedBodies judgedContents judgedLog tracesFrom logOf
     _has_ _beginsWith_ atEachFrom atSomeFrom everyTrace someTrace
     noPair noRelations smallestSource _without_ event someEvent _with_ atMostOnce precedes answers chained together before followed between alternates beforeFirst
-    step1 step2 directlyBefore step3 neverTogether step4 closes step5 step6 step7 reduced step8 includedAfter neverMissed step9 step10
+    step1 step2 directlyBefore step3 neverTogether step4 closes step5 step6 letInBetween makesRedundant step7 reduced step8 includedAfter neverMissed step9 step10
     afterFive afterSix afterSeven afterEight mined graphFrom minedGraph
 same5 = refl
 
@@ -195,7 +221,7 @@ unfolding part6 file L listing G
     firstRefusal allBelow judgedHead judgedEntry judgedBodies judgedContents judgedLog tracesFrom logOf
     _has_ _beginsWith_ atEachFrom atSomeFrom everyTrace someTrace
     noPair noRelations smallestSource _without_ event someEvent _with_ atMostOnce precedes answers chained together before followed between alternates beforeFirst
-    step1 step2 directlyBefore step3 neverTogether step4 closes step5 step6 step7 reduced step8 includedAfter neverMissed step9 step10
+    step1 step2 directlyBefore step3 neverTogether step4 closes step5 step6 letInBetween makesRedundant step7 reduced step8 includedAfter neverMissed step9 step10
     afterFive afterSix afterSeven afterEight mined graphFrom minedGraph
 same6 = refl
 
@@ -207,7 +233,7 @@ unfolding part7 file L listing G
     firstRefusal allBelow judgedHead judgedEntry judgedBodies judgedContents judgedLog tracesFrom logOf
     _has_ _beginsWith_ atEachFrom atSomeFrom everyTrace someTrace
     noPair noRelations smallestSource _without_ event someEvent _with_ atMostOnce precedes answers chained together before followed between alternates beforeFirst
-    step1 step2 directlyBefore step3 neverTogether step4 closes step5 step6 step7 reduced step8 includedAfter neverMissed step9 step10
+    step1 step2 directlyBefore step3 neverTogether step4 closes step5 step6 letInBetween makesRedundant step7 reduced step8 includedAfter neverMissed step9 step10
     afterFive afterSix afterSeven afterEight mined graphFrom minedGraph
 same7 = refl
 
@@ -223,11 +249,48 @@ unfolding part9 file L listing G
     firstRefusal allBelow judgedHead judgedEntry judgedBodies judgedContents judgedLog tracesFrom logOf
     _has_ _beginsWith_ atEachFrom atSomeFrom everyTrace someTrace
     noPair noRelations smallestSource _without_ event someEvent _with_ atMostOnce precedes answers chained together before followed between alternates beforeFirst
-    step1 step2 directlyBefore step3 neverTogether step4 closes step5 step6 step7 reduced step8 includedAfter neverMissed step9 step10
+    step1 step2 directlyBefore step3 neverTogether step4 closes step5 step6 letInBetween makesRedundant step7 reduced step8 includedAfter neverMissed step9 step10
     afterFive afterSix afterSeven afterEight mined graphFrom minedGraph
 same9 = refl
 
+same10 : map asked part10 ≡ map wanted part10
+unfolding part10 file L listing G
+    _and_ _or_ non bit mem those bitsOf someBelow leastBelow everyBelow isEmpty within rowAt tableAt withRowIn inRow listFrom rowsOf tablesOf
+    waits blocker enabled after accepting stateWithin rowWithin rowsWithin relationsWithin graphWithin judgedFor judgedWith enabledOf steppedOf replayFrom replayOf
+    opensWith valueOf numberAt activitiesIn tracesIn offsetAt lengthAt bodiesStart eventsBefore
+    firstRefusal allBelow judgedHead judgedEntry judgedBodies judgedContents judgedLog tracesFrom logOf
+    _has_ _beginsWith_ atEachFrom atSomeFrom everyTrace someTrace
+    noPair noRelations smallestSource _without_ event someEvent _with_ atMostOnce precedes answers chained together before followed between alternates beforeFirst
+    step1 step2 directlyBefore step3 neverTogether step4 closes step5 step6 letInBetween makesRedundant step7 reduced step8 includedAfter neverMissed step9 step10
+    afterFive afterSix afterSeven afterEight mined graphFrom minedGraph
+same10 = refl
+
+same11 : map asked part11 ≡ map wanted part11
+unfolding part11 story storyG
+    _and_ _or_ non bit mem those bitsOf someBelow leastBelow everyBelow isEmpty within rowAt tableAt withRowIn inRow listFrom rowsOf tablesOf
+    waits blocker enabled after accepting stateWithin rowWithin rowsWithin relationsWithin graphWithin judgedFor judgedWith enabledOf steppedOf replayFrom replayOf
+    opensWith valueOf numberAt activitiesIn tracesIn offsetAt lengthAt bodiesStart eventsBefore
+    firstRefusal allBelow judgedHead judgedEntry judgedBodies judgedContents judgedLog tracesFrom logOf
+    _has_ _beginsWith_ atEachFrom atSomeFrom everyTrace someTrace
+    noPair noRelations smallestSource _without_ event someEvent _with_ atMostOnce precedes answers chained together before followed between alternates beforeFirst
+    step1 step2 directlyBefore step3 neverTogether step4 closes step5 step6 letInBetween makesRedundant step7 reduced step8 includedAfter neverMissed step9 step10
+    afterFive afterSix afterSeven afterEight mined graphFrom minedGraph
+same11 = refl
+
+judged-story : judged storyG ≡ Done
+unfolding storyG graphWithin relationsWithin rowsWithin rowWithin stateWithin within isEmpty everyBelow bitsOf bit mem those _and_ _or_ non rowAt tableAt listFrom
+judged-story = judged-at (storyG .head .activities) (storyG .head .events) (storyG .head .opening .state) (storyG .relations) refl refl
+
+on-story : (σ : List ℕ) → length σ ≤ longestTrace
+    → end (replayOf storyG σ) ≡ end (replayFrom (storyG .head .events) (relationsOf storyG) (storyG .head .opening .state) 0 σ)
+on-story σ l = ap end (replay-judged storyG judged-story σ l)
+
+same12 : map asked part12 ≡ map wanted part12
+unfolding part12 replayFrom enabled waits blocker after accepting someBelow leastBelow bitsOf bit mem those _and_ _or_ non rowAt tableAt withRowIn inRow storyG listFrom
+same12 = λ i. on-story (0 ∷ 1 ∷ 3 ∷ 2 ∷ []) (lit≤ tt) i ∷ on-story (0 ∷ 1 ∷ 3 ∷ []) (lit≤ tt) i ∷ []
+
 -- THE THEOREM
 pub cases : map asked table ≡ map wanted table
-unfolding table part0 part1 part2 part3 part4 part5 part6 part7 part8 part9
+unfolding table part0 part1 part2 part3 part4 part5 part6 part7 part8 part9 part10 part11 part12
 cases = λ i. same0 i ++ same1 i ++ same2 i ++ same3 i ++ same4 i ++ same5 i ++ same6 i ++ same7 i ++ same8 i ++ same9 i
+    ++ same10 i ++ same11 i ++ same12 i

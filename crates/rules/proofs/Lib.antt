@@ -9,3 +9,4 @@ pub mod Cases
 pub mod Readings
 pub mod Slips
 pub mod FromFile
+pub mod Story

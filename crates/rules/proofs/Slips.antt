@@ -14,7 +14,7 @@ use Rattle.engine.specs.Steps.{waits, blocker, enabled, after, accepting}
 use Rattle.engine.specs.Replay.{replayFrom}
 use Rattle.rules.specs.declared.Profile.the-variants.{Full}
 use Rattle.rules.specs.Traces.{Traces, _has_, _beginsWith_, atEachFrom, atEach, atSomeFrom, everyTrace, someTrace}
-use Rattle.rules.specs.Mining.{noPair, noRelations, smallestSource, _without_, event, someEvent, _with_, atMostOnce, precedes, answers, chained, together, before, followed, between, alternates, beforeFirst, step1, step2, directlyBefore, step3, neverTogether, step4, closes, step5, step6, step7, reduced, step8, includedAfter, neverMissed, step9, step10, afterFive, afterSix, afterSeven, afterEight, mined}
+use Rattle.rules.specs.Mining.{noPair, noRelations, smallestSource, _without_, event, someEvent, _with_, atMostOnce, precedes, answers, chained, together, before, followed, between, alternates, beforeFirst, step1, step2, directlyBefore, step3, neverTogether, step4, closes, step5, step6, letInBetween, makesRedundant, step7, reduced, step8, includedAfter, neverMissed, step9, step10, afterFive, afterSix, afterSeven, afterEight, mined}
 use Rattle.rules.proofs.Listed.{Pair, _to_, oneOf, pairs, Given, ended, end, Claim, _are_, found, meant}
 use Rattle.rules.proofs.Cases.{L}
 
@@ -92,6 +92,6 @@ unfolding slips refusals L again line printed33 excludedEarlier minedBy replayBy
     _and_ _or_ non bit mem those bitsOf someBelow leastBelow listFrom waits blocker enabled after accepting replayFrom
     _has_ _beginsWith_ atEachFrom atSomeFrom everyTrace someTrace
     noPair noRelations smallestSource _without_ event someEvent _with_ atMostOnce precedes answers chained together before followed between alternates beforeFirst
-    step1 step2 directlyBefore step3 neverTogether step4 closes step5 step6 step7 reduced step8 includedAfter neverMissed step9 step10
+    step1 step2 directlyBefore step3 neverTogether step4 closes step5 step6 letInBetween makesRedundant step7 reduced step8 includedAfter neverMissed step9 step10
     afterFive afterSix afterSeven afterEight mined
 slipped = (refl, refl)

@@ -159,14 +159,22 @@ module _ (L : Traces) where
         excludes = g .excludes with (λ s t. non (followed s t));
       }
 
-  -- 7. An exclusion goes where some u (it may be t) excludes the same target and alternately precedes the source.
+  -- 7. An exclusion goes where some u (it may be t) excludes the same target and alternately precedes the source; and only if, by 02, 7/12,
+  -- u does not include t and no v that includes t stands between a u and a later s in any trace (v may be u or s). The includes are
+  -- those that stand when the step begins. One u must pass all of it.
+  unfoldable pub letInBetween : Relations → ℕ → Relation
+  letInBetween g u s t = someEvent (λ v. between u v s and g .includes v t)
+
+  unfoldable pub makesRedundant : Relations → ℕ → Relation
+  makesRedundant g u s t = g .excludes u t and alternates u s and non (g .includes u t) and non (letInBetween g u s t)
+
   unfoldable pub step7 : Relations → Relations
   step7 g =
       record {
         conditions = g .conditions;
         responses = g .responses;
         includes = g .includes;
-        excludes = g .excludes without (λ s t. someEvent (λ u. g .excludes u t and alternates u s));
+        excludes = g .excludes without (λ s t. someEvent (λ u. makesRedundant g u s t));
       }
 
   -- 8. In conditions and in responses, a pair goes where some u has the source to u and u to the target.

@@ -45,11 +45,6 @@ excluders events before later chains t s =
 unfoldable pub inEither : List ℕ → List ℕ → Relation
 inEither rows others a x = inRow rows a x or inRow others a x
 
--- step 7: a pair of a goes where some event u has the same target and does not stand in a's row of what does not alternate with it
-unfoldable pub notRedundant : Set → List ℕ → List ℕ → Relation
-notRedundant events excludes unalternated a x =
-    inRow excludes a x and non (someBelow width (λ u. mem events u and inRow excludes u x and non (inRow unalternated a u)))
-
 -- steps 8 and 10: a pair goes where some u leads from a to x
 unfoldable pub reducedOf : List ℕ → Relation
 reducedOf rows a x = inRow rows a x and non (someBelow width (λ u. inRow rows a u and inRow rows u x))

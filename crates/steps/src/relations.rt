@@ -6,8 +6,7 @@ ghost use Rattle.sets.specs.Tests.{_and_, non};
 ghost use Rattle.sets.specs.Members.{width, mem, those, someBelow, leastBelow};
 ghost use Rattle.sets.specs.Rows.{rowAt, inRow, rowsFor};
 ghost use Rattle.sets.specs.Tables.{tableAt};
-ghost use Rattle.steps.specs.Rowwise.{unbroken, absent, excludesItself, smallest, apart, closing, excluders, inEither, notRedundant};
-ghost use Rattle.steps.specs.Rowwise.{waited};
+ghost use Rattle.steps.specs.Rowwise.{unbroken, absent, excludesItself, smallest, apart, closing, excluders, inEither, waited};
 use sets::Activity;
 use sets::Rows;
 use sets::Set;
@@ -117,7 +116,7 @@ pub fn excluded_by<'a>(
     out
 }
 
-// ---- steps 6 and 7
+// ---- step 6
 
 fn absent_row(events: Set, tables: &[u64], there: u8, a: Activity) -> Set
     ensures { λ r. ⌜ r ≡ those (absent events (tableAt (now (tables .entry)) there) (a .0)) ⌝ }
@@ -159,54 +158,24 @@ pub fn united<'a>(events: Set, rows: &'a Rows, others: &'a Rows) -> Rows
     out
 }
 
-// The row of a set's least member.
-fn least_row(rows: &Rows, s: Set) -> Set
-    ensures { λ r. ⌜ r ≡ rowAt (now (rows .entry)) (leastBelow width (mem s)) ⌝ }
+// ---- of some rows
+
+// A table's row of a set's least member.
+fn least_row(tables: &[u64], table: u8, s: Set) -> Set
+    ensures { λ r. ⌜ r ≡ rowAt (tableAt (now (tables .entry)) table) (leastBelow width (mem s)) ⌝ }
 {
-    rows::row(rows, s.least())
+    tables::row(tables, table, s.least())
 }
 
-// What stands in the row of some member.
-fn union_of(rows: &Rows, members: Set) -> Set
-    ensures { λ r. ⌜ r ≡ those (λ x. someBelow width (λ u. mem members u and inRow (now (rows .entry)) u x)) ⌝ }
+// What stands in a table's row of some member.
+pub fn union_of(tables: &[u64], table: u8, members: Set) -> Set
+    ensures { λ r. ⌜ r ≡ those (λ x. someBelow width (λ u. mem members u and inRow (tableAt (now (tables .entry)) table) u x)) ⌝ }
 {
     let mut out = Set::EMPTY;
     let mut rest = members;
     while !rest.is_empty() {
-        out = out.union(least_row(rows, rest));
+        out = out.union(least_row(tables, table, rest));
         rest = rest.without_least();
-    }
-    out
-}
-
-fn not_redundant_row<'a>(
-    events: Set,
-    excludes: &'a Rows,
-    tables: &'a [u64],
-    unalternated: u8,
-    a: Activity,
-) -> Set
-    ensures { λ r. ⌜ r ≡ those (notRedundant events (now (excludes .entry)) (tableAt (now (tables .entry)) unalternated) (a .0)) ⌝ }
-{
-    let alternating = events.difference(tables::row(tables, unalternated, a));
-    rows::row(excludes, a).difference(union_of(excludes, alternating))
-}
-
-// The pairs that no event before the source makes redundant.
-pub fn not_redundant<'a>(
-    events: Set,
-    excludes: &'a Rows,
-    tables: &'a [u64],
-    unalternated: u8,
-) -> Rows
-    ensures { λ r. ⌜ r ≡ rowsFor events (notRedundant events (now (excludes .entry)) (tableAt (now (tables .entry)) unalternated)) ⌝ }
-{
-    let mut out = rows::empty();
-    let mut a = events.least();
-    while a.0 < Activity::LIMIT {
-        let row = not_redundant_row(events, excludes, tables, unalternated, a);
-        rows::put(&mut out, a, row);
-        a = events.next(a);
     }
     out
 }

@@ -1,15 +1,16 @@
 use mathlib.Core.Path.{_≡_}
 use borrow.Author.Needs.{needs}
 use Rattle.sets.specs.Members.{width, mem, those, countBelow}
+use Rattle.sets.specs.Tables.{tableAt}
 use Rattle.sets.proofs.Passing.{Part, inSome, passed, union-turn, union-end, members}
 use Rattle.steps.proofs.relations.union_of.Statement.{statement}
 use Rattle.steps.proofs.relations.union_of.Tie as tie
 
 abbrev Inv-loop : tie.InvT-loop
-Inv-loop rows out₀ rest₀ out rest = (Part rest₀ rest) × (out ≡ those (inSome rows (passed rest₀ rest)))
+Inv-loop tables table out₀ rest₀ out rest = (Part rest₀ rest) × (out ≡ those (inSome (tableAt tables table) (passed rest₀ rest)))
 
 abbrev μ-loop : tie.MeasureT-loop
-μ-loop rows out₀ rest₀ out rest = countBelow width (mem rest)
+μ-loop tables table out₀ rest₀ out rest = countBelow width (mem rest)
 
 loop-again : tie.Need-loop-again Inv-loop μ-loop
 loop-again c =

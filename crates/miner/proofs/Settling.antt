@@ -1,0 +1,187 @@
+-- What one u makes redundant, from what the calls of a stage of step 7 ensure. Assumes nothing.
+use mathlib.Core.Path.{_≡_, refl, sym, ap, ap₂, _∙_, subst}
+use mathlib.Core.Bool.{Bool, true, false, not}
+use mathlib.Core.List.{List}
+use Prim.Native.Nat.{ℕ, _<_}
+use borrow.Author.Tests.{eq-eqb, ne-eqb, not-false}
+use lib.Dec.{T, eqb}
+use Rattle.sets.specs.Tests.{_and_, _or_, non}
+use Rattle.sets.specs.Members.{width, mem, those, someBelow, isEmpty}
+use Rattle.sets.specs.Rows.{Relation, rowAt, inRow, rowsOf, rowsFor}
+use Rattle.sets.specs.Tables.{tableAt}
+use Rattle.sets.specs.declared.set.Set.{Set}
+use Rattle.sets.proofs.Tests.{and-l, and-r, and-i, T-eq, T→true, true→T, F→false, and-true, and-false, and-assoc, true-and, false-and}
+use Rattle.sets.proofs.Tautologies.{by3, by4}
+use Rattle.sets.proofs.Below.{some-i, some-e, some-ext}
+use Rattle.sets.proofs.Members.{empty-e}
+use Rattle.sets.proofs.RowLaws.{in-rowsOf}
+use Rattle.sets.proofs.TableLaws.{table-rowsOf}
+use Rattle.sets.proofs.MadeSets.{Is, is-those, is-row}
+use Rattle.rules.specs.Traces.{Traces}
+use Rattle.tally.specs.Tallies.{beforeTable, laterTable}
+use Rattle.miner.specs.Facts.{Less, doubted, reopened}
+use Rattle.miner.specs.Stages.{followersOf, redundantBy}
+use Rattle.miner.proofs.Losing.{under, less-by, less-as, less-none, less-more, less-rows, byPassed, each-end}
+
+-- what something after u and before a lets in
+pub doubted-is : (before includes : List ℕ) (a : ℕ) (later row between out : Set) → row ≡ rowAt before a
+    → between ≡ those (λ v. mem later v and mem row v) → out ≡ those (λ x. someBelow width (λ v. mem between v and inRow includes v x))
+    → Is out (doubted before includes later a)
+unfolding doubted
+doubted-is before includes a later row between out hr hb ho x lx =
+    is-those out _ ho x lx
+    ∙ some-ext width _ _
+    (λ v l. ap (λ (b : Bool). b and inRow includes v x)
+    (is-those between _ hb v l ∙ ap (λ (b : Bool). mem later v and b) (is-row row before a hr v l)))
+
+-- the two ways of the test whether anything is in doubt
+pub not-asked : (n m : ℕ) (b : Bool) → (n ≡ m → ⊥) → false ≡ (eqb n m and b)
+not-asked n m b h = sym (ap (λ (t : Bool). t and b) (ne-eqb n m h) ∙ false-and b)
+
+pub asked-empty : (n m : ℕ) (s out : Set) (b : Bool) → n ≡ m → out ≡ s → b ≡ isEmpty out → b ≡ (eqb n m and isEmpty s)
+asked-empty n m s out b h ho hb = hb ∙ ap isEmpty ho ∙ sym (ap (λ (t : Bool). t and isEmpty s) (eq-eqb n m h) ∙ true-and (isEmpty s))
+
+-- ---- what is asked, of the members' rows
+
+again : (r f k : Bool) → (r and non (f and (r and k))) ≡ (r and non (f and k))
+unfolding _and_ _or_ non
+again = by3 (λ r f k. r and non (f and (r and k))) (λ r f k. r and non (f and k)) tt
+
+still : (r f k h : Bool) → (r and non (f and (r and k and non h))) ≡ (r and non (f and k and non h))
+unfolding _and_ _or_ non
+still = by4 (λ r f k h. r and non (f and (r and k and non h))) (λ r f k h. r and non (f and k and non h)) tt
+
+module _ (F asked : Set) (rows left gone : List ℕ) where
+  -- all of it
+  pub asked-lost : gone ≡ rowsFor F (λ a x. inRow rows a x and mem asked x) → Less rows (λ a x. mem F a and inRow gone a x) left
+      → Less rows (λ a x. mem F a and mem asked x) left
+  asked-lost hg l =
+      less-rows rows left gone F _ _ hg l
+      (λ r hr a x la lx.
+      ap (λ (b : Bool). r a x and non (mem F a and (b and mem asked x))) (ap (λ (q : List ℕ). inRow q a x) hr ∙ in-rowsOf r a x la lx)
+      ∙ again (r a x) (mem F a) (mem asked x))
+
+  -- what is not in doubt
+  pub sure-lost : (D : Relation) → gone ≡ rowsFor F (λ a x. mem asked x and non (D a x)) → Less rows (λ a x. mem F a and inRow gone a x) left
+      → Less rows (λ a x. mem F a and mem asked x and non (D a x)) left
+  sure-lost D hg l =
+      less-rows rows left gone F _ _ hg l
+      (λ r hr a x la lx. ap (λ (b : Bool). r a x and non b) (sym (and-assoc (mem F a) (mem asked x) (non (D a x)))))
+
+  -- what no trace lets in
+  pub open-lost : (H : Relation) (doubts : List ℕ) → doubts ≡ rowsFor F (λ a x. inRow rows a x and mem asked x)
+      → ((r : Relation) → doubts ≡ rowsFor F r → gone ≡ rowsFor F (λ a x. r a x and non (H a x)))
+      → Less rows (λ a x. mem F a and inRow gone a x) left → Less rows (λ a x. mem F a and mem asked x and non (H a x)) left
+  open-lost H doubts hd hg l =
+      less-rows rows left gone F _ _ (hg _ hd) l
+      (λ r hr a x la lx.
+      ap (λ (b : Bool). r a x and non (mem F a and (b and mem asked x and non (H a x)))) (ap (λ (q : List ℕ). inRow q a x) hr ∙ in-rowsOf r a x la lx)
+      ∙ still (r a x) (mem F a) (mem asked x) (H a x))
+
+-- ---- with doubt and without
+
+both : (f k d h : Bool) → (f and k and non d or f and k and non h) ≡ (f and k and non (d and h))
+unfolding _and_ _or_ non
+both = by4 (λ f k d h. f and k and non d or f and k and non h) (λ f k d h. f and k and non (d and h)) tt
+
+module _ (before laters includes : List ℕ) (u : ℕ) (F asked later : Set) (H : Relation) (hl : later ≡ rowAt laters u) where
+  abbrev gone : Relation
+  gone a x = mem F a and mem asked x and non (doubted before includes (rowAt laters u) a x and H a x)
+
+  module _ (out doubt : Set) (b : Bool) (ho : out ≡ those (λ x. someBelow width (λ v. mem later v and inRow includes v x)))
+      (hd : doubt ≡ those (λ x. mem asked x and mem out x)) (hb : b ≡ isEmpty doubt) (done : b ≡ true) where
+    none-in : (a x : ℕ) → x < width → T (mem asked x) → doubted before includes (rowAt laters u) a x ≡ false
+    unfolding doubted
+    none-in a x lx t =
+        F→false _
+        (λ d.
+        let v = some-e width (λ w. mem (rowAt laters u) w and inRow before a w and inRow includes w x) d in
+        empty-e doubt (true→T (sym hb ∙ done)) x lx
+        (T-eq (sym (is-those doubt (λ y. mem asked y and mem out y) hd x lx))
+        (and-i _ _ t
+        (T-eq (sym (is-those out (λ y. someBelow width (λ w. mem later w and inRow includes w y)) ho x lx))
+        (some-i width (λ w. mem later w and inRow includes w x) (v .0) (v .1)
+        (and-i _ _ (T-eq (ap (λ (s : Set). mem s (v .0)) (sym hl)) (and-l _ _ (and-l _ _ (v .2)))) (and-r _ _ (v .2))))))))
+
+    pub no-doubt : (rows left : List ℕ) → Less rows (λ a x. mem F a and mem asked x) left → Less rows gone left
+    unfolding non _and_
+    no-doubt rows left l = less-as rows left _ _ (λ a x la lx. by a x lx (mem asked x) refl) l
+      where
+        by : (a x : ℕ) → x < width → (k : Bool) → mem asked x ≡ k
+            → (mem F a and k) ≡ (mem F a and k and non (doubted before includes (rowAt laters u) a x and H a x))
+        by a x lx true e =
+            sym (ap (λ (d : Bool). mem F a and true and non (d and H a x)) (none-in a x lx (true→T e)) ∙ and-true (mem F a and true))
+        by a x lx false e =
+            and-false (mem F a)
+            ∙ sym (ap (λ (c : Bool). c and non (doubted before includes (rowAt laters u) a x and H a x)) (and-false (mem F a)))
+
+  pub in-doubt : (rows between left : List ℕ) → Less rows (λ a x. mem F a and mem asked x and non (doubted before includes later a x)) between
+      → Less between (λ a x. mem F a and mem asked x and non (H a x)) left → Less rows gone left
+  in-doubt rows between left l m =
+      less-as rows left _ _
+      (λ a x la lx.
+      ap (λ (s : Set). mem F a and mem asked x and non (doubted before includes s a x) or mem F a and mem asked x and non (H a x)) hl
+      ∙ both (mem F a) (mem asked x) (doubted before includes (rowAt laters u) a x) (H a x))
+      (less-more rows between left _ _ l m)
+
+-- ---- all that one u makes redundant
+
+module _ (tally followers includes excludes : List ℕ) (L : Traces) (u : ℕ) (F free out asked : Set) (rows : List ℕ) (b : Bool)
+    (hF : F ≡ rowAt followers u) (hf : free ≡ those (λ x. inRow excludes u x and non (inRow includes u x)))
+    (ho : out ≡ those (λ x. someBelow width (λ a. mem F a and inRow (tableAt rows 0) a x))) (ha : asked ≡ those (λ x. mem free x and mem out x))
+    (hb : b ≡ isEmpty asked) where
+  abbrev safe : Relation
+  safe a x =
+      non (doubted (tableAt tally beforeTable) includes (rowAt (tableAt tally laterTable) u) a x and reopened includes u L a x)
+
+  member : (a x : ℕ) → x < width → inRow followers u x ≡ mem F x
+  unfolding inRow
+  member a x lx = ap (λ (s : Set). mem s x) (sym hF)
+
+  -- a pair that is left from a member is asked for where u shuts its target out
+  asked-where : (r : Relation) → rows ≡ rowsOf r → (a x : ℕ) → a < width → x < width → T (r a x) → T (mem F a)
+      → mem asked x ≡ (inRow excludes u x and non (inRow includes u x))
+  asked-where r hr a x la lx t m =
+      is-those asked _ ha x lx
+      ∙ ap₂ _and_ (is-those free _ hf x lx) (is-those out _ ho x lx ∙ T→true _ there)
+      ∙ and-true _
+    where
+      there : T (someBelow width (λ v. mem F v and inRow (tableAt rows 0) v x))
+      there =
+          some-i width (λ v. mem F v and inRow (tableAt rows 0) v x) a la
+          (and-i _ _ m (T-eq (sym (ap (λ (l : List ℕ). inRow (tableAt l 0) a x) hr ∙ ap (λ (l : List ℕ). inRow l a x) (table-rowsOf r)
+          ∙ in-rowsOf r a x la lx)) t))
+
+  same-gone : (r : Relation) → rows ≡ rowsOf r → (a x : ℕ) → a < width → x < width → T (r a x)
+      → (mem F a and mem asked x and safe a x) ≡ redundantBy tally followers includes excludes L u a x
+  unfolding redundantBy _and_
+  same-gone r hr a x la lx t = by (mem F a) refl
+    where
+      by : (m : Bool) → mem F a ≡ m → (m and mem asked x and safe a x)
+          ≡ (inRow excludes u x and non (inRow includes u x) and inRow followers u a and safe a x)
+      by true e =
+          ap (λ (c : Bool). c and safe a x)
+          (asked-where r hr a x la lx t (true→T e) ∙ sym (and-true (inRow excludes u x and non (inRow includes u x)))
+          ∙ ap (λ (c : Bool). inRow excludes u x and non (inRow includes u x) and c) (sym (member x a la ∙ e)))
+      by false e =
+          sym (ap (λ (c : Bool). c and safe a x)
+          (ap (λ (c : Bool). inRow excludes u x and non (inRow includes u x) and c) (member x a la ∙ e)
+          ∙ and-false (inRow excludes u x and non (inRow includes u x))))
+
+  pub lost-by : (left : List ℕ) → Less rows (λ a x. mem F a and mem asked x and safe a x) left
+      → Less rows (redundantBy tally followers includes excludes L u) left
+  lost-by left l = less-by rows left _ _ (λ r hr a x la lx. under (r a x) _ _ (same-gone r hr a x la lx)) l
+
+  pub none-lost : not b ≡ false → Less rows (redundantBy tally followers includes excludes L u) rows
+  none-lost n =
+      lost-by rows
+      (less-none rows rows _ refl
+      (λ a x la lx. F→false _ (λ t. empty-e asked (true→T (sym hb ∙ not-false b n)) x lx (and-r _ _ (and-l _ _ t)))))
+
+pub redundant-end : (tally followers includes excludes : List ℕ) (L : Traces) (rows left : List ℕ) (all rest : Set) (b : Bool)
+    → followers ≡ followersOf all tally
+    → Less rows (byPassed (redundantBy tally followers includes excludes L) all rest) left → b ≡ isEmpty rest → not b ≡ false
+    → Less rows (λ a x. someBelow width (λ u. mem all u and redundantBy tally (followersOf all tally) includes excludes L u a x)) left
+redundant-end tally followers includes excludes L rows left all rest b hf l hb n =
+    subst (λ (f : List ℕ). Less rows (λ a x. someBelow width (λ u. mem all u and redundantBy tally f includes excludes L u a x)) left) hf
+    (each-end (redundantBy tally followers includes excludes L) rows all left rest b l hb n)

@@ -1,0 +1,35 @@
+use Prim.Native.Nat.{_≤_, _-_}
+use native.Mathlib.Omega.{arith}
+use borrow.Author.Needs.{needs}
+use Rattle.sets.specs.Tables.{tableAt}
+use Rattle.calllog.proofs.Traces.{part-within}
+use Rattle.miner.proofs.Reopening.{Walking, walk-start, walk-next, walk-end, walk-short}
+use Rattle.miner.proofs.redundant.reopen_log.Statement.{statement}
+use Rattle.miner.proofs.redundant.reopen_log.Tie as tie
+
+abbrev Inv-loop : tie.InvT-loop
+Inv-loop log traces u held members doubts₀ k₀ doubts k = (k ≤ traces) × Walking (tableAt held 2) (u .0) log traces doubts₀ k doubts
+
+abbrev μ-loop : tie.MeasureT-loop
+μ-loop log traces u held members doubts₀ k₀ doubts k = traces - k
+
+loop-holds : tie.Need-loop-holds Inv-loop μ-loop
+loop-holds c = (search needs, walk-start _ _ _ _ _)
+
+returns : tie.Need-returns Inv-loop μ-loop
+returns c = walk-short _ _ _ _ _ _ _ _ (c .before .before .before .before .loop .inv .1) _ _ (c .before .none-doubted .ensures) (c .if1 .taken)
+
+add-end : tie.Need-add-end Inv-loop μ-loop
+add-end c = omega (arith, part-within _ _ _ (c .before .trace-part .ensures))
+
+loop-again : tie.Need-loop-again Inv-loop μ-loop
+loop-again c = (search needs, search (walk-next, needs))
+
+returns-2 : tie.Need-returns-2 Inv-loop μ-loop
+returns-2 c = walk-end _ _ _ _ _ _ _ _ (c .before .loop .inv .1) (c .loop-test .left)
+
+pub reopen-log-spec : {M : Type 1} → statement M
+reopen-log-spec =
+    tie.close
+    (tie.spec Inv-loop μ-loop loop-holds (λ c κs. search needs) returns (λ c κs. search needs) add-end (λ c. search needs)
+    (λ c. search needs) (λ c. search (part-within, needs)) (λ c κs. search needs) (λ c. search needs) (λ c. search needs) loop-again returns-2)
