@@ -25,6 +25,7 @@ use Rattle.sets.specs.declared.activity.Activity.{Activity}
 use Rattle.sets.specs.declared.answer.Answer.{Answer}
 use Rattle.sets.specs.declared.answer.Answer.the-variants.{Done, TooShort, WrongLetters, AboveLimit, WrongOffset, Outside, BadRow, BufferTooSmall, NoEvent, NotIncluded, Waiting, NoTrace, WrongArgument}
 use Rattle.sets.specs.declared.answer.Answer.the-variants.{NoPlaceFree, NotOpen, NotAccepting, NoWayOut}
+use Rattle.sets.specs.declared.answer.Answer.the-variants.{LabelsNotAsMany, LabelAboveOne}
 use Rattle.sets.proofs.Members.{mem-those}
 use Rattle.sets.proofs.Asking.{done-is}
 use Rattle.sets.specs.Members.{noSet}
@@ -73,16 +74,16 @@ use Rattle.promises.proofs.Early.{replay-runs, early-nothing}
 abbrev cases : Activity → List Answer
 cases b =
     Done ∷ TooShort ∷ WrongLetters ∷ AboveLimit ∷ WrongOffset ∷ Outside ∷ BadRow ∷ BufferTooSmall ∷ NoEvent ∷ NotIncluded ∷ Waiting b ∷ NoTrace
-    ∷ WrongArgument ∷ NoPlaceFree ∷ NotOpen ∷ NotAccepting ∷ NoWayOut ∷ []
+    ∷ WrongArgument ∷ NoPlaceFree ∷ NotOpen ∷ NotAccepting ∷ NoWayOut ∷ LabelsNotAsMany ∷ LabelAboveOne ∷ []
 
 -- 01's table, "Numbers given back", and 02's numbers: the number of each
-pub numbers : (b : Activity) → map numberOf (cases b) ≡ 0 ∷ 1 ∷ 2 ∷ 3 ∷ 4 ∷ 5 ∷ 6 ∷ 7 ∷ 8 ∷ 9 ∷ 10 ∷ 11 ∷ 12 ∷ 13 ∷ 14 ∷ 15 ∷ 17 ∷ []
+pub numbers : (b : Activity) → map numberOf (cases b) ≡ 0 ∷ 1 ∷ 2 ∷ 3 ∷ 4 ∷ 5 ∷ 6 ∷ 7 ∷ 8 ∷ 9 ∷ 10 ∷ 11 ∷ 12 ∷ 13 ∷ 14 ∷ 15 ∷ 17 ∷ 18 ∷ 19 ∷ []
 numbers b = refl
 
 -- 02, 2/12: the blocker beside each
 pub blockers : (b : Activity)
     → map blockerOf (cases b)
-    ≡ 255 ∷ 255 ∷ 255 ∷ 255 ∷ 255 ∷ 255 ∷ 255 ∷ 255 ∷ 255 ∷ 255 ∷ b .0 ∷ 255 ∷ 255 ∷ 255 ∷ 255 ∷ 255 ∷ 255 ∷ []
+    ≡ 255 ∷ 255 ∷ 255 ∷ 255 ∷ 255 ∷ 255 ∷ 255 ∷ 255 ∷ 255 ∷ 255 ∷ b .0 ∷ 255 ∷ 255 ∷ 255 ∷ 255 ∷ 255 ∷ 255 ∷ 255 ∷ 255 ∷ []
 blockers b = refl
 
 -- that is the number which the function `number` gives
