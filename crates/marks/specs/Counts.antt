@@ -1,8 +1,9 @@
 -- The four counts of the paper's confusion table, and precision, recall and accuracy (02, 9/12).
 use mathlib.Core.Bool.{Bool}
-use Prim.Native.Nat.{ℕ, _+_}
-use Rattle.sets.specs.Tests.{_and_, non}
-use Rattle.sets.specs.Members.{digit, countBelow}
+use Prim.Native.Nat.{ℕ, _+_, _≤_}
+use Rattle.sets.specs.Tests.{_and_, non, when_then_else_}
+use Rattle.sets.specs.Sizes.{mostTraces}
+use Rattle.sets.specs.Members.{countBelow}
 use Rattle.marks.specs.declared.counts.Counts.{Counts}
 use Rattle.marks.specs.declared.counts.Measure.{Measure}
 
@@ -15,21 +16,31 @@ noCounts = countsBy 0 0 0 0
 -- each count is the number of traces of its kind among the first n: a positive has the verdict yes, and it is a true one where the label
 -- says so too
 unfoldable pub countsOf : ℕ → (ℕ → Bool) → (ℕ → Bool) → Counts
-countsOf n yes ordered =
+countsOf n verdict ordered =
     countsBy
-    (countBelow n (λ k. yes k and ordered k))
-    (countBelow n (λ k. yes k and non (ordered k)))
-    (countBelow n (λ k. non (yes k) and ordered k))
-    (countBelow n (λ k. non (yes k) and non (ordered k)))
+    (countBelow n (λ k. verdict k and ordered k))
+    (countBelow n (λ k. verdict k and non (ordered k)))
+    (countBelow n (λ k. non (verdict k) and ordered k))
+    (countBelow n (λ k. non (verdict k) and non (ordered k)))
 
 -- the counts with one trace more: the word of an inner contract
+abbrev pub oneMore : Bool → ℕ → ℕ
+oneMore b n = when b then n + 1 else n
+
 unfoldable pub countedOf : Counts → Bool → Bool → Counts
-countedOf c yes ordered =
+countedOf c verdict ordered =
     countsBy
-    (c .«true_positives» + digit (yes and ordered))
-    (c .«false_positives» + digit (yes and non ordered))
-    (c .«false_negatives» + digit (non yes and ordered))
-    (c .«true_negatives» + digit (non yes and non ordered))
+    (oneMore (verdict and ordered) (c .«true_positives»))
+    (oneMore (verdict and non ordered) (c .«false_positives»))
+    (oneMore (non verdict and ordered) (c .«false_negatives»))
+    (oneMore (non verdict and non ordered) (c .«true_negatives»))
+
+-- none of them is above the limit of traces: a condition of the same contract
+pub record Few (c : Counts) : Type 0 where
+  pub hits : c .«true_positives» ≤ mostTraces
+  pub slips : c .«false_positives» ≤ mostTraces
+  pub missed : c .«false_negatives» ≤ mostTraces
+  pub passed : c .«true_negatives» ≤ mostTraces
 
 -- ---- the measures: two whole numbers each, not reduced
 
@@ -37,15 +48,15 @@ abbrev pub measureOf : ℕ → ℕ → Measure
 measureOf part whole = record { part = part; whole = whole }
 
 -- TP of TP + FP
-unfoldable pub precisionOf : Counts → Measure
+abbrev pub precisionOf : Counts → Measure
 precisionOf c = measureOf (c .«true_positives») (c .«true_positives» + c .«false_positives»)
 
 -- TP of TP + FN
-unfoldable pub recallOf : Counts → Measure
+abbrev pub recallOf : Counts → Measure
 recallOf c = measureOf (c .«true_positives») (c .«true_positives» + c .«false_negatives»)
 
 -- TP + TN of all
-unfoldable pub accuracyOf : Counts → Measure
+abbrev pub accuracyOf : Counts → Measure
 accuracyOf c =
     measureOf (c .«true_positives» + c .«true_negatives»)
     (c .«true_positives» + c .«true_negatives» + (c .«false_positives» + c .«false_negatives»))

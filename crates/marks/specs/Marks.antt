@@ -3,17 +3,17 @@ use mathlib.Core.Bool.{Bool}
 use mathlib.Core.List.{List, []}
 use Prim.Native.Nat.{ℕ}
 use lib.Dec.{ltb}
-use lib.ListN.{length, getD, take, drop}
+use lib.ListN.{length, getD}
 use Rattle.sets.specs.Tests.{_and_, when_then_else_}
 use Rattle.sets.specs.Sizes.{mostTraces}
 use Rattle.sets.specs.Answers.{isDone, thenAsk}
 use Rattle.sets.specs.declared.answer.Answer.{Answer}
-use Rattle.sets.specs.declared.answer.Answer.the-variants.{Done, AboveLimit}
+use Rattle.sets.specs.declared.answer.Answer.the-variants.{AboveLimit}
 use Rattle.engine.specs.Judged.{judged}
 use Rattle.engine.specs.Replay.{replayOf}
 use Rattle.engine.specs.declared.graph.Graph.{Graph}
 use Rattle.engine.specs.declared.replay.Replayed.{Replayed}
-use Rattle.calllog.specs.Logs.{logOf, partOf}
+use Rattle.calllog.specs.Logs.{logOf}
 use Rattle.marks.specs.declared.counts.Counts.{Counts}
 use Rattle.marks.specs.declared.marks.Marked.{Marked}
 use Rattle.marks.specs.Labels.{saysYes, judgedLabels}
@@ -36,9 +36,13 @@ markedBy a c = record { answer = a; counts = when isDone a then c else noCounts 
 
 -- ---- a graph
 
--- the log's refusals, the graph's, then 18 and 19
+-- the log's refusals, then the graph's
+abbrev pub judgedBoth : Graph → List ℕ → Answer
+judgedBoth g log = thenAsk (logOf log .answer) (judged g)
+
+-- then 18 and 19
 unfoldable pub judgedMarks : Graph → List ℕ → List ℕ → Answer
-judgedMarks g log labels = thenAsk (logOf log .answer) (thenAsk (judged g) (judgedLabels (length (logOf log .traces)) labels))
+judgedMarks g log labels = thenAsk (judgedBoth g log) (judgedLabels (length (logOf log .traces)) labels)
 
 unfoldable pub marksOf : Graph → List ℕ → List ℕ → Marked
 marksOf g log labels = markedBy (judgedMarks g log labels) (countsOf (length (logOf log .traces)) (verdictOf g log) (saysYes labels))

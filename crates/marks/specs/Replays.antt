@@ -1,6 +1,5 @@
 -- All replays of a log at once, a byte for each trace (issue 25). And the words of inner contracts: what a replay on lent relations gives
 -- of a part of the bytes.
-use mathlib.Core.Bool.{Bool}
 use mathlib.Core.List.{List, _++_}
 use Prim.Native.Nat.{ℕ}
 use lib.Dec.{ltb}
@@ -10,7 +9,6 @@ use Rattle.sets.specs.Rows.{listFrom}
 use Rattle.sets.specs.Answers.{numberOf, isDone, thenAsk}
 use Rattle.sets.specs.declared.answer.Answer.{Answer}
 use Rattle.sets.specs.declared.answer.Answer.the-variants.{Done, BufferTooSmall}
-use Rattle.engine.specs.Judged.{judged}
 use Rattle.engine.specs.Relations.{inTables}
 use Rattle.engine.specs.Replay.{replayFrom, replayOf}
 use Rattle.engine.specs.declared.graph.Head.{Head}
@@ -18,7 +16,7 @@ use Rattle.engine.specs.declared.graph.Graph.{Graph}
 use Rattle.engine.specs.declared.replay.Replayed.{Replayed}
 use Rattle.calllog.specs.Logs.{logOf, partOf}
 use Rattle.marks.specs.declared.replays.Replays.{Replays}
-use Rattle.marks.specs.Marks.{isYes, traceNumber}
+use Rattle.marks.specs.Marks.{isYes, traceNumber, judgedBoth}
 
 -- 128 where the verdict is yes, else the replay's number: 0 where it is done and not accepting
 unfoldable pub replayByte : Replayed → ℕ
@@ -31,7 +29,7 @@ replayBytes g log = listFrom (length (logOf log .traces)) 0 (λ k. replayByte (r
 -- the log's refusals, the graph's, then 7 where the bytes are fewer than the traces
 unfoldable pub judgedReplays : Graph → List ℕ → ℕ → Answer
 judgedReplays g log room =
-    thenAsk (logOf log .answer) (thenAsk (judged g) (when ltb room (length (logOf log .traces)) then BufferTooSmall else Done))
+    thenAsk (judgedBoth g log) (when ltb room (length (logOf log .traces)) then BufferTooSmall else Done)
 
 -- the answer and the number of bytes; 0 where refused
 unfoldable pub replaysOf : Graph → List ℕ → ℕ → Replays

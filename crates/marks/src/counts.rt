@@ -1,8 +1,6 @@
 // The four counts of the paper's confusion table, and the measures made of them.
 ghost use mathlib.Core.Path.{_≡_};
-ghost use Prim.Native.Nat.{_≤_};
-ghost use Rattle.sets.specs.Sizes.{mostTraces};
-ghost use Rattle.marks.specs.Counts.{countedOf, precisionOf, recallOf, accuracyOf};
+ghost use Rattle.marks.specs.Counts.{Few, countedOf, precisionOf, recallOf, accuracyOf};
 
 // Traces by verdict and label. The verdict is positive where it is yes, and true where the label agrees.
 pub struct Counts {
@@ -66,10 +64,7 @@ impl Counts {
 
 // The counts with one trace more, by its verdict and its label.
 pub(crate) fn counted(c: Counts, verdict: bool, label: bool) -> Counts
-    requires { ⌜ c .true_positives ≤ mostTraces ⌝ }
-    requires { ⌜ c .false_positives ≤ mostTraces ⌝ }
-    requires { ⌜ c .false_negatives ≤ mostTraces ⌝ }
-    requires { ⌜ c .true_negatives ≤ mostTraces ⌝ }
+    requires { ⌜ Few c ⌝ }
     ensures { λ r. ⌜ r ≡ countedOf c verdict label ⌝ }
 {
     let mut r = c;

@@ -62,22 +62,14 @@ fn count_guesses<'a>(guesses: &'a [u8], labels: &'a [u8]) -> Counts
 }
 
 // The refusals of the log, of the graph, then of the labels.
-fn judge_marks<'a>(
-    head: Head,
-    relations: &'a Relations,
-    log: &'a [u8],
-    labels: &'a [u8],
-) -> Answer
+fn judge_marks<'a>(head: Head, relations: &'a Relations, log: &'a [u8], labels: &'a [u8]) -> Answer
     ensures { λ r. ⌜ r ≡ judgedMarks (graphOf head (now (relations .entry))) (now (log .entry)) (now (labels .entry)) ⌝ }
 {
     let judged = calllog::judge::judge_log(log);
-    let answer = judged.answer;
+    let first = judged.answer;
+    let answer = replays::judge_after(first, head, relations);
     if !answer.is_done() {
         return answer;
-    }
-    let fault = engine::judge::judge_for(head, relations, 0);
-    if !fault.is_done() {
-        return fault;
     }
     labels::judge_labels(labels, judged.traces)
 }

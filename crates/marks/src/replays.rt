@@ -4,7 +4,9 @@ ghost use mathlib.Core.List.{_++_};
 ghost use Prim.Native.Nat.{_≤_};
 ghost use lib.ListN.{length, drop};
 ghost use Rattle.sets.specs.Rows.{listFrom};
+ghost use Rattle.sets.specs.Answers.{thenAsk};
 ghost use Rattle.engine.specs.Relations.{graphOf};
+ghost use Rattle.engine.specs.Judged.{judged};
 ghost use Rattle.marks.specs.Marks.{isYes};
 ghost use Rattle.marks.specs.Replays.{replayByte, partReplay, replaysOf, replaysAfter};
 use engine::Head;
@@ -20,6 +22,16 @@ const YES: u8 = 128;
 pub struct Replays {
     pub answer: Answer,
     pub traces: usize,
+}
+
+// What was answered before, then the graph's refusals.
+pub(crate) fn judge_after(first: Answer, head: Head, relations: &Relations) -> Answer
+    ensures { λ r. ⌜ r ≡ thenAsk first (judged (graphOf head (now (relations .entry)))) ⌝ }
+{
+    if !first.is_done() {
+        return first;
+    }
+    engine::judge::judge_for(head, relations, 0)
 }
 
 // Where the replay of part k of a log ends. The caller has judged log and graph.
@@ -92,16 +104,10 @@ pub fn write_replays<'a, 'w>(
     ensures { λ _. ⌜ now (out .exit) ≡ replaysAfter (graphOf head (now (relations .entry))) (now (log .entry)) (now (out .entry)) ⌝ }
 {
     let judged = calllog::judge::judge_log(log);
-    let answer = judged.answer;
+    let first = judged.answer;
+    let answer = judge_after(first, head, relations);
     if !answer.is_done() {
         return Replays { answer, traces: 0 };
-    }
-    let fault = engine::judge::judge_for(head, relations, 0);
-    if !fault.is_done() {
-        return Replays {
-            answer: fault,
-            traces: 0,
-        };
     }
     let traces = judged.traces;
     if out.len() < traces {
