@@ -18,7 +18,7 @@ use Rattle.marks.specs.declared.marks.Marked.{Marked}
 use Rattle.report.specs.declared.writer.Listed.{Listed}
 use Rattle.report.specs.Lines.{space, lineEnd, decimal, line}
 use Rattle.report.specs.Listing.{refusedLine}
-use Rattle.report.specs.Marks.{TP, FP, FN, TN, precisionWord, recallWord, accuracyWord, noneWord, countLines, measureLine, measureLines, marksText, markedText, longestMarks, markedOf, markedAfter}
+use Rattle.report.specs.Marks.{TP, FP, FN, TN, precisionWord, recallWord, accuracyWord, noneWord, fourLines, countLines, measureLine, measureLines, marksText, markedText, longestMarks, markedOf, markedAfter}
 use Rattle.report.specs.Puts.{Put, named, three, four}
 use Rattle.report.proofs.Figures.{at-most}
 use Rattle.report.proofs.Longest.{refused-most}
@@ -27,24 +27,24 @@ use Rattle.report.proofs.PutLaws.{put-as, put-then, room-first, room-se
 
 -- ---- the counts
 
-module _ (c : Counts) (o : List ℕ) (a : ℕ) where
+module _ (n₁ n₂ n₃ n₄ : ℕ) (o : List ℕ) (a : ℕ) where
   abbrev tp : List ℕ
-  tp = named TP (c .«true_positives») lineEnd
+  tp = named TP n₁ lineEnd
 
   abbrev fp : List ℕ
-  fp = named FP (c .«false_positives») lineEnd
+  fp = named FP n₂ lineEnd
 
   abbrev fn : List ℕ
-  fn = named FN (c .«false_negatives») lineEnd
+  fn = named FN n₃ lineEnd
 
   abbrev tn : List ℕ
-  tn = named TN (c .«true_negatives») lineEnd
+  tn = named TN n₄ lineEnd
 
-  count-text : countLines c ≡ four tp fp fn tn
-  unfolding countLines line named four
+  count-text : fourLines n₁ n₂ n₃ n₄ ≡ four tp fp fn tn
+  unfolding fourLines line named four
   count-text = refl
 
-  module _ (room : a + length (countLines c) ≤ length o) where
+  module _ (room : a + length (fourLines n₁ n₂ n₃ n₄) ≤ length o) where
     room-four : a + length (four tp fp fn tn) ≤ length o
     room-four = subst (λ (x : List ℕ). a + length x ≤ length o) count-text room
 
@@ -62,7 +62,7 @@ module _ (c : Counts) (o : List ℕ) (a : ℕ) where
     counts-4 = of-four-4 tp fp fn tn o a room-four
 
   pub counts-put : (o₁ o₂ o₃ o₄ : List ℕ) (a₁ a₂ a₃ a₄ : ℕ) → Put o a tp o₁ a₁ → Put o₁ a₁ fp o₂ a₂ → Put o₂ a₂ fn o₃ a₃
-      → Put o₃ a₃ tn o₄ a₄ → Put o a (countLines c) o₄ a₄
+      → Put o₃ a₃ tn o₄ a₄ → Put o a (fourLines n₁ n₂ n₃ n₄) o₄ a₄
   counts-put o₁ o₂ o₃ o₄ a₁ a₂ a₃ a₄ p q r s = put-as (sym count-text) (put-four tp fp fn tn o a o₁ o₂ o₃ o₄ a₁ a₂ a₃ a₄ p q r s)
 
 -- ---- a measure
@@ -185,7 +185,7 @@ measure-most word m = by (eqb (m .whole) 0)
     by false = simp length-append (omega (arith, five (m .part), five (m .whole)))
 
 counts-most : (c : Counts) → length (countLines c) ≤ 36
-unfolding countLines line
+unfolding fourLines line
 counts-most c =
     simp length-append
     (omega (arith, five (c .«true_positives»), five (c .«false_positives»), five (c .«false_negatives»), five (c .«true_negatives»)))

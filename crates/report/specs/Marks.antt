@@ -47,10 +47,12 @@ noneWord = 110 ∷ 111 ∷ 110 ∷ 101 ∷ []
 
 -- ---- the lines
 
-unfoldable pub countLines : Counts → List ℕ
-countLines c =
-    line (TP ∷ decimal (c .«true_positives») ∷ []) ++ line (FP ∷ decimal (c .«false_positives») ∷ [])
-    ++ line (FN ∷ decimal (c .«false_negatives») ∷ []) ++ line (TN ∷ decimal (c .«true_negatives») ∷ [])
+unfoldable pub fourLines : ℕ → ℕ → ℕ → ℕ → List ℕ
+fourLines tp fp fn tn =
+    line (TP ∷ decimal tp ∷ []) ++ line (FP ∷ decimal fp ∷ []) ++ line (FN ∷ decimal fn ∷ []) ++ line (TN ∷ decimal tn ∷ [])
+
+abbrev pub countLines : Counts → List ℕ
+countLines c = fourLines (c .«true_positives») (c .«false_positives») (c .«false_negatives») (c .«true_negatives»)
 
 -- "two whole numbers each, not reduced and not rounded; a zero denominator prints as `none`"
 unfoldable pub measureLine : List ℕ → Measure → List ℕ

@@ -2,7 +2,7 @@
 ghost use mathlib.Core.Path.{_≡_};
 ghost use Prim.Native.Nat.{_+_, _≤_};
 ghost use lib.ListN.{length};
-ghost use Rattle.report.specs.Marks.{countLines, measureLine, measureLines, marksText, markedOf, markedAfter};
+ghost use Rattle.report.specs.Marks.{fourLines, countLines, measureLine, measureLines, marksText, markedOf, markedAfter};
 ghost use Rattle.report.specs.Puts.{Put};
 use crate::text;
 use crate::writer;
@@ -32,7 +32,18 @@ const ACCURACY: [u8; 8] = *b"accuracy";
 
 const NONE: [u8; 4] = *b"none";
 
-// A line for each count.
+// A line for each of four counts.
+fn put_four(out: &mut [u8], at: usize, tp: usize, fp: usize, missed: usize, tn: usize) -> usize
+    requires { ⌜ at + length (fourLines tp fp missed tn) ≤ length (now out) ⌝ }
+    ensures { λ r. ⌜ Put (now (out .entry)) at (fourLines tp fp missed tn) (now (out .exit)) r ⌝ }
+{
+    let after_tp = text::put_named(out, at, &TRUE_POSITIVES, tp, text::LINE_END);
+    let after_fp = text::put_named(out, after_tp, &FALSE_POSITIVES, fp, text::LINE_END);
+    let after_fn = text::put_named(out, after_fp, &FALSE_NEGATIVES, missed, text::LINE_END);
+    text::put_named(out, after_fn, &TRUE_NEGATIVES, tn, text::LINE_END)
+}
+
+// A line for each count of the table.
 fn put_counts(out: &mut [u8], at: usize, c: Counts) -> usize
     requires { ⌜ at + length (countLines c) ≤ length (now out) ⌝ }
     ensures { λ r. ⌜ Put (now (out .entry)) at (countLines c) (now (out .exit)) r ⌝ }
@@ -41,10 +52,7 @@ fn put_counts(out: &mut [u8], at: usize, c: Counts) -> usize
     let fp = c.false_positives as usize;
     let missed = c.false_negatives as usize;
     let tn = c.true_negatives as usize;
-    let after_tp = text::put_named(out, at, &TRUE_POSITIVES, tp, text::LINE_END);
-    let after_fp = text::put_named(out, after_tp, &FALSE_POSITIVES, fp, text::LINE_END);
-    let after_fn = text::put_named(out, after_fp, &FALSE_NEGATIVES, missed, text::LINE_END);
-    text::put_named(out, after_fn, &TRUE_NEGATIVES, tn, text::LINE_END)
+    put_four(out, at, tp, fp, missed, tn)
 }
 
 // The line of a measure: its two numbers, or `none` where the whole is 0.
