@@ -31,7 +31,10 @@ pub fn case(prng: &mut Prng) -> (Vec<u8>, Vec<u8>) {
     let log = prng.one_of(&[logs::adversarial, logs::process_like, logs::few_variants])(prng);
     let file = match prng.below(4) {
         0 => graphs::file(&graphs::value(prng)),
-        1 => mined(prng, &logs::adversarial(prng)),
+        1 => {
+            let other = logs::adversarial(prng);
+            mined(prng, &other)
+        }
         _ => mined(prng, &log),
     };
     let tried = match prng.below(3) {

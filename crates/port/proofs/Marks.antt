@@ -116,13 +116,19 @@ pub ruleset replaying-file = (log-number, log-buffer, file-number, file-buffer, 
 
 -- ---- the counts in one number
 
-pub counts-packed : (m m′ : Marked) (n p q : ℕ) → m ≡ m′ → n ≡ numberOf (m .answer)
+pub two-packed : (low high : ℕ) → low % 4096 + 4096 * (high % 4096) ≡ twoCounts low high
+unfolding twoCounts
+two-packed low high = refl
+
+pub counts-packed : (m : Marked) (n p q : ℕ) → n ≡ numberOf (m .answer)
     → p ≡ twoCounts (m .counts .«true_positives») (m .counts .«false_positives»)
     → q ≡ twoCounts (m .counts .«false_negatives») (m .counts .«true_negatives»)
-    → n + 256 * p + 4294967296 * q ≡ countsNumber m′
+    → n + 256 * p + 4294967296 * q ≡ countsNumber m
 unfolding countsNumber
-counts-packed m m′ n p q e hn hp hq =
-    (λ i. hn i + 256 * hp i + 4294967296 * hq i) ∙ ap countsNumber e
+counts-packed m n p q hn hp hq = λ i. hn i + 256 * hp i + 4294967296 * hq i
+
+pub counts-of : (m m′ : Marked) (n : ℕ) → m ≡ m′ → n ≡ countsNumber m → n ≡ countsNumber m′
+counts-of m m′ n e h = h ∙ ap countsNumber e
 
 -- ---- the text
 

@@ -41,16 +41,25 @@ fn two_counts(low: u16, high: u16) -> u64
     (low % 4096) as u64 + 4096 * (high % 4096) as u64
 }
 
-// The number, and above it true positives, false positives, false negatives and true negatives, 12 bits each.
+// The number, and above it the four counts, 12 bits each.
+fn packed_counts(m: Marked) -> u64
+    ensures { λ r. ⌜ r ≡ countsNumber m ⌝ }
+{
+    let answer = m.answer;
+    let counts = m.counts;
+    let positives = two_counts(counts.true_positives, counts.false_positives);
+    let negatives = two_counts(counts.false_negatives, counts.true_negatives);
+    let low = answer.number() as u64;
+    low + 256 * positives + 4294967296 * negatives
+}
+
+// The marks of a file's graph in one number: true positives, false positives, false negatives, true negatives.
 #[no_mangle]
-pub extern "C" fn skelfora_marks(file: &[u8], log: &[u8], labels: &[u8]) -> u64
+pub extern "C" fn skelfora_marks<'a>(file: &'a [u8], log: &'a [u8], labels: &'a [u8]) -> u64
     ensures { λ r. ⌜ r ≡ countsNumber (marksIn (now (file .entry)) (now (log .entry)) (now (labels .entry))) ⌝ }
 {
     let m = marked(file, log, labels);
-    let answer = m.answer;
-    let positives = two_counts(m.counts.true_positives, m.counts.false_positives);
-    let negatives = two_counts(m.counts.false_negatives, m.counts.true_negatives);
-    answer.number() as u64 + 256 * positives + 4294967296 * negatives
+    packed_counts(m)
 }
 
 // Marks as text: their number, or 7, and 256 times the text's length.
