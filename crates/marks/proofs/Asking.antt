@@ -30,24 +30,24 @@ module _ (traces : ℕ) (bytes : List ℕ) where
   abbrev byTests : Bool → Bool → Answer
   byTests many below = when non many then LabelsNotAsMany else when non below then LabelAboveOne else Done
 
-  pub not-as-many : (length bytes ≡ traces → ⊥) → LabelsNotAsMany ≡ judgedLabels traces bytes
+  pub labels-not-as-many : (length bytes ≡ traces → ⊥) → LabelsNotAsMany ≡ judgedLabels traces bytes
   unfolding judgedLabels non
-  not-as-many n = sym (ap (λ (b : Bool). byTests b (allBelow 2 bytes)) (ne-eqb (length bytes) traces n))
+  labels-not-as-many n = sym (ap (λ (b : Bool). byTests b (allBelow 2 bytes)) (ne-eqb (length bytes) traces n))
 
   module _ (r : Bool) (e : length bytes ≡ traces) (h : r ≡ allBelow 2 bytes) where
     tested : (t : Bool) → r ≡ t → byTests true t ≡ judgedLabels traces bytes
     unfolding judgedLabels
     tested t q = sym (λ i. byTests (eq-eqb (length bytes) traces e i) ((sym h ∙ q) i))
 
-    pub above-one : not r ≡ true → LabelAboveOne ≡ judgedLabels traces bytes
+    pub labels-above-one : not r ≡ true → LabelAboveOne ≡ judgedLabels traces bytes
     unfolding non
-    above-one n = tested false (not-true r n)
+    labels-above-one n = tested false (not-true r n)
 
     pub labels-fit : not r ≡ false → Done ≡ judgedLabels traces bytes
     unfolding non
     labels-fit n = tested true (not-false r n)
 
-pub ruleset labelling = (not-as-many, above-one, labels-fit)
+pub ruleset labelling = (labels-not-as-many, labels-above-one, labels-fit)
 
 -- as many as the traces, where they are not refused
 pub as-many : (traces : ℕ) (bytes : List ℕ) → judgedLabels traces bytes ≡ Done → length bytes ≡ traces

@@ -12,6 +12,7 @@
 -- Desk, 5/12: what the call desk answers at a place depends on that place's own call alone; open; a freed place.
 -- Finish, 8/12: a way out is a finishing sequence, the shortest and the first of these; 17 exactly where there is none.
 -- ShutOut, 8/12: what is said to have shut a step out is an event of the call that excludes it.
+-- Marks, 9/12: each count is the number of traces of its kind, and they add up; the measures; 18 and 19; demand 3 in marks.
 use mathlib.Core.Path.{_≡_, refl, sym, ap, subst, _∙_}
 use mathlib.Core.Bool.{Bool, true, false}
 use mathlib.Core.Logic.{_⊎_}

@@ -16,3 +16,4 @@ pub mod Light
 pub mod Desk
 pub mod Finish
 pub mod ShutOut
+pub mod Marks
