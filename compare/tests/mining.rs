@@ -157,7 +157,12 @@ fn no_such_profile() {
         }
         let mut short = [9; 127];
         assert_eq!((door.summary)(&L, FULL, &mut short), 7, "{}", door.name);
-        assert_eq!((door.summary)(&L[..18], FULL, &mut short), 1, "{}", door.name);
+        assert_eq!(
+            (door.summary)(&L[..18], FULL, &mut short),
+            1,
+            "{}",
+            door.name
+        );
         assert_eq!(short, [9; 127], "{}", door.name);
     }
 }
@@ -189,7 +194,12 @@ fn reading_7_the_empty_trace() {
     for door in doors() {
         for empty in [log(0, &[]), log(0, &[&[], &[]]), log(5, &[])] {
             let mut file = vec![0; 52];
-            assert_eq!((door.mine)(&empty, FULL, &mut file), 256 * 52, "{}", door.name);
+            assert_eq!(
+                (door.mine)(&empty, FULL, &mut file),
+                256 * 52,
+                "{}",
+                door.name
+            );
             assert_eq!(
                 replay(&door, &file, &[]),
                 (0, 255, 0, true),

@@ -167,7 +167,11 @@ fn ways(doors: &[Door]) {
         let (file, marking) = finish::bytes(&graph);
         let mut way = [0; 4];
         let ns = best(doors, |door| {
-            black_box((door.finish)(black_box(&file), black_box(&marking), &mut way));
+            black_box((door.finish)(
+                black_box(&file),
+                black_box(&marking),
+                &mut way,
+            ));
         });
         let mut line = format!("{name:<14}{:>12.2}", ns[0] / 1000.0);
         for theirs in &ns[1..] {

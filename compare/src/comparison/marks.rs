@@ -118,7 +118,8 @@ impl Comparison {
 pub fn once(comparison: &mut Comparison) {
     let all: Vec<Vec<u8>> = (0..=3u32)
         .flat_map(|count| {
-            (0..3u32.pow(count)).map(move |k| (0..count).map(|i| (k / 3u32.pow(i) % 3) as u8).collect())
+            (0..3u32.pow(count))
+                .map(move |k| (0..count).map(|i| (k / 3u32.pow(i) % 3) as u8).collect())
         })
         .collect();
     for guesses in &all {
@@ -143,7 +144,11 @@ pub fn round(comparison: &mut Comparison, prng: &mut Prng) {
         let labels = marks::labels(prng, count);
         let room = prng.one_of(&[MARKS_ROOM, MARKS_ROOM, MARKS_ROOM + 5, MARKS_ROOM - 1, 0]);
         comparison.marks(&file, &tried, &labels, room);
-        comparison.replays(&file, &tried, prng.one_of(&[count, count + 3, count.max(1) - 1]));
+        comparison.replays(
+            &file,
+            &tried,
+            prng.one_of(&[count, count + 3, count.max(1) - 1]),
+        );
     }
     for _ in 0..GUESSES {
         comparison.input("guesses");

@@ -4,6 +4,7 @@ mod desk;
 mod engine;
 mod files;
 mod finish;
+mod marks;
 mod mining;
 mod plain;
 mod wrong_steps;

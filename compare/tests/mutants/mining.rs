@@ -3,8 +3,8 @@ use super::wrong_steps::*;
 use super::{all_found, SEEDS};
 use compare::door::{self, Door, GRAPH_ROOM};
 use compare::judge::facts::{gather, Facts};
-use compare::judge::log;
 use compare::judge::graph_file;
+use compare::judge::log;
 use compare::judge::miner::relations_by;
 use compare::judge::steps::{Step, ALL};
 use compare::judge::Relations;
@@ -130,9 +130,8 @@ fn found_in_the_light_graph() {
     for door in doors {
         let told = |&(name, n, step): &(&'static str, usize, Step)| {
             let wrong = with(n, step, true);
-            let differs = |bytes: &[u8], facts: &Facts| {
-                light_by(&door, bytes) != relations_by(facts, &wrong)
-            };
+            let differs =
+                |bytes: &[u8], facts: &Facts| light_by(&door, bytes) != relations_by(facts, &wrong);
             (name, each_log(differs))
         };
         all_found(LIGHT.iter().map(told).collect());
