@@ -60,16 +60,19 @@ use Rattle.promises.proofs.Own.{mined-answer, mined-judged, own-through
 four-kinds : (n : ℕ) (v l : ℕ → Bool)
     → countBelow n (λ k. v k and l k) + countBelow n (λ k. v k and non (l k))
     + (countBelow n (λ k. non (v k) and l k) + countBelow n (λ k. non (v k) and non (l k))) ≡ n
-unfolding countBelow
+unfolding countBelow _and_ non
 four-kinds zero v l = refl
-four-kinds (suc n) v l = one (v 0) (l 0) (four-kinds n (λ k. v (suc k)) (λ k. l (suc k)))
+four-kinds (suc n) v l =
+    one (v 0) (l 0) (countBelow n (λ k. v (suc k) and l (suc k))) (countBelow n (λ k. v (suc k) and non (l (suc k))))
+    (countBelow n (λ k. non (v (suc k)) and l (suc k))) (countBelow n (λ k. non (v (suc k)) and non (l (suc k))))
+    (four-kinds n (λ k. v (suc k)) (λ k. l (suc k)))
   where
-    one : (a b : Bool) → {x y z w : ℕ} → x + y + (z + w) ≡ n
+    one : (a b : Bool) (x y z w : ℕ) → x + y + (z + w) ≡ n
         → digit (a and b) + x + (digit (a and non b) + y) + (digit (non a and b) + z + (digit (non a and non b) + w)) ≡ suc n
-    one true true e = omega arith
-    one true false e = omega arith
-    one false true e = omega arith
-    one false false e = omega arith
+    one true true x y z w e = omega arith
+    one true false x y z w e = omega arith
+    one false true x y z w e = omega arith
+    one false false x y z w e = omega arith
 
 three-true : {a b c : Bool} → a ≡ true → b ≡ true → c ≡ true → (a and b and c) ≡ true
 unfolding _and_
@@ -225,14 +228,14 @@ module _ (word : List ℕ) (m : Measure) where
 -- ================ 5. DEMAND 3 IN MARKS
 
 below-two : (n : ℕ) → allBelow 2 (replicate n 1) ≡ true
-unfolding allBelow
+unfolding allBelow _and_
 below-two zero = refl
 below-two (suc n) = below-two n
 
 all-count : (n : ℕ) → countBelow n (λ k. true) ≡ n
 unfolding countBelow
 all-count zero = refl
-all-count (suc n) = ap suc (all-count n)
+all-count (suc n) = omega (arith, all-count n)
 
 -- the graph that is mined of a log, full or light, on that log with all labels 1: every trace is a true positive
 module _ (log : List ℕ) (p : Profile) (r : Mined) (mined : mine-gives log p r) (done : numberOf (r .answer) ≡ 0) where
