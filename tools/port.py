@@ -8,6 +8,7 @@ import program
 from command import Fault
 
 GRAPH_ROOM = 2356
+MARKS_ROOM = 98
 SET = 8
 
 # A marking's sets, in the order of its bytes; enabled is what can be done next.
@@ -32,6 +33,8 @@ TAKEN = {
     "skelfora_step": [*BYTES, *BYTES, ctypes.c_uint8],
     "skelfora_finish": [*BYTES, *BYTES, *BYTES],
     "skelfora_shut_by": [*BYTES, *BYTES, ctypes.c_uint8],
+    "skelfora_marks_text": [*BYTES, *BYTES, *BYTES, *BYTES],
+    "skelfora_guesses_text": [*BYTES, *BYTES, *BYTES],
     "skelfora_desk_open": [*BYTES, *BYTES],
     "skelfora_desk_step": [*BYTES, *BYTES, ctypes.c_size_t, ctypes.c_uint8],
     "skelfora_desk_close": [*BYTES, *BYTES, ctypes.c_size_t],

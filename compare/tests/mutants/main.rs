@@ -5,6 +5,7 @@ mod enabled;
 mod engine;
 mod files;
 mod finish;
+mod marks;
 mod mining;
 mod plain;
 mod wrong_steps;

@@ -18,3 +18,4 @@ pub mod Enabled
 pub mod Finish
 pub mod ShutOut
 pub mod NotRedundant
+pub mod Marks
