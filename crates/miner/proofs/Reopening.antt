@@ -11,19 +11,19 @@ use Rattle.sets.specs.Rows.{Relation, rowAt, withRow, inRow, rowsOf, rowsFor}
 use Rattle.sets.specs.Tables.{tableAt}
 use Rattle.sets.specs.declared.set.Set.{Set}
 use Rattle.sets.proofs.Tests.{and-l, and-r, and-i, or-l, non-i, non-e, T-ext, T-eq, true→T, F→false, false→F, eqb-of, and-false, true-and, or-false, or-comm}
-use Rattle.sets.proofs.Members.{those-ext, those-of, mem-those, empty-e}
+use Rattle.sets.proofs.Members.{those-ext, mem-those, empty-e}
 use Rattle.sets.proofs.Below.{some-i}
 use Rattle.sets.proofs.MadeSets.{is-those, is-row, none}
 use Rattle.sets.proofs.RowLaws.{in-rowsOf, rowsOf-ext}
 use Rattle.sets.proofs.TableLaws.{table-rowsOf}
 use Rattle.calllog.specs.declared.trace.Part.{Part}
 use Rattle.calllog.specs.Logs.{partOf}
-use Rattle.rules.specs.Traces.{Traces, _has_, atSomeFrom, atSome, someTrace}
+use Rattle.rules.specs.Traces.{Traces, _has_, atSomeFrom, someTrace}
 use Rattle.tally.specs.Passes.{walked}
-use Rattle.tally.proofs.Turns.{pastAt, past-next, rest-next, rest-none}
+use Rattle.tally.proofs.Turns.{pastAt, past-next, rest-next}
 use Rattle.tally.proofs.Walks.{walked-next, walked-end, walked-start, part-cut}
 use Rattle.miner.specs.Facts.{Less, letInSince, reopenedIn, reopened}
-use Rattle.miner.proofs.Losing.{Same, Toward, less-none, less-row, less-as, toward-start, toward-next, toward-end, less-for}
+use Rattle.miner.proofs.Losing.{Same, Toward, less-none, less-row, toward-start, toward-next, toward-end, less-for}
 
 or-left : (a b : Bool) → (a or b) ≡ false → b ≡ false
 unfolding _or_

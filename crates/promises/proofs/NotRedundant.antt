@@ -2,8 +2,8 @@
 -- when step 7 begins, those and only those are missing in the mined graph that some u makes redundant; the includes that it asks about are the
 -- graph's own; and no exclusion is lost that the step 7 of 01 kept. Demands 2 and 3 are in Demands, as they stood. The trainers' story is
 -- computed in rules/proofs/Story and stands in the table of rules/proofs/Cases. Assumes nothing.
-use mathlib.Core.Path.{_≡_, refl, sym, ap, _∙_}
-use mathlib.Core.Bool.{Bool, false}
+use mathlib.Core.Path.{_≡_, sym}
+use mathlib.Core.Bool.{false}
 use mathlib.Core.List.{List}
 use Prim.Native.Nat.{ℕ}
 use lib.Dec.{T}
@@ -14,9 +14,9 @@ use Rattle.engine.specs.Relations.{Relations, relationsOf}
 use Rattle.calllog.specs.Logs.{logOf}
 use Rattle.rules.specs.declared.Profile.{Profile}
 use Rattle.rules.specs.Traces.{Traces}
-use Rattle.rules.specs.Mining.{event, someEvent, _without_, between, alternates, letInBetween, makesRedundant, step7, step8, step9, step10}
+use Rattle.rules.specs.Mining.{event, someEvent, _without_, between, letInBetween, makesRedundant, step7, step8, step9, step10}
 use Rattle.rules.specs.Mining.{afterSix, afterSeven, afterEight, mined}
-use Rattle.rules.proofs.Why.{Small, Reasons, some-event, the-event}
+use Rattle.rules.proofs.Why.{Small, some-event, the-event}
 use Rattle.rules.proofs.Acceptable.{small, mined-reasons}
 use Rattle.rules.proofs.FromFile.{file-accepted}
 use Rattle.rules.proofs.Story.{step7Of01, minedOf01}

@@ -1,4 +1,3 @@
-use mathlib.Core.Path.{ap, _∙_}
 use borrow.Author.Needs.{needs}
 use Rattle.miner.proofs.Losing.{lost-row}
 use Rattle.miner.proofs.redundant.lose.Statement.{statement}

@@ -1,6 +1,3 @@
-use mathlib.Core.Path.{_≡_, ap, _∙_, subst}
-use mathlib.Core.List.{List}
-use Prim.Native.Nat.{ℕ}
 use borrow.Author.Needs.{needs}
 use Rattle.sets.specs.Members.{width, mem, countBelow}
 use Rattle.sets.specs.Tables.{tableAt}

@@ -1,10 +1,5 @@
 use borrow.Author.Needs.{needs}
-use Prim.Native.Nat.{ℕ}
-use mathlib.Core.List.{List}
-use lib.Dec.{eqb}
-use Rattle.sets.specs.Tests.{_and_}
 use Rattle.sets.specs.Members.{width, mem, countBelow}
-use Rattle.sets.specs.Rows.{Relation, inRow}
 use Rattle.sets.proofs.Passing.{Part, members}
 use Rattle.miner.specs.Facts.{Less}
 use Rattle.miner.proofs.Losing.{byPassed, ownRow, each-start, each-turn, own-turn, own-end}

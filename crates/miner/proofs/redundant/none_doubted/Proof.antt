@@ -1,6 +1,4 @@
-use mathlib.Core.Path.{sym, ap, _∙_}
 use borrow.Author.Needs.{needs}
-use borrow.Author.Tests.{eq-eqb, ne-eqb}
 use Rattle.miner.proofs.Settling.{not-asked, asked-empty}
 use Rattle.miner.proofs.redundant.none_doubted.Statement.{statement}
 use Rattle.miner.proofs.redundant.none_doubted.Tie as tie

@@ -1,5 +1,4 @@
 use borrow.Author.Needs.{needs}
-use Rattle.tally.specs.Passes.{walked}
 use Rattle.miner.proofs.Composed.{seven-by}
 use Rattle.miner.proofs.redundant.put_seven.Statement.{statement}
 use Rattle.miner.proofs.redundant.put_seven.Tie as tie

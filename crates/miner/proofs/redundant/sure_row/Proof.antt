@@ -1,7 +1,6 @@
 use mathlib.Core.Path.{refl}
 use borrow.Author.Needs.{needs}
-use Rattle.sets.proofs.MadeSets.{less, is-row}
-use Rattle.miner.specs.Facts.{doubted}
+use Rattle.sets.proofs.MadeSets.{less}
 use Rattle.miner.proofs.Settling.{doubted-is}
 use Rattle.miner.proofs.redundant.sure_row.Statement.{statement}
 use Rattle.miner.proofs.redundant.sure_row.Tie as tie
