@@ -25,13 +25,14 @@ use Rattle.sets.proofs.Asking.{done-is, ask-on, ask-stop}
 use Rattle.sets.specs.declared.set.Set.{Set}
 use Rattle.sets.proofs.Tests.{true→T, false→F, or-e, either, and-false}
 use Rattle.sets.proofs.Below.{count-ext}
+use Rattle.engine.specs.Enabled.{marked}
 use Rattle.engine.specs.Judged.{judged, judgedFor}
 use Rattle.engine.specs.Markings.{emptyMarking}
 use Rattle.engine.specs.Relations.{Relations, relationsOf}
 use Rattle.engine.specs.Steps.{enabled, after, waits, blocker}
 use Rattle.engine.specs.Replay.{ending, replayFrom, replayOf}
 use Rattle.engine.specs.declared.graph.Graph.{Graph}
-use Rattle.engine.specs.declared.marking.Marking.{Marking}
+use Rattle.engine.specs.declared.marking.State.{State}
 use Rattle.calllog.specs.Judged.{allBelow}
 use Rattle.calllog.specs.Logs.{logOf}
 use Rattle.calllog.proofs.Given.{log-answer}
@@ -79,7 +80,7 @@ unfolding _and_
 three-true x y z = λ i. x i and y i and z i
 
 -- a step of what is no event is refused with 8
-lacks : (events : Set) (r : Relations) (m : Marking) (e : ℕ) → mem events e ≡ false → enabled events r m e ≡ NoEvent
+lacks : (events : Set) (r : Relations) (m : State) (e : ℕ) → mem events e ≡ false → enabled events r m e ≡ NoEvent
 unfolding enabled non
 lacks events r m e n =
     ap (λ (t : Bool). when non t then NoEvent else when non (mem (m .included) e) then NotIncluded
@@ -87,7 +88,7 @@ lacks events r m e n =
 
 -- ---- a trace with an activity that the graph lacks
 
-lacking-from : (events : Set) (r : Relations) (m : Marking) (i : ℕ) (σ : List ℕ) (a : ℕ) → T (σ has a) → mem events a ≡ false
+lacking-from : (events : Set) (r : Relations) (m : State) (i : ℕ) (σ : List ℕ) (a : ℕ) → T (σ has a) → mem events a ≡ false
     → isYes (replayFrom events r m i σ) ≡ false
 unfolding replayFrom isYes _has_
 lacking-from events r m i [] a h n = absurd h
@@ -100,7 +101,7 @@ lacking-from events r m i (e ∷ es) a h n =
         ap isDone (lacks events r m e same)
 
     by : (t : Bool) → isDone (enabled events r m e) ≡ t → (T (es has a) → isYes (replayFrom events r (after r m e) (i + 1) es) ≡ false)
-        → isYes (when t then replayFrom events r (after r m e) (i + 1) es else ending (enabled events r m e) i m false) ≡ false
+        → isYes (when t then replayFrom events r (after r m e) (i + 1) es else ending (enabled events r m e) i (marked events r m) false) ≡ false
     by false d ih = and-false (isDone (enabled events r m e))
     by true d ih = either (or-e _ _ h) (λ q. absurd (false→F (here q) (true→T d))) (λ q. ih q)
 
