@@ -98,7 +98,7 @@ module _ (file table : List ℕ) (p room : ℕ) where
 
   refused-there : (a : Answer) → a ≡ beforePlace file table p → isDone a ≡ false → finishedBy a [] ≡ deskFinishIn file table p room
   unfolding non
-  refused-there a same no = ap (λ (x : Answer). finishedBy x []) same ∙ by-both false _ (ap isDone (sym same) ∙ no) refl
+  refused-there a same e = ap (λ (x : Answer). finishedBy x []) same ∙ by-both false _ (ap isDone (sym same) ∙ e) refl
 
   module _ (b : Answer) (d : Bool) (hb : b ≡ placeAnswer table p) (hd : d ≡ isDone b) where
     pub no-such-call : not d ≡ true → finishedBy b [] ≡ deskFinishIn file table p room

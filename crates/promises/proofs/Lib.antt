@@ -16,4 +16,5 @@ pub mod Light
 pub mod Desk
 pub mod Enabled
 pub mod Finish
+pub mod FinishAtPlace
 pub mod ShutOut
