@@ -55,14 +55,14 @@ unfolding finishOf shortestOf judgedWith
 never-14 g m = by (isDone (judgedWith g m)) (ltb mostSteps (fewest (g .head .events) (relationsOf g) (m .state)))
   where
     found : Bool → Finished
-    found none =
-        when none then finishedBy NoWayOut []
+    found lost =
+        when lost then finishedBy NoWayOut []
         else finishedBy Done (wayOf (g .head .events) (relationsOf g) (fewest (g .head .events) (relationsOf g) (m .state)) (m .state))
 
-    by : (done none : Bool) → Is14 (when done then found none else finishedBy (judgedWith g m) []) → ⊥
-    by true true h = h
-    by true false h = h
-    by false none = found-one _ _ _ (λ (a : Answer). T (eqb (numberOf a) 14) → ⊥) (λ h. h) (λ h. h) (λ h. h) (λ h. h)
+    by : (done lost : Bool) → Is14 (when done then found lost else finishedBy (judgedWith g m) []) → ⊥
+    by true true = λ h. h
+    by true false = λ h. h
+    by false lost = found-one _ _ _ (λ (a : Answer). T (eqb (numberOf a) 14) → ⊥) (λ h. h) (λ h. h) (λ h. h) (λ h. h)
 
 module _ (g : Graph) (table : List ℕ) (p : ℕ) (f : Finished) (c : place-gives g table p f) where
   by-tests : (short there : Bool) → ltb (length table) tableLength ≡ short → isOpen table p ≡ there
@@ -86,7 +86,7 @@ module _ (g : Graph) (table : List ℕ) (p : ℕ) (f : Finished) (c : place-give
 
     pub place-finishes : isOpen table p ≡ true → finish-gives g (markingAtPlace table p) f
     unfolding non
-    place-finishes e = (tt, (tt, (tt, tt)), by-tests false true (le-ltb (length table) tableLength long) e)
+    place-finishes e = (tt, (g, (markingAtPlace table p, tt)), by-tests false true (le-ltb (length table) tableLength long) e)
 
   pub 14-place : numberOf (f .answer) ≡ 14 → (tableLength ≤ length table) × (isOpen table p ≡ false)
   unfolding non
