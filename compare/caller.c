@@ -9,12 +9,12 @@ long read(int file, void *bytes, size_t count);
 void *memset(void *bytes, int value, size_t count);
 
 enum { MINE, LISTING, REWRITE, REPLAY, STEP, PLAIN_STEP, PLAIN_ACCEPTING, PLAIN_REPLAY, FILL, SUMMARY, DESK_OPEN, DESK_STEP, DESK_CLOSE };
-enum { FINISH = DESK_CLOSE + 1, SHUT_BY, FUNCTIONS, END = 255 };
+enum { FINISH = DESK_CLOSE + 1, SHUT_BY, OPENING, FUNCTIONS, END = 255 };
 enum { ROOM = 1 << 18, PAST = 64, UNTOUCHED = 165 };
 
 static const char *const names[FUNCTIONS] = {"mine",         "listing", "rewrite", "replay",    "step",      "plain step", "plain accepting",
                                              "plain replay", "fill",    "summary", "desk open", "desk step", "desk close", "finish",
-                                             "shut by"};
+                                             "shut by",      "opening"};
 static uint8_t input[ROOM], beside[ROOM];
 static uint16_t memory[(ROOM + PAST) / 2], lists[4][ROOM / 2];
 static uint8_t *const lent = (uint8_t *)memory;
@@ -100,6 +100,7 @@ static uint64_t call(int function, size_t n, size_t m, size_t room, uint8_t acti
     case REPLAY: return skelfora_replay(input, n, beside, m);
     case FINISH: return skelfora_finish(input, n, beside, m, lent, room);
     case SHUT_BY: return skelfora_shut_by(input, n, beside, m, activity);
+    case OPENING: return skelfora_opening(input, n, lent, room);
     default: return skelfora_step(input, n, lent, room, activity);
     }
 }
@@ -116,6 +117,13 @@ static int blocker_in_place(int function, uint64_t given) {
     default: return skelfora_blocker(given) == 0;
     }
 }
+
+/* The header's sizes follow from one another, and a marking from four sets of 8 bytes. */
+_Static_assert(SKELFORA_MARKING_SIZE == 4 * 8, "a marking has four sets");
+_Static_assert(SKELFORA_HEAD_SIZE == 1 + 8 + SKELFORA_MARKING_SIZE, "a head has A, the events and a marking");
+_Static_assert(SKELFORA_HEAD_STORED == SKELFORA_HEAD_SIZE - 8, "a file lacks one set of it");
+_Static_assert(SKELFORA_PLACE_SIZE == 1 + SKELFORA_MARKING_SIZE, "a place has a byte and a marking");
+_Static_assert(SKELFORA_TABLE_ROOM == SKELFORA_PLACES * SKELFORA_PLACE_SIZE, "a table has 32 places");
 
 /* What the comparison with the judge does not try: a listing's buffer that is too short gets 7 and stays as it was. */
 static int short_buffers(void) {

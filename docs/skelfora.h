@@ -28,6 +28,7 @@ enum {
     SKELFORA_NO_PLACE_FREE = 13,
     SKELFORA_NOT_OPEN = 14,
     SKELFORA_NOT_ACCEPTING = 15,
+    SKELFORA_FALSE_ENABLED = 16,
     SKELFORA_NO_WAY_OUT = 17
 };
 
@@ -50,12 +51,13 @@ enum {
 #define SKELFORA_GRAPH_ROOM 2356     /* a graph file: 52, and 9 for each of 4 x 64 rows */
 #define SKELFORA_LISTING_ROOM 147506 /* a listing; skelfora_listing asks for no less */
 #define SKELFORA_SUMMARY_SIZE 128    /* a summary: a byte for each of 64 activities, twice */
-#define SKELFORA_MARKING_SIZE 24     /* a marking: executed, pending, included, 8 bytes each */
-#define SKELFORA_HEAD_AT 3           /* where the head of a graph stands in its file */
-#define SKELFORA_HEAD_SIZE 33        /* a head: A, then events, executed, pending, included, 8 bytes each */
+#define SKELFORA_MARKING_SIZE 32     /* a marking: executed, pending, included, enabled, 8 bytes each */
+#define SKELFORA_HEAD_SIZE 41        /* a head: A, then events, then a marking */
+#define SKELFORA_HEAD_AT 3           /* where the first SKELFORA_HEAD_STORED bytes of a head stand in a graph's file ... */
+#define SKELFORA_HEAD_STORED 33      /* ... which has all of it but the enabled set: skelfora_opening gives that */
 #define SKELFORA_PLACES 32           /* the places of a desk, from 0 */
-#define SKELFORA_PLACE_SIZE 25       /* a place: one byte, 0 where it is free, then its marking */
-#define SKELFORA_TABLE_ROOM 800      /* a desk's table; all zeros is a fresh desk, and more bytes are not looked at */
+#define SKELFORA_PLACE_SIZE 33       /* a place: one byte, 0 where it is free, then its marking */
+#define SKELFORA_TABLE_ROOM 1056     /* a desk's table; all zeros is a fresh desk, and more bytes are not looked at */
 #define SKELFORA_PAIRS_ROOM 4096     /* the pairs of a relation, as 16-bit numbers; a longer list is refused */
 
 /* Mines a log in a profile and writes its graph file into the first bytes of file.
@@ -78,20 +80,27 @@ uint64_t skelfora_rewrite(const uint8_t *file, size_t file_len, uint8_t *out, si
  * Gives number + 256 * place, 2^32 more where it ends accepting, and 2^40 * blocker. */
 uint64_t skelfora_replay(const uint8_t *file, size_t file_len, const uint8_t *trace, size_t trace_len);
 
-/* One step of an activity on the graph of a file, at the marking in the first 24 lent bytes.
+/* A marking has the steps that are enabled as its fourth set. One that is handed over with another set than the true one for this graph is
+ * refused with SKELFORA_FALSE_ENABLED, after SKELFORA_OUTSIDE, and stays as it was; so keep all 32 bytes as they were given back. */
+
+/* The opening marking of a graph file, with its enabled steps, into the first 32 bytes of marking.
+ * Gives the number; the file is judged before the room. Refused, marking stays as it was. */
+uint64_t skelfora_opening(const uint8_t *file, size_t file_len, uint8_t *marking, size_t room);
+
+/* One step of an activity on the graph of a file, at the marking in the first 32 lent bytes.
  * Gives number + 2^40 * blocker; the file is judged before the room for the marking. */
 uint64_t skelfora_step(const uint8_t *file, size_t file_len, uint8_t *marking, size_t marking_len, uint8_t activity);
 
-/* The plain engine: a graph is its head in the first 33 bytes, and four lists of pairs, source * 256 + target; lengths count pairs.
- * Fewer than 33 bytes give 7, before all else. */
+/* The plain engine: a graph is its head in the first 41 bytes, and four lists of pairs, source * 256 + target; lengths count pairs.
+ * Fewer than 41 bytes give 7, before all else. A head whose own enabled set is false gives SKELFORA_FALSE_ENABLED. */
 
-/* One step of an activity at the marking in the first 24 lent bytes.
+/* One step of an activity at the marking in the first 32 lent bytes.
  * Gives number + 2^40 * blocker; the graph is judged before the room for the marking. */
 uint64_t skelfora_plain_step(const uint8_t *head, size_t head_len, const uint16_t *conditions, size_t conditions_len,
                              const uint16_t *responses, size_t responses_len, const uint16_t *includes, size_t includes_len,
                              const uint16_t *excludes, size_t excludes_len, uint8_t *marking, size_t marking_len, uint8_t activity);
 
-/* Whether the marking in the first 24 bytes is accepting.
+/* Whether the marking in the first 32 bytes is accepting.
  * Gives the number, and 2^32 more where it is. */
 uint64_t skelfora_plain_accepting(const uint8_t *head, size_t head_len, const uint16_t *conditions, size_t conditions_len,
                                   const uint16_t *responses, size_t responses_len, const uint16_t *includes, size_t includes_len,
@@ -103,10 +112,10 @@ uint64_t skelfora_plain_replay(const uint8_t *head, size_t head_len, const uint1
                                const uint16_t *responses, size_t responses_len, const uint16_t *includes, size_t includes_len,
                                const uint16_t *excludes, size_t excludes_len, const uint8_t *trace, size_t trace_len);
 
-/* How a half-done call can still finish: from a marking of 24 bytes the shortest way to its end, at most SKELFORA_WAY_ROOM steps, and of these
+/* How a half-done call can still finish: from a marking of 32 bytes the shortest way to its end, at most SKELFORA_WAY_ROOM steps, and of these
  * the first by activity numbers, into the first bytes of way; SKELFORA_NO_STEP in those that are not used, in all where the call may end now.
- * Gives the number: the file's, SKELFORA_BUFFER_TOO_SMALL for fewer than 24 bytes or fewer than four, SKELFORA_OUTSIDE,
- * SKELFORA_NO_WAY_OUT where no four steps end it. Refused, way stays as it was. */
+ * Gives the number: the file's, SKELFORA_BUFFER_TOO_SMALL for fewer than 32 bytes or fewer than four, SKELFORA_OUTSIDE,
+ * SKELFORA_FALSE_ENABLED, SKELFORA_NO_WAY_OUT where no four steps end it. Refused, way stays as it was. */
 uint64_t skelfora_finish(const uint8_t *file, size_t file_len, const uint8_t *marking, size_t marking_len, uint8_t *way, size_t room);
 
 /* What shut an activity out last in a trace and was not followed by what lets it in: any trace, of any length. Gives number + 256 * that
@@ -117,7 +126,7 @@ uint64_t skelfora_shut_by(const uint8_t *file, size_t file_len, const uint8_t *t
  * Gives number + 256 * how many pairs. */
 uint64_t skelfora_fill(const uint8_t *file, size_t file_len, uint8_t kind, uint16_t *memory, size_t room);
 
-/* The call desk: the graph of a file, and a table of 32 places in the first 800 lent bytes. Fewer bytes give 7, before all else. Of step and
+/* The call desk: the graph of a file, and a table of 32 places in the first 1,056 lent bytes. Fewer bytes give 7, before all else. Of step and
  * close 14 comes next (the place is above 31 or not open), then the file's refusals. A refusal leaves the whole table as it was. */
 
 /* Gives the lowest free place a call at the graph's opening marking.

@@ -6,6 +6,7 @@ from collections import namedtuple
 
 import logfile
 import names
+import port
 import proved
 from command import REFUSED, Command, Fault, Parser, say, write
 
@@ -115,18 +116,12 @@ def own_names(path):
     return beside if path != "-" and os.path.exists(beside) else None
 
 
-def members(data):
-    """A set of 8 bytes as step numbers, rising."""
-    bits = int.from_bytes(data, "little")
-    return [step for step in range(64) if bits >> step & 1]
-
-
 class Call:
     """A call on a graph: the steps that were done, and the marking then."""
 
     def __init__(self, library, graph):
         self.library, self.graph = library, graph
-        self.done, self.marking = b"", graph[proved.MARKING]
+        self.done, self.marking = b"", library.opening(graph)
 
     def step(self, activity):
         """Does a step if it can be done."""
@@ -137,19 +132,19 @@ class Call:
         return stepped
 
     def events(self):
-        return members(self.graph[4:12])
+        return port.members(self.graph[4:12])
 
     def included(self):
-        return members(self.marking[16:24])
+        return port.sets(self.marking).included
 
     def owed(self):
         """Pending and included."""
-        included = self.included()
-        return [step for step in members(self.marking[8:16]) if step in included]
+        sets = port.sets(self.marking)
+        return [step for step in sets.pending if step in sets.included]
 
     def open(self):
-        """What could be done next: each step is tried, and the marking stays."""
-        return [step for step in self.events() if self.library.step(self.graph, self.marking, step).number == DONE]
+        """What could be done next: the marking holds it."""
+        return port.sets(self.marking).enabled
 
     def may_end(self):
         return self.library.accepts(self.graph, self.done)

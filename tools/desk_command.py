@@ -13,8 +13,8 @@ The call desk: one graph, and 32 places for vessels in port, each at its own mar
   open        gives the lowest free place a call at the opening state
   step P A    runs activity A at place P
   close P     frees place P, where its call may end
-  show        which places are open
-  show P      what is executed, pending and included at place P
+  show        which places are open, and at each which activities are open
+  show P      what is executed, pending, included and enabled at place P
 
 The first three are answered by the proved library with one line: number, place, blocker (docs/FORMATS.md has the numbers).
 
@@ -112,21 +112,25 @@ class Desk:
         return given if port.number(given) == NOT_OPEN else None
 
     def places(self):
-        found = [str(place) for place in range(port.PLACES) if self.not_open(place) is None]
-        return "open " + (" ".join(found) or "none")
+        """Each open place with its open activities, as the marking there holds them."""
+        found = [place for place in range(port.PLACES) if self.not_open(place) is None]
+        told = [f"{place}: {self.listed(self.sets(place).enabled)}" for place in found]
+        return "open " + ("; ".join(told) or "none")
+
+    def sets(self, place):
+        at = port.PLACE * place + 1
+        return port.sets(self.table.raw[at : at + port.MARKING])
 
     def show(self, place):
         refused = self.not_open(place)
         if refused is not None:
             return self.answer(refused, place)
-        at = port.PLACE * place + 1
-        sets = [int.from_bytes(self.table.raw[at + 8 * k : at + 8 * k + 8], "little") for k in range(3)]
-        told = [f"{what} {self.members(bits)}" for what, bits in zip(("executed", "pending", "included"), sets)]
+        told = [f"{what} {self.listed(steps)}" for what, steps in self.sets(place)._asdict().items()]
         return f"place {place} {' '.join(told)}"
 
-    def members(self, bits):
+    def listed(self, steps):
         separator = ", " if self.called is not None else " "
-        return separator.join(self.name(step) for step in range(64) if bits >> step & 1) or "none"
+        return separator.join(map(self.name, steps)) or "none"
 
     def asked(self, line):
         """The answer to a line."""

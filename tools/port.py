@@ -1,13 +1,20 @@
 """The proved library, loaded: the functions of docs/PORT.md that the commands call. It is built first, if anything changed."""
 import ctypes
 import os
+from collections import namedtuple
 
 import library_command
 import program
 from command import Fault
 
 GRAPH_ROOM = 2356
-PLACES, PLACE = 32, 25
+SET = 8
+
+# A marking's sets, in the order of its bytes; enabled is what can be done next.
+Sets = namedtuple("Sets", "executed pending included enabled")
+MARKING = SET * len(Sets._fields)
+
+PLACES, PLACE = 32, 1 + MARKING
 NO_PLACE = 255
 FULL = 0
 
@@ -21,6 +28,7 @@ TAKEN = {
     "skelfora_mine": [*BYTES, ctypes.c_uint8, *BYTES],
     "skelfora_rewrite": [*BYTES, *BYTES],
     "skelfora_replay": [*BYTES, *BYTES],
+    "skelfora_opening": [*BYTES, *BYTES],
     "skelfora_step": [*BYTES, *BYTES, ctypes.c_uint8],
     "skelfora_finish": [*BYTES, *BYTES, *BYTES],
     "skelfora_shut_by": [*BYTES, *BYTES, ctypes.c_uint8],
@@ -67,6 +75,17 @@ def blocker(given):
 
 def accepting(given):
     return given >> 32 & 1 == 1
+
+
+def members(data):
+    """A set of 8 bytes as step numbers, rising."""
+    bits = int.from_bytes(data, "little")
+    return [step for step in range(8 * SET) if bits >> step & 1]
+
+
+def sets(marking):
+    """The four sets of a marking, each as step numbers."""
+    return Sets(*(members(marking[at : at + SET]) for at in range(0, MARKING, SET)))
 
 
 def buffer(room):

@@ -4,7 +4,6 @@ from collections import namedtuple
 import port
 from port import number, place
 
-MARKING = slice(12, 36)  # where a graph file has its opening marking
 NO_STEP = 255
 
 Stepped = namedtuple("Stepped", "number blocker marking")
@@ -28,6 +27,12 @@ class Library:
 
     def accepts(self, file, trace):
         return port.accepting(self.call("skelfora_replay", file, trace))
+
+    def opening(self, file):
+        """The opening marking of a graph file that was judged."""
+        lent = port.buffer(port.MARKING)
+        self.call("skelfora_opening", file, lent)
+        return lent.raw
 
     def step(self, file, marking, activity):
         """The marking after it is the one before it where the step is refused."""

@@ -1,4 +1,4 @@
-//! The thirteen functions of the proved library `port`, as every implementation offers them.
+//! The sixteen functions of the proved library `port`, as every implementation offers them.
 //! Numbers and bytes only, so that results can be compared to the byte.
 use crate::value::{Answer, PlainGraph, Request};
 
@@ -28,11 +28,13 @@ pub struct Door {
     pub replay: fn(&[u8], &[u8]) -> u64,
     /// graph file, graph file
     pub rewrite: Fill,
-    /// graph file, marking (executed, pending, included: 24 bytes, with fewer 7), activity
+    /// graph file, marking: the graph's opening one (with fewer than `MARKING` bytes 7) -> number
+    pub opening: Fill,
+    /// graph file, marking (with fewer than `MARKING` bytes 7), activity
     /// -> number + 2^40 x blocker
     pub step: fn(&[u8], &mut [u8], u8) -> u64,
-    /// graph file, marking (with fewer than 24 bytes 7), the four steps of the way (with fewer
-    /// than four bytes 7) -> number
+    /// graph file, marking (with fewer than `MARKING` bytes 7), the four steps of the way (with
+    /// fewer than four bytes 7) -> number
     pub finish: fn(&[u8], &[u8], &mut [u8]) -> u64,
     /// graph file, trace, activity -> number + 256 x what shut it out, 255 where nothing did
     pub shut_by: fn(&[u8], &[u8], u8) -> u64,
@@ -69,13 +71,24 @@ pub const WAY: usize = 4;
 /// Stands in an activity's stead where there is none.
 pub const NO_ACTIVITY: u8 = 255;
 
-/// A plain graph's head: A, events, executed, pending, included.
-pub const HEAD: usize = 33;
+/// A set in bytes.
+pub const SET: usize = 8;
+
+/// A lent marking: executed, pending, included, enabled (02, 6/12).
+pub const MARKING: usize = 4 * SET;
+
+/// A plain graph's head: A, events, and a marking, which begins at `HEAD_MARKING`.
+pub const HEAD_MARKING: usize = 1 + SET;
+pub const HEAD: usize = HEAD_MARKING + MARKING;
 
 /// A desk's places; of each a byte, 0 where it is free, then its marking; and the whole table.
 pub const PLACES: usize = 32;
-pub const PLACE: usize = 25;
+pub const PLACE: usize = 1 + MARKING;
 pub const TABLE_ROOM: usize = PLACES * PLACE;
+
+/// The part of a graph file that a plain graph's head begins with: A, events and three sets. The
+/// file has no fourth.
+pub const FILE_HEAD: std::ops::Range<usize> = 3..36;
 
 /// Stands in a place's stead where open is refused.
 pub const NO_PLACE: usize = 255;

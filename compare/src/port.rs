@@ -35,6 +35,12 @@ mod sys {
         ) -> u64;
         pub fn skelfora_rewrite(file: *const u8, file_len: usize, out: *mut u8, room: usize)
             -> u64;
+        pub fn skelfora_opening(
+            file: *const u8,
+            file_len: usize,
+            marking: *mut u8,
+            room: usize,
+        ) -> u64;
         pub fn skelfora_step(
             file: *const u8,
             file_len: usize,
@@ -160,6 +166,11 @@ mod calls {
         unsafe { sys::skelfora_rewrite(file.as_ptr(), file.len(), out.as_mut_ptr(), out.len()) }
     }
 
+    pub fn opening(file: &[u8], marking: &mut [u8]) -> u64 {
+        let (lent, room) = (marking.as_mut_ptr(), marking.len());
+        unsafe { sys::skelfora_opening(file.as_ptr(), file.len(), lent, room) }
+    }
+
     pub fn step(file: &[u8], marking: &mut [u8], activity: u8) -> u64 {
         let (lent, room) = (marking.as_mut_ptr(), marking.len());
         unsafe { sys::skelfora_step(file.as_ptr(), file.len(), lent, room, activity) }
@@ -256,6 +267,7 @@ pub fn door() -> Option<Door> {
         summary: calls::summary,
         replay: calls::replay,
         rewrite: calls::rewrite,
+        opening: calls::opening,
         step: calls::step,
         finish: calls::finish,
         shut_by: calls::shut_by,

@@ -3,11 +3,13 @@
 /// One set for each activity number, bit a for activity a.
 pub type Rows = [u64; 64];
 
+/// Any four sets: the last may be another than the set of enabled events (02, 6/12).
 #[derive(Clone, Copy, PartialEq, Eq, Debug, Default)]
 pub struct MarkingValue {
     pub executed: u64,
     pub pending: u64,
     pub included: u64,
+    pub enabled: u64,
 }
 
 /// A graph as a value: nothing about it is promised, it may be one that 01 refuses.
@@ -31,6 +33,7 @@ impl GraphValue {
             executed: 0,
             pending: 0,
             included: 0,
+            enabled: 0,
         },
         conditions: [0; 64],
         responses: [0; 64],

@@ -9,8 +9,8 @@ use compare::value::{GraphValue, MarkingValue};
 const BY_NONE: u64 = 255 << 40;
 const NOWHERE: u64 = 255 * 256;
 
-/// A place's bytes: its first, then three sets that only have activities below 8.
-fn place(first: u8, low: [u8; 3]) -> Vec<u8> {
+/// A place's bytes: its first, then four sets that only have activities below 8.
+fn place(first: u8, low: [u8; 4]) -> Vec<u8> {
     let mut bytes = vec![first];
     for low in low {
         bytes.extend([low, 0, 0, 0, 0, 0, 0, 0]);
@@ -40,14 +40,14 @@ fn a_call_on_g() {
         let mut table = fresh();
         assert_eq!((door.desk_open)(&g, &mut table), 0);
         assert_eq!((door.desk_open)(&g, &mut table), 256);
-        let opening = place(1, [0, 0, 7]);
-        let two = [opening.clone(), opening.clone(), vec![0; 750]].concat();
+        let opening = place(1, [0, 0, 7, 1]);
+        let two = [opening.clone(), opening.clone(), vec![0; 30 * 33]].concat();
         assert_eq!(table, two, "{}", door.name);
         let cases = [
-            (2, 10, [0, 0, 7]),
-            (3, 8 + BY_NONE, [0, 0, 7]),
-            (0, BY_NONE, [1, 4, 6]),
-            (0, 9 + BY_NONE, [1, 4, 6]),
+            (2, 10, [0, 0, 7, 1]),
+            (3, 8 + BY_NONE, [0, 0, 7, 1]),
+            (0, BY_NONE, [1, 4, 6, 6]),
+            (0, 9 + BY_NONE, [1, 4, 6, 6]),
         ];
         for (activity, wanted, marking) in cases {
             let given = (door.desk_step)(&g, &mut table, 0, activity);
@@ -57,9 +57,9 @@ fn a_call_on_g() {
         assert_eq!((door.desk_close)(&g, &mut table, 0), 15, "{}", door.name);
         assert_eq!((door.desk_step)(&g, &mut table, 1, 2), 10, "{}", door.name);
         assert_eq!((door.desk_step)(&g, &mut table, 0, 2), BY_NONE);
-        assert_eq!(at(&table, 0), place(1, [5, 0, 0]), "{}", door.name);
+        assert_eq!(at(&table, 0), place(1, [5, 0, 0, 0]), "{}", door.name);
         assert_eq!((door.desk_close)(&g, &mut table, 0), 0, "{}", door.name);
-        let one = [vec![0; 25], opening, vec![0; 750]].concat();
+        let one = [vec![0; 33], opening, vec![0; 30 * 33]].concat();
         assert_eq!(table, one, "{}", door.name);
         assert_eq!((door.desk_step)(&g, &mut table, 0, 0), 14 + BY_NONE);
         assert_eq!((door.desk_open)(&g, &mut table), 0, "{}", door.name);
@@ -98,16 +98,17 @@ fn refused(door: &Door, file: &[u8], table: &[u8], place: usize) -> (u64, u64) {
     (step % 256, close)
 }
 
-/// 7, then 14, then the file's own numbers, then the marking's 5, then 15.
+/// 7, then 14, then the file's own numbers, then the marking's 5, its 16, then 15.
 #[test]
 fn refusals_in_order() {
     let g = g_file();
     let mut wrong_row = g.clone();
     wrong_row[52] = 3;
-    let pending = all(&place(1, [1, 4, 6]));
-    let stray = all(&place(9, [8, 4, 4]));
+    let pending = all(&place(1, [1, 4, 6, 6]));
+    let stray = all(&place(9, [8, 4, 4, 4]));
+    let both = all(&place(9, [8, 4, 4, 0]));
     for door in doors() {
-        for short in [0, 799] {
+        for short in [0, 800, 1055] {
             assert_eq!(refused(&door, &g[..51], &pending[..short], 99), (7, 7));
         }
         for number in [32, 33, 255, 256, usize::MAX] {
@@ -117,6 +118,13 @@ fn refusals_in_order() {
         assert_eq!(refused(&door, &g[..51], &stray, 31), (1, 1));
         assert_eq!(refused(&door, &wrong_row, &pending, 31), (5, 5));
         assert_eq!(refused(&door, &g, &stray, 31), (5, 5));
+        assert_eq!(refused(&door, &g, &both, 31), (5, 5));
+        for set in [0, 2, 7, 14, 255] {
+            let untrue = all(&place(1, [1, 4, 6, set]));
+            assert_eq!(refused(&door, &g, &untrue, 31), (16, 16));
+            assert_eq!(refused(&door, &g[..51], &untrue, 31), (1, 1));
+            assert_eq!(refused(&door, &g, &untrue, 32), (14, 14));
+        }
         assert_eq!(refused(&door, &g, &pending, 31), (9, 15));
     }
 }
@@ -125,14 +133,14 @@ fn refusals_in_order() {
 #[test]
 fn open_refused_in_order() {
     let g = g_file();
-    let full = all(&place(1, [8, 0, 0]));
+    let full = all(&place(1, [8, 0, 0, 9]));
     for door in doors() {
         let cases: [(&[u8], &[u8], u64); 6] = [
-            (&g[..51], &full[..799], 7 + NOWHERE),
+            (&g[..51], &full[..1055], 7 + NOWHERE),
             (&g[..51], &full, 1 + NOWHERE),
             (&g[..51], &fresh(), 1 + NOWHERE),
             (&g, &full, 13 + NOWHERE),
-            (&g, &full[..799], 7 + NOWHERE),
+            (&g, &full[..1055], 7 + NOWHERE),
             (&[], &[], 7 + NOWHERE),
         ];
         for (file, table, wanted) in cases {
@@ -143,28 +151,29 @@ fn open_refused_in_order() {
         let mut table = full.clone();
         table[0] = 0;
         assert_eq!((door.desk_open)(&g, &mut table), 0, "{}", door.name);
-        assert_eq!(at(&table, 0), place(1, [0, 0, 7]), "{}", door.name);
-        assert_eq!(table[25..], full[25..], "{}", door.name);
+        assert_eq!(at(&table, 0), place(1, [0, 0, 7, 1]), "{}", door.name);
+        assert_eq!(table[33..], full[33..], "{}", door.name);
     }
 }
 
 /// Any first byte but 0 says that a place is open, and a step leaves it; bytes beyond the table
-/// stay; a marking that is outside the events elsewhere does not matter.
+/// stay; a marking that is outside the events elsewhere, or false, does not matter.
 #[test]
 fn any_bytes() {
     let g = g_file();
     for door in doors() {
-        let mut table = all(&place(200, [255, 255, 255]));
-        table[PLACE * 4..PLACE * 5].copy_from_slice(&place(77, [0, 0, 7]));
+        let mut table = all(&place(200, [255, 255, 255, 255]));
+        table[PLACE * 3..PLACE * 4].copy_from_slice(&place(1, [0, 0, 7, 0]));
+        table[PLACE * 4..PLACE * 5].copy_from_slice(&place(77, [0, 0, 7, 1]));
         table.extend([5; 40]);
         let before = table.clone();
         assert_eq!((door.desk_step)(&g, &mut table, 4, 0), BY_NONE);
-        assert_eq!(at(&table, 4), place(77, [1, 4, 6]), "{}", door.name);
+        assert_eq!(at(&table, 4), place(77, [1, 4, 6, 6]), "{}", door.name);
         assert_eq!((door.desk_step)(&g, &mut table, 4, 2), BY_NONE);
         assert_eq!((door.desk_close)(&g, &mut table, 4), 0, "{}", door.name);
-        assert_eq!(at(&table, 4), vec![0; 25], "{}", door.name);
-        assert_eq!(table[..100], before[..100], "{}", door.name);
-        assert_eq!(table[125..], before[125..], "{}", door.name);
+        assert_eq!(at(&table, 4), vec![0; 33], "{}", door.name);
+        assert_eq!(table[..132], before[..132], "{}", door.name);
+        assert_eq!(table[165..], before[165..], "{}", door.name);
     }
 }
 
@@ -175,7 +184,7 @@ fn an_empty_marking_is_no_free_place() {
     for door in doors() {
         let mut table = fresh();
         assert_eq!((door.desk_open)(&none, &mut table), 0, "{}", door.name);
-        assert_eq!(at(&table, 0), place(1, [0, 0, 0]), "{}", door.name);
+        assert_eq!(at(&table, 0), place(1, [0, 0, 0, 0]), "{}", door.name);
         assert_eq!((door.desk_open)(&none, &mut table), 256, "{}", door.name);
         assert_eq!((door.desk_step)(&none, &mut table, 0, 0), 8 + BY_NONE);
         assert_eq!((door.desk_close)(&none, &mut table, 0), 0, "{}", door.name);
@@ -183,13 +192,15 @@ fn an_empty_marking_is_no_free_place() {
     }
 }
 
-/// Open takes the graph's own marking, whatever it is: here 0 is executed, 1 owed, 1 included.
+/// Open takes the graph's own marking, whatever it is: here 0 is executed, 1 owed, 1 included, and
+/// so 1 is enabled. The file does not say that.
 #[test]
 fn the_opening_state() {
     let marking = MarkingValue {
         executed: 1,
         pending: 2,
         included: 2,
+        enabled: 0,
     };
     let graph = file(&GraphValue {
         a: 2,
@@ -200,7 +211,7 @@ fn the_opening_state() {
     for door in doors() {
         let mut table = fresh();
         assert_eq!((door.desk_open)(&graph, &mut table), 0, "{}", door.name);
-        assert_eq!(at(&table, 0), place(1, [1, 2, 2]), "{}", door.name);
+        assert_eq!(at(&table, 0), place(1, [1, 2, 2, 2]), "{}", door.name);
         assert_eq!((door.desk_close)(&graph, &mut table, 0), 15);
         assert_eq!((door.desk_step)(&graph, &mut table, 0, 1), BY_NONE);
         assert_eq!((door.desk_close)(&graph, &mut table, 0), 0);

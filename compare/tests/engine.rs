@@ -4,18 +4,22 @@ use common::*;
 use compare::judge::graph::{graph_of, marking_of, marking_value};
 use compare::seeds::graphs::{file, marking_bytes};
 use compare::value::{Answer, GraphValue, MarkingValue, Replayed};
+use compare::yardstick::engine::kept;
 use compare::{judge, yardstick};
 
 fn set(members: &[u8]) -> u64 {
     members.iter().map(|a| 1u64 << a).sum()
 }
 
-fn marking(executed: &[u8], pending: &[u8], included: &[u8]) -> MarkingValue {
-    MarkingValue {
+/// What is enabled then stands in `tests/enabled.rs` by hand; here it is worked out.
+fn marking(graph: &GraphValue, executed: &[u8], pending: &[u8], included: &[u8]) -> MarkingValue {
+    let sets = MarkingValue {
         executed: set(executed),
         pending: set(pending),
         included: set(included),
-    }
+        enabled: 0,
+    };
+    kept(graph, sets)
 }
 
 /// Judge and yardstick on a step of a value.
@@ -73,7 +77,7 @@ fn traces_on_g() {
 /// After 0 on G: 2 pending, 0 shut out. A refusal gives the marking before its event.
 #[test]
 fn reading_12_marking_of_a_replay() {
-    let after_0 = marking(&[0], &[2], &[1, 2]);
+    let after_0 = marking(&g(), &[0], &[2], &[1, 2]);
     for done in replayed(&g(), &[0]) {
         assert_eq!(
             done,
@@ -109,8 +113,8 @@ fn table_3() {
     graph.responses[4] = set(&[2]);
     graph.includes[4] = set(&[2]);
     graph.excludes[4] = set(&[7]);
-    let from = marking(&[0], &[1, 4], &[1, 4, 7]);
-    let then = marking(&[0, 4], &[1, 2], &[1, 2, 4]);
+    let from = marking(&graph, &[0], &[1, 4], &[1, 4, 7]);
+    let then = marking(&graph, &[0, 4], &[1, 2], &[1, 2, 4]);
     for outcome in executed(&graph, from, 4) {
         assert_eq!(outcome, (Ok(()), then));
     }
@@ -133,13 +137,13 @@ fn paper_graph() -> GraphValue {
         events: 15,
         ..GraphValue::EMPTY
     };
-    graph.marking = marking(&[], &[0], &[0, 2, 3]);
     graph.conditions[1] = set(&[0]);
     graph.conditions[0] = set(&[1]);
     graph.responses[0] = set(&[1]);
     graph.responses[1] = set(&[0]);
     graph.includes[2] = set(&[1]);
     graph.excludes[3] = set(&[1, 3]);
+    graph.marking = marking(&graph, &[], &[0], &[0, 2, 3]);
     graph
 }
 
@@ -178,9 +182,11 @@ fn order_of_the_effects() {
     graph.responses[0] = set(&[0]);
     graph.includes[0] = set(&[1]);
     graph.excludes[0] = set(&[0, 1]);
-    let from = marking(&[], &[0, 1], &[0]);
+    graph.marking = kept(&graph, graph.marking);
+    let from = marking(&graph, &[], &[0, 1], &[0]);
+    let then = marking(&graph, &[0], &[0, 1], &[1]);
     for outcome in executed(&graph, from, 0) {
-        assert_eq!(outcome, (Ok(()), marking(&[0], &[0, 1], &[1])));
+        assert_eq!(outcome, (Ok(()), then));
     }
 }
 
@@ -191,7 +197,7 @@ fn lengths_512_and_513() {
         events: 1,
         ..GraphValue::EMPTY
     };
-    graph.marking.included = 1;
+    graph.marking = marking(&graph, &[], &[], &[0]);
     let bytes = file(&graph);
     for door in doors() {
         assert_eq!(
@@ -251,13 +257,14 @@ fn readings_10_and_11_graph_values() {
 /// A marking of too few bytes gives 7, after the file's own refusals and before 5.
 #[test]
 fn a_marking_too_short() {
-    let stray = marking_bytes(&marking(&[63], &[], &[]));
+    let stray = marking_bytes(&marking(&g(), &[63], &[], &[]));
     for door in doors() {
         for (file, length, wanted) in [
-            (&g_file()[..51], 23, 1),
-            (&g_file(), 23, 7),
+            (&g_file()[..51], 31, 1),
+            (&g_file(), 31, 7),
+            (&g_file(), 24, 7),
             (&g_file(), 0, 7),
-            (&g_file(), 24, 5),
+            (&g_file(), 32, 5),
         ] {
             let mut lent = stray[..length].to_vec();
             let given = answer((door.step)(file, &mut lent, 0));
@@ -270,7 +277,7 @@ fn a_marking_too_short() {
 /// The marking handed beside a graph: 5 after the graph's own, before 8; left as it was.
 #[test]
 fn a_marking_beside_the_graph() {
-    let stray = marking(&[], &[], &[0, 3]);
+    let stray = marking(&g(), &[], &[], &[0, 3]);
     for outcome in executed(&g(), stray, 200) {
         assert_eq!(outcome, (Err(5.into()), stray));
     }
@@ -282,7 +289,8 @@ fn a_marking_beside_the_graph() {
     }
     for (e, number, blocker) in [(3, 8, 255), (0, 9, 255), (2, 10, 0)] {
         let wanted = Answer { number, blocker };
-        let from = marking(&[], &[1], if e == 0 { &[1] } else { &[0, 1, 2] });
+        let included: &[u8] = if e == 0 { &[1] } else { &[0, 1, 2] };
+        let from = marking(&g(), &[], &[1], included);
         for outcome in executed(&g(), from, e) {
             assert_eq!(outcome, (Err(wanted), from));
         }
@@ -310,7 +318,7 @@ fn the_smallest_blocks() {
     ];
     for (executed, included, wanted) in cases {
         for door in doors() {
-            let mut lent = marking_bytes(&marking(executed, &[], included));
+            let mut lent = marking_bytes(&marking(&graph, executed, &[], included));
             let given = answer((door.step)(&file(&graph), &mut lent, 2));
             assert_eq!(given, wanted, "{} {executed:?} {included:?}", door.name);
         }

@@ -1,9 +1,10 @@
 //! The way out, and what shut a step out, with results worked out by hand from 02's 8/12.
 mod common;
 use common::*;
-use compare::door::Door;
+use compare::door::{Door, MARKING};
 use compare::seeds::graphs::{file, marking_bytes};
 use compare::value::{GraphValue, MarkingValue};
+use compare::yardstick::engine::kept;
 
 const NONE: [u8; 4] = [255; 4];
 
@@ -14,18 +15,16 @@ fn three(pending: u64) -> GraphValue {
         events: 7,
         ..GraphValue::EMPTY
     };
-    graph.marking = MarkingValue {
-        executed: 0,
-        pending,
-        included: 7,
-    };
+    graph.marking.pending = pending;
+    graph.marking.included = 7;
     graph
 }
 
-/// The number, and four bytes that had 165.
-fn finish(door: &Door, graph: &GraphValue, marking: &MarkingValue) -> (u64, [u8; 4]) {
+/// The number, and four bytes that had 165, at the graph's marking with its set.
+fn finish(door: &Door, graph: &GraphValue) -> (u64, [u8; 4]) {
     let mut way = [165; 4];
-    let number = (door.finish)(&file(graph), &marking_bytes(marking), &mut way);
+    let marking = marking_bytes(&kept(graph, graph.marking));
+    let number = (door.finish)(&file(graph), &marking, &mut way);
     (number, way)
 }
 
@@ -33,7 +32,7 @@ fn gives(graph: &GraphValue, way: &[u8]) {
     let mut wanted = NONE;
     wanted[..way.len()].copy_from_slice(way);
     for door in doors() {
-        let given = finish(&door, graph, &graph.marking);
+        let given = finish(&door, graph);
         assert_eq!(given, (0, wanted), "{}", door.name);
     }
 }
@@ -48,10 +47,13 @@ fn on_g() {
             executed: 1,
             pending: 4,
             included: 6,
+            enabled: 6,
         });
         assert_eq!((door.finish)(&g, &begun, &mut way), 0, "{}", door.name);
         assert_eq!(way, [2, 255, 255, 255, 165, 165], "{}", door.name);
-        assert_eq!((door.finish)(&g, &g[12..36], &mut way), 0, "{}", door.name);
+        let mut opening = [0; MARKING];
+        assert_eq!((door.opening)(&g, &mut opening), 0, "{}", door.name);
+        assert_eq!((door.finish)(&g, &opening, &mut way), 0, "{}", door.name);
         assert_eq!(way, [255, 255, 255, 255, 165, 165], "{}", door.name);
     }
 }
@@ -114,7 +116,7 @@ fn none_within_four() {
     stuck.conditions[0] = 1;
     for door in doors() {
         for graph in [&graph, &stuck] {
-            let given = finish(&door, graph, &graph.marking);
+            let given = finish(&door, graph);
             assert_eq!(given, (17, [165; 4]), "{}", door.name);
         }
     }
@@ -123,7 +125,7 @@ fn none_within_four() {
     gives(&stuck, &[]);
 }
 
-/// The file's refusals, then 7, for the marking or the way, then the marking's 5, then 17.
+/// The file's refusals, then 7, for the marking or the way, then the marking's 5, its 16, then 17.
 #[test]
 fn refusals_in_order() {
     let mut stuck = three(1);
@@ -133,17 +135,27 @@ fn refusals_in_order() {
     large[3] = 65;
     let mut outside = sound.clone();
     outside[4] = 15;
+    // 0 waits for itself: 1 and 2 are enabled
+    stuck.marking.enabled = 6;
     let marking = marking_bytes(&stuck.marking);
     let mut stray = marking;
     stray[0] = 8;
-    let cases: [(&[u8], &[u8], usize, u64); 9] = [
-        (&[], &stray[..23], 3, 1),
-        (&large, &stray[..23], 3, 3),
-        (&outside, &stray[..23], 3, 5),
-        (&sound, &stray[..23], 4, 7),
+    let mut untrue = marking;
+    untrue[24] = 7;
+    let mut both = stray;
+    both[24] = 7;
+    let cases: [(&[u8], &[u8], usize, u64); 13] = [
+        (&[], &stray[..31], 3, 1),
+        (&large, &stray[..31], 3, 3),
+        (&outside, &stray[..31], 3, 5),
+        (&sound, &stray[..31], 4, 7),
+        (&sound, &stray[..24], 4, 7),
         (&sound, &stray, 3, 7),
         (&sound, &stray, 0, 7),
         (&sound, &stray, 4, 5),
+        (&sound, &both, 4, 5),
+        (&sound, &untrue, 3, 7),
+        (&sound, &untrue, 4, 16),
         (&sound, &marking, 4, 17),
         (&sound, &marking, 9, 17),
     ];

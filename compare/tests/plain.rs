@@ -1,7 +1,7 @@
 //! The plain engine's functions, with results worked out by hand from 01 and 02's 1/12.
 mod common;
 use common::*;
-use compare::door::Door;
+use compare::door::{Door, MARKING};
 use compare::seeds::{graphs::file, plain::borders};
 use compare::value::{GraphValue, PlainGraph};
 
@@ -16,7 +16,7 @@ fn pair(source: u16, target: u16) -> u16 {
     256 * source + target
 }
 
-/// The bytes of four sets that only have activities below 8.
+/// The bytes of sets that only have activities below 8: of a marking four, of a head five.
 fn low_sets(sets: &[u8]) -> Vec<u8> {
     sets.iter()
         .flat_map(|&low| [low, 0, 0, 0, 0, 0, 0, 0])
@@ -26,7 +26,7 @@ fn low_sets(sets: &[u8]) -> Vec<u8> {
 /// G of 01 by its listing: C 0 1, 0 2; R 0 2, 1 2; I 0 1; E 0 0, 1 1, 2 1, 2 2.
 fn g() -> PlainGraph {
     PlainGraph {
-        head: [vec![3], low_sets(&[7, 0, 0, 7])].concat(),
+        head: [vec![3], low_sets(&[7, 0, 0, 7, 1])].concat(),
         lists: [
             vec![pair(0, 1), pair(0, 2)],
             vec![pair(0, 2), pair(1, 2)],
@@ -79,16 +79,17 @@ fn traces_on_g() {
 #[test]
 fn table_3() {
     let graph = PlainGraph {
-        head: [vec![8], low_sets(&[255, 0, 0, 0])].concat(),
+        head: [vec![8], low_sets(&[255, 0, 0, 0, 0])].concat(),
         lists: [vec![], vec![pair(4, 2)], vec![pair(4, 2)], vec![pair(4, 7)]],
     };
-    let from = low_sets(&[1, 2 + 16, 2 + 16 + 128]);
-    let then = low_sets(&[1 + 16, 2 + 4, 2 + 4 + 16]);
+    // without conditions all that is included is enabled
+    let from = low_sets(&[1, 2 + 16, 2 + 16 + 128, 2 + 16 + 128]);
+    let then = low_sets(&[1 + 16, 2 + 4, 2 + 4 + 16, 2 + 4 + 16]);
     for door in doors() {
         assert_eq!(step(&door, &graph, &from, 4), (BY_NONE, then.clone()));
         assert_eq!((door.plain_accepting)(&graph, &from), 0);
         // 2 and 5 pending, 1 included: a pending step that is shut out does not matter
-        let shut_out = low_sets(&[0, 4 + 32, 2]);
+        let shut_out = low_sets(&[0, 4 + 32, 2, 2]);
         assert_eq!((door.plain_accepting)(&graph, &shut_out), YES);
     }
 }
@@ -97,7 +98,7 @@ fn table_3() {
 #[test]
 fn lose_then_gain() {
     let graph = PlainGraph {
-        head: [vec![2], low_sets(&[3, 0, 0, 3])].concat(),
+        head: [vec![2], low_sets(&[3, 0, 0, 3, 3])].concat(),
         lists: [
             vec![],
             vec![pair(0, 0)],
@@ -106,8 +107,8 @@ fn lose_then_gain() {
         ],
     };
     for door in doors() {
-        let given = step(&door, &graph, &low_sets(&[0, 1, 3]), 0);
-        assert_eq!(given, (BY_NONE, low_sets(&[1, 1, 2])), "{}", door.name);
+        let given = step(&door, &graph, &low_sets(&[0, 1, 3, 3]), 0);
+        assert_eq!(given, (BY_NONE, low_sets(&[1, 1, 2, 2])), "{}", door.name);
     }
 }
 
@@ -115,18 +116,18 @@ fn lose_then_gain() {
 #[test]
 fn a_condition_counts_while_its_source_is_in() {
     let graph = PlainGraph {
-        head: [vec![2], low_sets(&[3, 0, 0, 3])].concat(),
+        head: [vec![2], low_sets(&[3, 0, 0, 3, 1])].concat(),
         lists: [vec![pair(0, 1)], vec![], vec![], vec![]],
     };
     let cases = [
-        (low_sets(&[0, 0, 3]), 1, 10 + BY_0),
-        (low_sets(&[1, 0, 3]), 1, BY_NONE),
-        (low_sets(&[0, 0, 2]), 1, BY_NONE),
-        (low_sets(&[0, 0, 3]), 0, BY_NONE),
-        (low_sets(&[0, 0, 1]), 1, 9 + BY_NONE),
-        (low_sets(&[0, 0, 3]), 2, 8 + BY_NONE),
-        (low_sets(&[0, 0, 3]), 64, 8 + BY_NONE),
-        (low_sets(&[0, 0, 3]), 255, 8 + BY_NONE),
+        (low_sets(&[0, 0, 3, 1]), 1, 10 + BY_0),
+        (low_sets(&[1, 0, 3, 3]), 1, BY_NONE),
+        (low_sets(&[0, 0, 2, 2]), 1, BY_NONE),
+        (low_sets(&[0, 0, 3, 1]), 0, BY_NONE),
+        (low_sets(&[0, 0, 1, 1]), 1, 9 + BY_NONE),
+        (low_sets(&[0, 0, 3, 1]), 2, 8 + BY_NONE),
+        (low_sets(&[0, 0, 3, 1]), 64, 8 + BY_NONE),
+        (low_sets(&[0, 0, 3, 1]), 255, 8 + BY_NONE),
     ];
     for door in doors() {
         for (marking, activity, wanted) in &cases {
@@ -142,7 +143,7 @@ fn a_condition_counts_while_its_source_is_in() {
 #[test]
 fn the_smallest_blocks() {
     let graph = PlainGraph {
-        head: [vec![5], low_sets(&[31, 0, 0, 31])].concat(),
+        head: [vec![5], low_sets(&[31, 0, 0, 31, 23])].concat(),
         lists: [
             vec![pair(4, 3), pair(0, 3), pair(2, 3)],
             vec![],
@@ -151,13 +152,13 @@ fn the_smallest_blocks() {
         ],
     };
     let cases = [
-        (low_sets(&[0, 0, 31]), 10 + BY_0),
-        (low_sets(&[1, 0, 31]), 10 + (2 << 40)),
-        (low_sets(&[0, 0, 30]), 10 + (2 << 40)),
-        (low_sets(&[1, 0, 27]), 10 + (4 << 40)),
-        (low_sets(&[21, 0, 31]), BY_NONE),
-        (low_sets(&[0, 0, 10]), BY_NONE),
-        (low_sets(&[0, 0, 23]), 9 + BY_NONE),
+        (low_sets(&[0, 0, 31, 23]), 10 + BY_0),
+        (low_sets(&[1, 0, 31, 23]), 10 + (2 << 40)),
+        (low_sets(&[0, 0, 30, 22]), 10 + (2 << 40)),
+        (low_sets(&[1, 0, 27, 19]), 10 + (4 << 40)),
+        (low_sets(&[21, 0, 31, 31]), BY_NONE),
+        (low_sets(&[0, 0, 10, 10]), BY_NONE),
+        (low_sets(&[0, 0, 23, 23]), 9 + BY_NONE),
     ];
     for door in doors() {
         for (marking, wanted) in &cases {
@@ -167,33 +168,52 @@ fn the_smallest_blocks() {
     }
 }
 
-/// 3 before 5, a list at its limit and past it, heads of every length, A at its limit.
+/// 3 before 5 before 16, a list at its limit and past it, heads of every length, A at its limit,
+/// opening markings with a false set.
 #[test]
 fn borders_of_every_limit() {
     for door in doors() {
         for (wanted, graph) in borders() {
-            let given = (door.plain_accepting)(&graph, &[0; 24]);
+            let given = (door.plain_accepting)(&graph, &[0; MARKING]);
             assert_eq!(given % 256, u64::from(wanted), "{} {graph:?}", door.name);
             assert_eq!(given / YES, u64::from(wanted == 0), "{}", door.name);
         }
     }
 }
 
-/// 7 comes after the graph's 3 and 5 and before the marking's 5; then 8.
+/// A short marking gives 7, after all of the graph's own. A whole one: every 5, the graph's and its
+/// own, then every 16; then 8.
 #[test]
 fn refusals_in_order() {
     let mut outside = g();
     outside.lists[3].push(pair(3, 0));
     let mut long = outside.clone();
     long.lists[0] = vec![pair(0, 1); 4097];
-    let stray = low_sets(&[8, 0, 7]);
-    let whole = low_sets(&[0, 0, 7]);
-    let cases: [(&PlainGraph, &[u8], u64); 7] = [
-        (&long, &stray[..23], 3),
-        (&outside, &stray[..23], 5),
-        (&g(), &stray[..23], 7),
-        (&g(), &[], 7),
+    let mut untrue = g();
+    untrue.head[33] = 3;
+    let mut both = outside.clone();
+    both.head[33] = 3;
+    let stray = low_sets(&[8, 0, 7, 1]);
+    let whole = low_sets(&[0, 0, 7, 1]);
+    let false_one = low_sets(&[0, 0, 7, 5]);
+    let stray_and_false = low_sets(&[8, 0, 7, 5]);
+    let cases: [(&PlainGraph, &[u8], u64); 18] = [
+        (&long, &stray[..31], 3),
+        (&long, &false_one, 3),
+        (&outside, &stray[..31], 5),
+        (&outside, &false_one, 5),
+        (&both, &whole, 5),
+        (&both, &whole[..31], 5),
+        (&untrue, &stray, 5),
+        (&untrue, &stray_and_false, 5),
+        (&g(), &stray_and_false, 5),
         (&g(), &stray, 5),
+        (&untrue, &whole, 16),
+        (&untrue, &stray[..31], 16),
+        (&untrue, &[], 16),
+        (&g(), &false_one, 16),
+        (&g(), &stray[..31], 7),
+        (&g(), &[], 7),
         (&g(), &whole, 8),
         (&g(), &[&whole[..], &[255]].concat(), 8),
     ];
@@ -208,11 +228,12 @@ fn refusals_in_order() {
     }
 }
 
-/// A trace's length is among the 3s: before a pair outside the events, after a cut head.
+/// A trace's length is among the 3s: before a pair outside the events and a false set, after a cut
+/// head.
 #[test]
 fn a_trace_too_long() {
     let mut graph = PlainGraph {
-        head: [vec![1], low_sets(&[1, 0, 0, 1])].concat(),
+        head: [vec![1], low_sets(&[1, 0, 0, 1, 1])].concat(),
         ..PlainGraph::default()
     };
     for door in doors() {
@@ -220,6 +241,12 @@ fn a_trace_too_long() {
             (door.plain_replay)(&graph, &[0; 512]),
             512 * 256 + YES + BY_NONE
         );
+        assert_eq!((door.plain_replay)(&graph, &[0; 513]), 3 + BY_NONE);
+    }
+    graph.head[33] = 0;
+    for door in doors() {
+        assert_eq!((door.plain_replay)(&graph, &[0; 512]), 16 + BY_NONE);
+        assert_eq!((door.plain_replay)(&graph, &[]), 16 + BY_NONE);
         assert_eq!((door.plain_replay)(&graph, &[0; 513]), 3 + BY_NONE);
     }
     graph.lists[1].push(65535);

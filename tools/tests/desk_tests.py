@@ -1,4 +1,4 @@
-"""./desk: what each request is answered, what is no request, how it ends. The answers are worked out by hand from 01's G and 02's 5/12."""
+"""./desk: what each request is answered, what is no request, how it ends. The answers are worked out by hand from 01's G and 02's 5/12 and 6/12."""
 import os
 
 from trial import ROOT, Gave, holds, read, same, test
@@ -20,21 +20,22 @@ DAY = [
     ("close 0", "14 place 0 blocker none"),
     ("open", "0 place 0 blocker none"),
     ("open", "0 place 1 blocker none"),
-    ("show 0", "place 0 executed none pending none included 0 1 2"),
+    ("show 0", "place 0 executed none pending none included 0 1 2 enabled 0"),
     ("step 0 2", "10 place 0 blocker 0"),
     ("step 0 3", "8 place 0 blocker none"),
     ("step 0 255", "8 place 0 blocker none"),
     ("step 0 0", "0 place 0 blocker none"),
-    ("show 0", "place 0 executed 0 pending 2 included 1 2"),
-    ("show 1", "place 1 executed none pending none included 0 1 2"),
+    ("show", "open 0: 1 2; 1: 0"),
+    ("show 0", "place 0 executed 0 pending 2 included 1 2 enabled 1 2"),
+    ("show 1", "place 1 executed none pending none included 0 1 2 enabled 0"),
     ("step 0 0", "9 place 0 blocker none"),
     ("close 0", "15 place 0 blocker none"),
     ("step 1 2", "10 place 1 blocker 0"),
     ("step 0 2", "0 place 0 blocker none"),
-    ("show 0", "place 0 executed 0 2 pending none included none"),
-    ("show", "open 0 1"),
+    ("show 0", "place 0 executed 0 2 pending none included none enabled none"),
+    ("show", "open 0: none; 1: 0"),
     ("close 0", "0 place 0 blocker none"),
-    ("show", "open 1"),
+    ("show", "open 1: 0"),
     ("show 0", "14 place 0 blocker none"),
     ("close 0", "14 place 0 blocker none"),
     ("step 31 0", "14 place 31 blocker none"),
@@ -43,7 +44,7 @@ DAY = [
     ("close 256", "14 place 256 blocker none"),
     ("step 18446744073709551616 0", "14 place 18446744073709551616 blocker none"),
     ("open", "0 place 0 blocker none"),
-    ("show 0", "place 0 executed none pending none included 0 1 2"),
+    ("show 0", "place 0 executed none pending none included 0 1 2 enabled 0"),
 ]
 
 
@@ -69,7 +70,7 @@ def no_request(folder):
     same(len(answers), len(lines), "a line for each")
     for k, one in enumerate(wrong):
         holds(answers[3 * k].startswith("no request: "), f"{one!r} says {answers[3 * k]!r}")
-        same(answers[3 * k + 1 : 3 * k + 3], ["open 0", DAY[5][1]], f"after {one!r}")
+        same(answers[3 * k + 1 : 3 * k + 3], ["open 0: 0", DAY[5][1]], f"after {one!r}")
     gave = folder.run("./desk", "--mine", "data/L.log", data=b"\xff\xfe\nopen")
     same((gave.status, gave.out.count(b"\n"), gave.out.splitlines()[1]), (0, 2, b"0 place 0 blocker none"), "bytes that are no text, and no last line break")
 
@@ -77,14 +78,15 @@ def no_request(folder):
 @test("./desk --names: steps by name in and out, by number too; too few names are one line")
 def by_name(folder):
     folder.put("L.names", "Request\nBook pilot\nAssign\n")
-    lines = ["open", "step 0 Assign", "step 0 Book pilot", "step 0 Request", "step 0 1", "show 0", "step 0 Nothing", "step 0 200"]
+    lines = ["open", "step 0 Assign", "step 0 Book pilot", "step 0 Request", "step 0 1", "show 0", "show", "step 0 Nothing", "step 0 200"]
     wanted = [
         "0 place 0 blocker none",
         "10 place 0 blocker Request",
         "10 place 0 blocker Request",
         "0 place 0 blocker none",
         "0 place 0 blocker none",
-        "place 0 executed Request, Book pilot pending Assign included Assign",
+        "place 0 executed Request, Book pilot pending Assign included Assign enabled Assign",
+        "open 0: Assign",
         "no request: no step is called 'Nothing'",
         "8 place 0 blocker none",
     ]

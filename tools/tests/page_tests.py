@@ -4,6 +4,7 @@ import subprocess
 
 import logfile
 import pages
+import proved
 from trial import holds, read, same, test
 
 
@@ -28,6 +29,14 @@ def byte_by_byte(_folder):
             same(len(data), int(at), f"{heading}: the place of {numbers}")
             data += bytes(map(int, numbers.split()))
         same(data, read(*path), heading)
+
+
+@test("FORMATS: G's opening marking byte by byte is the one that the library gives")
+def opening(_folder):
+    (_, *rows), = pages.tables("docs/FORMATS.md", "bytes of G's opening marking")
+    data = b"".join(bytes(map(int, numbers.split())) for numbers, _at, _what in rows)
+    same([int(at) for _numbers, at, _what in rows], list(range(0, len(data), 8)), "the places")
+    same(data, proved.Library().opening(read("crates", "cases", "data", "sample.graph")), "the marking")
 
 
 def answers():

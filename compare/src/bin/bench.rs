@@ -6,7 +6,7 @@
 //! back an empty graph then, so `net judge` leaves out what the refusal of no bytes costs. Lent buffers are not cleared between calls. The implementations take turns,
 //! a tenth of a millisecond each, and the best turn counts: other work on the machine then
 //! disturbs both alike, and the best turns hardly at all.
-use compare::door::{Door, FULL, GRAPH_ROOM, LIGHT};
+use compare::door::{Door, FULL, GRAPH_ROOM, LIGHT, MARKING, TABLE_ROOM};
 use compare::seeds::finish;
 use compare::seeds::shapes::{of_size, small, SHAPES, SIZES};
 use compare::{judge, port, yardstick};
@@ -150,6 +150,81 @@ fn row(doors: &[Door], sample: &Sample) {
     println!("{line}");
 }
 
+/// So many steps of a call are one turn's work.
+const STEPS: usize = 64;
+
+/// Single steps: a call's steps one by one, each handed over with the marking after the one before,
+/// which holds its enabled steps (02, 6/12). In ns a step, the graph file read in each; `net` is
+/// that less the reading. The same at a desk, and giving the opening marking, in ns a call.
+fn steps(doors: &[Door]) {
+    println!("single steps, ns a step");
+    let names = ["step", "net step", "desk step", "net desk", "opening"];
+    let mut line = format!("{:<14}{:>7}", "graph of", "steps");
+    for name in names {
+        line += &format!("{name:>12}");
+        if doors.len() > 1 {
+            line += &format!("{:>9}{:>7}", "port", "ratio");
+        }
+    }
+    println!("{line}");
+    let mut samples = vec![sample("small", small(3))];
+    let shaped = |&(name, shape): &_| sample(name, of_size(shape, SIZES[0], 11));
+    samples.extend(SHAPES.iter().map(shaped));
+    for sample in samples {
+        let mut trace = sample.traces[0].clone();
+        trace.truncate(STEPS);
+        let mut line = format!("{:<14}{:>7}", sample.name, trace.len());
+        for column in step_figures(doors, &sample.file, &trace) {
+            line += &format!("{:>12.2}", column[0]);
+            for theirs in &column[1..] {
+                line += &format!("{theirs:>9.2}{:>7.2}", theirs / column[0]);
+            }
+        }
+        println!("{line}");
+    }
+}
+
+fn step_figures(doors: &[Door], file: &[u8], trace: &[u8]) -> [Vec<f64>; 5] {
+    let mut opening = [0; MARKING];
+    let mut desk = vec![0; TABLE_ROOM];
+    let judge = judge::door::DOOR;
+    assert_eq!((judge.opening)(file, &mut opening), 0);
+    assert_eq!((judge.desk_open)(file, &mut desk), 0);
+    let stepping = best(doors, |door| {
+        let mut marking = opening;
+        for &e in trace {
+            let given = (door.step)(black_box(file), &mut marking, e);
+            assert_eq!(given % 256, 0);
+        }
+    });
+    let at_desk = best(doors, |door| {
+        let mut table = desk.clone();
+        for &e in trace {
+            let given = (door.desk_step)(black_box(file), &mut table, 0, e);
+            assert_eq!(given % 256, 0);
+        }
+    });
+    let reading = best(doors, |door| {
+        for _ in trace {
+            black_box((door.replay)(black_box(file), black_box(&[])));
+        }
+    });
+    let openings = best(doors, |door| {
+        let mut marking = [0; MARKING];
+        for _ in trace {
+            black_box((door.opening)(black_box(file), &mut marking));
+        }
+    });
+    let each = |all: &[f64]| all.iter().map(|ns| ns / trace.len() as f64).collect();
+    [
+        each(&stepping),
+        each(&less(&stepping, &reading)),
+        each(&at_desk),
+        each(&less(&at_desk, &reading)),
+        each(&openings),
+    ]
+}
+
 /// Half-done calls: the hard graphs, and the graph of the small log after half of a call. In
 /// microseconds a search, the graph file read in each.
 fn ways(doors: &[Door]) {
@@ -180,8 +255,12 @@ fn ways(doors: &[Door]) {
 fn main() {
     let mut doors = vec![yardstick::door::DOOR];
     doors.extend(port::door());
-    if std::env::args().any(|word| word == "--ways") {
+    let asked = |option: &str| std::env::args().any(|word| word == option);
+    if asked("--ways") {
         return ways(&doors);
+    }
+    if asked("--steps") {
+        return steps(&doors);
     }
     head(doors.len() == 2);
     row(&doors, &sample("small", small(3)));
@@ -190,5 +269,6 @@ fn main() {
             row(&doors, &sample(name, of_size(shape, size, 11)));
         }
     }
+    steps(&doors);
     ways(&doors);
 }

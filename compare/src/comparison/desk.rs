@@ -1,7 +1,7 @@
 //! The call desk: histories of requests, each made of every implementation on the same table.
 use super::record::{Call, Function};
 use super::{decimal, Comparison};
-use crate::door::asked;
+use crate::door::{asked, PLACE, TABLE_ROOM};
 use crate::judge::door::DOOR as JUDGE;
 use crate::seeds::{desk, graphs, Prng};
 use crate::value::Request;
@@ -12,8 +12,8 @@ const REQUESTS: usize = 40;
 
 pub fn round(comparison: &mut Comparison, prng: &mut Prng) {
     for _ in 0..HISTORIES {
-        let (file, events) = desk::file(prng);
-        let mut table = desk::table(prng, events);
+        let (file, graph) = desk::file(prng);
+        let mut table = desk::table(prng, &graph);
         comparison.input("desk: history");
         for _ in 0..REQUESTS {
             let a = file.get(3).copied().unwrap_or(0);
@@ -29,10 +29,11 @@ pub fn once(comparison: &mut Comparison, prng: &mut Prng) {
     let value = graphs::value_of_size(prng, 5);
     let sound = graphs::file(&value);
     for file in [&sound[..], &sound[..51]] {
-        for length in [0, 799, 800, 801] {
+        for length in [0, TABLE_ROOM - 1, TABLE_ROOM, TABLE_ROOM + 1] {
             for first in [0, 1, 255] {
                 let mut table = vec![0; length];
-                table.iter_mut().step_by(25).for_each(|byte| *byte = first);
+                let firsts = table.iter_mut().step_by(PLACE);
+                firsts.for_each(|byte| *byte = first);
                 comparison.input("desk: border");
                 comparison.desk(file, &table, Request::Open);
                 for place in desk::ANY_PLACE {
@@ -42,7 +43,7 @@ pub fn once(comparison: &mut Comparison, prng: &mut Prng) {
             }
         }
     }
-    let opened = comparison.desk(&sound, &[0; 800], Request::Open);
+    let opened = comparison.desk(&sound, &[0; TABLE_ROOM], Request::Open);
     for activity in 0..=255 {
         comparison.desk(&sound, &opened, Request::Step(0, activity));
     }

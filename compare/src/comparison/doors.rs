@@ -1,4 +1,4 @@
-//! The six functions of `port` on files, called on each implementation with the same bytes. Lent
+//! The seven functions of `port` on files, called on each implementation with the same bytes. Lent
 //! buffers start with a pattern, so that a byte written where none should be shows.
 use super::record::{Call, Function};
 use super::{decimal, Comparison};
@@ -117,6 +117,17 @@ impl Comparison {
             call: |door, file, _, lent| (door.rewrite)(file, lent),
         };
         self.filled(filling, file, room);
+    }
+
+    /// Gives the judge's marking; as it was lent where the file is refused.
+    pub fn opening(&mut self, file: &[u8], room: usize) -> Vec<u8> {
+        let filling = Filling {
+            named: "opening",
+            kept_as: Function::Opening,
+            profile: FULL,
+            call: |door, file, _, lent| (door.opening)(file, lent),
+        };
+        self.filled(filling, file, room).1
     }
 
     pub fn replay(&mut self, file: &[u8], trace: &[u8]) {

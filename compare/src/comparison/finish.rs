@@ -104,9 +104,10 @@ pub fn once(comparison: &mut Comparison, prng: &mut Prng) {
 fn of_two(comparison: &mut Comparison, prng: &mut Prng, numbers: &[u16]) {
     for &k in numbers {
         comparison.input("half-done: of two events");
-        let file = graphs::file(&finish::of_two(k));
+        let graph = finish::of_two(k);
+        let file = graphs::file(&graph);
         for part in 0..4 {
-            let marking = finish::marking_of_two(16 * part + prng.below(16) as u64);
+            let marking = finish::marking_of_two(&graph, 16 * part + prng.below(16) as u64);
             comparison.finish(&file, &graphs::marking_bytes(&marking), WAY);
         }
     }
@@ -135,12 +136,12 @@ fn on_graph(comparison: &mut Comparison, prng: &mut Prng, kind: &'static str, gr
     comparison.finish(&file, &marking, WAY);
     let trace = short_trace(prng, graph.a);
     comparison.shut_by(&file, &trace, graphs::activity(prng, graph.a));
-    refusals(comparison, prng, &file, graph.events);
+    refusals(comparison, prng, &file, graph);
 }
 
-/// What is refused: a damaged file, a marking outside, too few bytes of either.
-fn refusals(comparison: &mut Comparison, prng: &mut Prng, file: &[u8], events: u64) {
-    let marking = graphs::marking_bytes(&graphs::any_marking(prng, events)).to_vec();
+/// What is refused: a damaged file, a marking outside or with a false set, too few bytes of either.
+fn refusals(comparison: &mut Comparison, prng: &mut Prng, file: &[u8], graph: &GraphValue) {
+    let marking = graphs::marking_bytes(&graphs::any_marking(prng, graph)).to_vec();
     let trace = short_trace(prng, 8);
     match prng.below(4) {
         0 => {
@@ -150,8 +151,9 @@ fn refusals(comparison: &mut Comparison, prng: &mut Prng, file: &[u8], events: u
         }
         1 => comparison.finish(file, &marking, prng.one_of(&[0, 3, 5, 9])),
         2 => {
-            let length = prng.one_of(&[0, 8, 23, 25]);
-            let cut: Vec<u8> = marking.iter().copied().chain([7; 8]).take(length).collect();
+            let length = prng.one_of(&graphs::OTHER_LENGTHS);
+            let mut cut = marking.clone();
+            cut.resize(length, 7);
             comparison.finish(file, &cut, prng.one_of(&[0, WAY]));
         }
         _ => comparison.finish(file, &marking, WAY),

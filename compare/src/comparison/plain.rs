@@ -2,7 +2,7 @@
 //! engines on the same graphs.
 use super::record::{Call, Function};
 use super::{decimal, Comparison};
-use crate::door::{Door, OnPlain, MOST_PAIRS};
+use crate::door::{Door, OnPlain, FILE_HEAD, MARKING, MOST_PAIRS, SET};
 use crate::judge::door::DOOR as JUDGE;
 use crate::value::PlainGraph;
 
@@ -139,10 +139,11 @@ impl Comparison {
         (wanted, memory)
     }
 
-    /// The graph of an accepted file, as `fill` hands it to the plain engine.
+    /// The graph of an accepted file, as `fill` and `opening` hand it to the plain engine.
     pub fn lists_of(&mut self, file: &[u8]) -> PlainGraph {
+        let opening = self.opening(file, MARKING);
         let mut graph = PlainGraph {
-            head: file[3..36].to_vec(),
+            head: [&file[FILE_HEAD], &opening[MARKING - SET..]].concat(),
             ..PlainGraph::default()
         };
         for kind in 0..4 {

@@ -1,7 +1,7 @@
 //! Which plain graphs are tried: the borders once, then seeded ones; and the graphs of files,
 //! handed to the plain engine by `fill`.
 use super::Comparison;
-use crate::door::MOST_PAIRS;
+use crate::door::{MARKING, MOST_PAIRS, SET};
 use crate::judge;
 use crate::seeds::{graphs, plain, Prng};
 use crate::value::PlainGraph;
@@ -13,7 +13,7 @@ const DAMAGES: usize = 3;
 pub fn once(comparison: &mut Comparison, prng: &mut Prng) {
     for (number, graph) in plain::borders() {
         comparison.input("plain: border");
-        let judged = comparison.plain_accepting(&graph, &[0; 24]) as u8;
+        let judged = comparison.plain_accepting(&graph, &[0; MARKING]) as u8;
         if judged != number {
             comparison.differ("plain border", "02", || {
                 format!("wanted {number}, judge {judged}, {graph:?}")
@@ -22,14 +22,27 @@ pub fn once(comparison: &mut Comparison, prng: &mut Prng) {
         for trace in [&[][..], &[1, 2, 1], &[2; 512], &[2; 513]] {
             comparison.plain_replay(&graph, trace);
         }
-        for length in [0, 8, 23, 24, 25] {
-            let mut marking = vec![0; length];
-            marking[length.min(16)..].fill(7);
+        for marking in markings() {
             comparison.plain_accepting(&graph, &marking);
             comparison.plain_step(&graph, &marking, 1);
         }
     }
     every_activity(comparison, prng);
+}
+
+/// For a border's graph, of events 0, 1, 2 mostly: one that is true, one that leaves the events,
+/// one with a false set, one with both faults; each whole, cut, and with more bytes than it needs.
+fn markings() -> Vec<Vec<u8>> {
+    let mut all = Vec::new();
+    for (included, enabled) in [(0, 0), (7, 7), (15, 0), (0, 1), (0, 255), (15, 1)] {
+        for length in [0, SET, 3 * SET, MARKING - 1, MARKING, MARKING + 1] {
+            let mut marking = vec![0; MARKING];
+            (marking[2 * SET], marking[3 * SET]) = (included, enabled);
+            marking.resize(length, 7);
+            all.push(marking);
+        }
+    }
+    all
 }
 
 /// All 256 numbers on a graph of few and one of many pairs, also where the marking is outside.
@@ -39,7 +52,7 @@ fn every_activity(comparison: &mut Comparison, prng: &mut Prng) {
         let mut graph = plain::of(&value);
         plain::reordered(prng, &mut graph);
         for activity in 0..=255 {
-            let marking = plain::marking(prng, value.events);
+            let marking = plain::marking(prng, &graph);
             comparison.plain_step(&graph, &marking, activity);
             comparison.plain_replay(&graph, &[activity]);
         }
@@ -71,13 +84,12 @@ fn on_plain(
 ) {
     comparison.input(kind);
     let a = graph.head.first().copied().unwrap_or(0);
-    let events = plain::events_of(graph);
     let changed = graphs::changed_trace(prng, walk, a);
     for trace in [walk, &changed, &graphs::trace(prng, a)] {
         comparison.plain_replay(graph, trace);
     }
     for _ in 0..3 {
-        let marking = plain::marking(prng, events);
+        let marking = plain::marking(prng, graph);
         let activity = graphs::activity(prng, a);
         comparison.plain_step(graph, &marking, activity);
         comparison.plain_accepting(graph, &marking);
@@ -108,7 +120,7 @@ pub fn on_traces(comparison: &mut Comparison, prng: &mut Prng, file: &[u8], trac
     for trace in traces.iter().take(2) {
         let changed = graphs::changed_trace(prng, trace, file[3]);
         for trace in [trace, &changed] {
-            let marking = plain::marking(prng, plain::events_of(&graph));
+            let marking = plain::marking(prng, &graph);
             let activity = graphs::activity(prng, file[3]);
             comparison.on_both(file, &graph, trace, &marking, activity);
         }

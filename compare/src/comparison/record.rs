@@ -20,6 +20,7 @@ pub enum Function {
     DeskClose,
     Finish,
     ShutBy,
+    Opening,
 }
 
 pub struct Call<'a> {

@@ -1,6 +1,6 @@
 //! Which inputs are tried: some sets of logs once, then rounds of seeded ones.
 use super::{desk, finish, plain_rounds, Comparison};
-use crate::door::{FULL, GRAPH_ROOM, LIGHT, SUMMARY_ROOM};
+use crate::door::{FULL, GRAPH_ROOM, LIGHT, MARKING, SUMMARY_ROOM};
 use crate::seeds::{damage, graphs, logs, shapes, Prng};
 use crate::{judge, seeds};
 
@@ -121,20 +121,20 @@ fn on_graph_file(comparison: &mut Comparison, prng: &mut Prng, kind: &'static st
     comparison.rewrite(file, GRAPH_ROOM);
     let room = prng.one_of(&[0, 51, file.len().saturating_sub(1), file.len()]);
     comparison.rewrite(file, room);
-    let a = file.get(3).copied().unwrap_or(0);
-    let events = file.get(4..12).map_or(0, |set| {
-        u64::from_le_bytes(set.try_into().expect("eight bytes"))
-    });
+    let graph = graphs::graph_in(file);
+    let a = graph.a;
     let trace = graphs::trace(prng, a);
     comparison.replay(file, &trace);
+    let other = prng.one_of(&graphs::OTHER_LENGTHS);
+    comparison.opening(file, prng.one_of(&[MARKING, other]));
     for _ in 0..2 {
-        let marking = graphs::marking_bytes(&graphs::any_marking(prng, events));
+        let marking = graphs::marking_bytes(&graphs::any_marking(prng, &graph));
         let activity = graphs::activity(prng, a);
         comparison.step(file, &marking, activity);
     }
     // too few bytes for a marking, and more than it needs
-    let mut marking = graphs::marking_bytes(&graphs::any_marking(prng, events)).to_vec();
-    marking.resize(prng.one_of(&[0, 8, 23, 25, 40]), 0);
+    let mut marking = graphs::marking_bytes(&graphs::any_marking(prng, &graph)).to_vec();
+    marking.resize(other, 0);
     comparison.step(file, &marking, graphs::activity(prng, a));
     plain_rounds::on_graph_file(comparison, prng, file, trace);
 }
@@ -165,7 +165,7 @@ fn on_graph_value(
     let trace = graphs::trace(prng, value.a);
     comparison.value_replay(value, &trace);
     for _ in 0..3 {
-        let marking = graphs::any_marking(prng, value.events);
+        let marking = graphs::any_marking(prng, value);
         let activity = graphs::activity(prng, value.a);
         comparison.value_step(value, &marking, activity);
     }

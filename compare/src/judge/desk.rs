@@ -1,18 +1,17 @@
 //! The call desk (02, 5/12): one graph, and 32 places for vessels in port. The graph comes from a
 //! file; the number of a file that is refused stands where the graph's 3 and 5 stand.
-use super::engine::{accepting, execute};
-use super::graph::{judge_members, judge_size, Graph, Marking};
+use super::engine::{accepting, execute, judge_graph};
+use super::graph::{Graph, Marking};
 use crate::value::Answer;
 
 /// The marking of the call at a place; none where the place is free.
 pub type Place = Option<Marking>;
 
-/// Gives the lowest free place a marking at the opening state. 3 and 5 come first; then 13 where
-/// all places are taken.
+/// Gives the lowest free place a marking at the opening state. 3, 5 and 16 come first; then 13
+/// where all places are taken.
 pub fn open(graph: &Result<Graph, u8>, places: &mut [Place]) -> Result<usize, u8> {
     let graph = graph.as_ref().map_err(|&number| number)?;
-    judge_size(graph)?;
-    judge_members(graph)?;
+    judge_graph(graph)?;
     for (number, place) in places.iter_mut().enumerate() {
         if place.is_none() {
             *place = Some(graph.marking.clone());
@@ -42,7 +41,7 @@ pub fn step(
     execute(graph, marking, e)
 }
 
-/// Frees a place whose call is accepting; 15 where it is not, after 3 and 5.
+/// Frees a place whose call is accepting; 15 where it is not, after 3, 5 and 16.
 pub fn close(graph: &Result<Graph, u8>, places: &mut [Place], place: usize) -> Result<(), u8> {
     let marking = call_at(places, place)?;
     let graph = graph.as_ref().map_err(|&number| number)?;

@@ -1,12 +1,12 @@
 //! The judge behind the functions of `port`.
-use super::engine::{accepting, execute, replay as replay_graph};
+use super::engine::{accepting, execute, judge_graph, replay as replay_graph};
 use super::graph::{Graph, Marking};
 use super::graph_file::{self, read_marking, set_bytes};
 use super::listing::listing as list;
 use super::miner::{mine as mine_log, Profile};
 use super::{desk, finish, log, plain, summary};
 use crate::door::{filled, finished, opened, replayed, shut, stepped, verdict, written, Door};
-use crate::door::{PLACE, PLACES, SUMMARY_ROOM, TABLE_ROOM, WAY};
+use crate::door::{MARKING, PLACE, PLACES, SUMMARY_ROOM, TABLE_ROOM, WAY};
 use crate::value::{Answer, PlainGraph};
 
 pub const DOOR: Door = Door {
@@ -16,6 +16,7 @@ pub const DOOR: Door = Door {
     summary: summarize,
     replay,
     rewrite,
+    opening,
     step,
     finish: finish_on_file,
     shut_by,
@@ -74,6 +75,19 @@ fn rewrite(file: &[u8], out: &mut [u8]) -> u64 {
     written(graph_file::read(file).and_then(|graph| graph_file::write(&graph, out)))
 }
 
+/// The file's refusals, 7 for what is too short; else the graph's opening marking with its set.
+fn opening(file: &[u8], lent: &mut [u8]) -> u64 {
+    let graph = match graph_file::read(file) {
+        Err(number) => return filled(number, 0),
+        Ok(graph) => graph,
+    };
+    if lent.len() < MARKING {
+        return 7;
+    }
+    write_marking(&graph.marking, lent);
+    0
+}
+
 fn step(file: &[u8], lent: &mut [u8], activity: u8) -> u64 {
     stepped(step_on(graph_file::read(file), lent, activity))
 }
@@ -81,10 +95,10 @@ fn step(file: &[u8], lent: &mut [u8], activity: u8) -> u64 {
 /// The graph's refusals, 7 for what is too short, then the marking's, then 17.
 fn finish_on_file(file: &[u8], marking: &[u8], lent: &mut [u8]) -> u64 {
     let way = graph_file::read(file).and_then(|graph| {
-        if marking.len() < 24 || lent.len() < WAY {
+        let marking = lent_marking(&graph, marking)?;
+        if lent.len() < WAY {
             return Err(7);
         }
-        let marking = read_marking(marking);
         accepting(&graph, &marking)?;
         finish::finish(&graph, &marking)
     });
@@ -101,10 +115,8 @@ fn plain_step(graph: &PlainGraph, lent: &mut [u8], activity: u8) -> u64 {
 
 fn plain_accepting(graph: &PlainGraph, marking: &[u8]) -> u64 {
     verdict(plain::read(graph, 0).and_then(|graph| {
-        if marking.len() < 24 {
-            return Err(7);
-        }
-        accepting(&graph, &read_marking(marking))
+        let marking = lent_marking(&graph, marking)?;
+        accepting(&graph, &marking)
     }))
 }
 
@@ -130,13 +142,19 @@ fn replay_on(graph: Result<Graph, u8>, trace: &[u8]) -> u64 {
     }
 }
 
+/// A marking of too few bytes gives 7, after all that the graph by itself is refused for.
+fn lent_marking(graph: &Graph, lent: &[u8]) -> Result<Marking, u8> {
+    if lent.len() < MARKING {
+        judge_graph(graph)?;
+        return Err(7);
+    }
+    Ok(read_marking(lent))
+}
+
 /// The graph's refusals come before those of what was lent.
 fn step_on(graph: Result<Graph, u8>, lent: &mut [u8], activity: u8) -> Result<(), Answer> {
     let graph = graph?;
-    if lent.len() < 24 {
-        return Err(7.into());
-    }
-    let mut marking = read_marking(lent);
+    let mut marking = lent_marking(&graph, lent)?;
     execute(&graph, &mut marking, activity)?;
     write_marking(&marking, lent);
     Ok(())
@@ -146,6 +164,7 @@ fn write_marking(marking: &Marking, lent: &mut [u8]) {
     lent[0..8].copy_from_slice(&set_bytes(&marking.executed));
     lent[8..16].copy_from_slice(&set_bytes(&marking.pending));
     lent[16..24].copy_from_slice(&set_bytes(&marking.included));
+    lent[24..32].copy_from_slice(&set_bytes(&marking.enabled));
 }
 
 fn desk_open(file: &[u8], table: &mut [u8]) -> u64 {

@@ -30,8 +30,37 @@ pub fn blocked(graph: &Graph, marking: &Marking, e: u8) -> Result<(), Answer> {
     }
 }
 
-/// The marking after e, in the order of 01: lose, then gain.
-pub fn stepped(relations: &Relations, marking: &Marking, e: u8) -> Marking {
+/// "the set of events that enabled would say yes to" (02, 6/12), whatever the marking says of it
+pub fn enabled_events(graph: &Graph, marking: &Marking) -> Set {
+    let mut enabled = Set::new();
+    for &e in &graph.events {
+        if blocked(graph, marking, e).is_ok() {
+            enabled.insert(e);
+        }
+    }
+    enabled
+}
+
+/// The marking with its set as it is kept.
+pub fn kept(graph: &Graph, mut marking: Marking) -> Marking {
+    marking.enabled = enabled_events(graph, &marking);
+    marking
+}
+
+/// The graph with the set of its opening marking.
+pub fn opened(mut graph: Graph) -> Graph {
+    graph.marking = kept(&graph, graph.marking.clone());
+    graph
+}
+
+/// The marking after e, with its set.
+pub fn stepped(graph: &Graph, marking: &Marking, e: u8) -> Marking {
+    kept(graph, with_effects(&graph.relations, marking, e))
+}
+
+/// The effects of e in the order of 01: lose, then gain. The set of enabled events stays as it
+/// stood: a marking that is handed on has it worked out anew.
+pub fn with_effects(relations: &Relations, marking: &Marking, e: u8) -> Marking {
     let mut after = marking.clone();
     after.executed.insert(e);
     after.pending.remove(&e);
@@ -53,10 +82,28 @@ pub fn stepped(relations: &Relations, marking: &Marking, e: u8) -> Marking {
     after
 }
 
+/// "A marking handed over with a false set is not believed": 16.
+fn judge_truth(graph: &Graph, marking: &Marking) -> Result<(), u8> {
+    if marking.enabled != enabled_events(graph, marking) {
+        return Err(16);
+    }
+    Ok(())
+}
+
+/// A graph by itself: 3, 5, and 16 for "a graph's own opening one too".
+pub fn judge_graph(graph: &Graph) -> Result<(), u8> {
+    judge_size(graph)?;
+    judge_members(graph)?;
+    judge_truth(graph, &graph.marking)
+}
+
+/// A graph and a marking beside it: 3, then every 5, then every 16.
 fn judge(graph: &Graph, marking: &Marking) -> Result<(), u8> {
     judge_size(graph)?;
     judge_members(graph)?;
-    judge_marking(&graph.events, marking)
+    judge_marking(&graph.events, marking)?;
+    judge_truth(graph, &graph.marking)?;
+    judge_truth(graph, marking)
 }
 
 pub fn enabled(graph: &Graph, marking: &Marking, e: u8) -> Result<(), Answer> {
@@ -67,7 +114,7 @@ pub fn enabled(graph: &Graph, marking: &Marking, e: u8) -> Result<(), Answer> {
 /// Alters the lent marking, and only when enabled.
 pub fn execute(graph: &Graph, marking: &mut Marking, e: u8) -> Result<(), Answer> {
     enabled(graph, marking, e)?;
-    *marking = stepped(&graph.relations, marking, e);
+    *marking = stepped(graph, marking, e);
     Ok(())
 }
 
@@ -99,7 +146,7 @@ pub fn replay(graph: &Graph, trace: &[u8]) -> Replay {
     if judge_size(graph).is_err() || trace.len() > 512 {
         return refused(3);
     }
-    if let Err(number) = judge_members(graph) {
+    if let Err(number) = judge_graph(graph) {
         return refused(number);
     }
     let mut marking = graph.marking.clone();
@@ -108,17 +155,16 @@ pub fn replay(graph: &Graph, trace: &[u8]) -> Replay {
             return Replay {
                 answer,
                 place,
-                marking,
+                marking: kept(graph, marking),
                 accepting: false,
             };
         }
-        marking = stepped(&graph.relations, &marking, e);
+        marking = with_effects(&graph.relations, &marking, e);
     }
-    let accepting = at_rest(&marking);
     Replay {
         answer: 0.into(),
         place: trace.len(),
-        marking,
-        accepting,
+        accepting: at_rest(&marking),
+        marking: kept(graph, marking),
     }
 }

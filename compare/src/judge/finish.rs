@@ -1,5 +1,5 @@
 //! How a half-done call can still finish (02, 8/12), and what shut a step out: word for word.
-use super::engine::{at_rest, blocked, stepped};
+use super::engine::{at_rest, blocked, with_effects};
 use super::graph::{Graph, Marking};
 
 /// "a sequence of at most 4 activities"
@@ -16,7 +16,7 @@ fn longer(graph: &Graph, shorter: &[(Vec<u8>, Marking)]) -> Vec<(Vec<u8>, Markin
         for &e in &graph.events {
             if blocked(graph, marking, e).is_ok() {
                 let more = [&steps[..], &[e]].concat();
-                all.push((more, stepped(&graph.relations, marking, e)));
+                all.push((more, with_effects(&graph.relations, marking, e)));
             }
         }
     }

@@ -2,11 +2,13 @@
 use super::{Pairs, Relations, Set};
 use crate::value::{GraphValue, MarkingValue, Rows};
 
+/// The last set is the marking's own word for what is enabled (02, 6/12): it may be false.
 #[derive(Clone, PartialEq, Eq, Debug, Default)]
 pub struct Marking {
     pub executed: Set,
     pub pending: Set,
     pub included: Set,
+    pub enabled: Set,
 }
 
 #[derive(Clone, PartialEq, Eq, Debug)]
@@ -36,7 +38,8 @@ pub fn judge_members(graph: &Graph) -> Result<(), u8> {
     Ok(())
 }
 
-/// A marking outside the events is refused with 5.
+/// A marking outside the events is refused with 5, which judges executed, pending and included
+/// only.
 pub fn judge_marking(events: &Set, marking: &Marking) -> Result<(), u8> {
     for set in [&marking.executed, &marking.pending, &marking.included] {
         if !set.is_subset(events) {
@@ -67,6 +70,7 @@ pub fn marking_of(value: &MarkingValue) -> Marking {
         executed: set_of(value.executed),
         pending: set_of(value.pending),
         included: set_of(value.included),
+        enabled: set_of(value.enabled),
     }
 }
 
@@ -75,6 +79,7 @@ pub fn marking_value(marking: &Marking) -> MarkingValue {
         executed: value_of(&marking.executed),
         pending: value_of(&marking.pending),
         included: value_of(&marking.included),
+        enabled: value_of(&marking.enabled),
     }
 }
 

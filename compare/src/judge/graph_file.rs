@@ -1,5 +1,6 @@
 //! The graph file, read and written in 01's order.
-use super::graph::{judge_marking, judge_members, judge_size, turned, Graph, Marking};
+use super::engine::{judge_graph, opened};
+use super::graph::{judge_marking, turned, Graph, Marking};
 use super::{two_bytes, Pairs, Relations, Set};
 use std::collections::BTreeMap;
 
@@ -27,11 +28,21 @@ pub fn set_bytes(set: &Set) -> [u8; 8] {
     bytes
 }
 
-pub fn read_marking(bytes: &[u8]) -> Marking {
+/// The three sets of a marking that a file stores: "The graph file doesn't store" the fourth.
+fn stored_marking(bytes: &[u8]) -> Marking {
     Marking {
         executed: read_set(&bytes[0..8]),
         pending: read_set(&bytes[8..16]),
         included: read_set(&bytes[16..24]),
+        enabled: Set::new(),
+    }
+}
+
+/// A marking by itself has the fourth set behind the three.
+pub fn read_marking(bytes: &[u8]) -> Marking {
+    Marking {
+        enabled: read_set(&bytes[24..32]),
+        ..stored_marking(bytes)
     }
 }
 
@@ -42,7 +53,7 @@ pub fn read(bytes: &[u8]) -> Result<Graph, u8> {
     if events.iter().any(|&event| event >= a) {
         return Err(5);
     }
-    let marking = read_marking(&bytes[12..36]);
+    let marking = stored_marking(&bytes[12..36]);
     judge_marking(&events, &marking)?;
     let counts = judge_entries(bytes)?;
     judge_end(bytes, counts.iter().sum())?;
@@ -54,12 +65,12 @@ pub fn read(bytes: &[u8]) -> Result<Graph, u8> {
         includes,
         excludes,
     };
-    Ok(Graph {
+    Ok(opened(Graph {
         a,
         events,
         marking,
         relations,
-    })
+    }))
 }
 
 fn judge_head(bytes: &[u8]) -> Result<(), u8> {
@@ -129,10 +140,9 @@ fn read_rows(bytes: &[u8], counts: [usize; 4], events: &Set) -> Result<[Pairs; 4
     Ok(relations)
 }
 
-/// A graph as a value: 3, 5, then 7. Fills the first bytes and gives the file's length.
+/// A graph as a value: 3, 5, 16, then 7. Fills the first bytes and gives the file's length.
 pub fn write(graph: &Graph, lent: &mut [u8]) -> Result<usize, u8> {
-    judge_size(graph)?;
-    judge_members(graph)?;
+    judge_graph(graph)?;
     let file = file_of(graph);
     if lent.len() < file.len() {
         return Err(7);

@@ -1,4 +1,5 @@
 //! From log to graph: the steps in their order, one after the other.
+use super::engine::opened;
 use super::facts::{gather, Facts};
 use super::graph::{Graph, Marking};
 use super::log::Log;
@@ -39,13 +40,13 @@ pub fn mine(log: &Log, profile: Profile) -> Graph {
 pub fn mine_by(log: &Log, steps: &[Step]) -> Graph {
     let facts = gather(log);
     let relations = relations_by(&facts, steps);
-    let opening = opening(&facts.events);
-    Graph {
+    let marking = opening(&facts.events);
+    opened(Graph {
         a: log.a,
         events: facts.events,
-        marking: opening,
+        marking,
         relations,
-    }
+    })
 }
 
 pub fn relations_by(facts: &Facts, steps: &[Step]) -> Relations {
@@ -56,11 +57,12 @@ pub fn relations_by(facts: &Facts, steps: &[Step]) -> Relations {
     relations
 }
 
-/// Nothing executed or pending, all included.
+/// Nothing executed or pending, all included. What is enabled then, the relations say.
 fn opening(events: &Set) -> Marking {
     Marking {
         executed: Set::new(),
         pending: Set::new(),
         included: events.clone(),
+        enabled: Set::new(),
     }
 }

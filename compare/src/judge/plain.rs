@@ -3,7 +3,7 @@
 use super::graph::{judge_members, judge_size, Graph};
 use super::graph_file::{read_marking, read_set};
 use super::{Pairs, Relations};
-use crate::door::{HEAD, MOST_PAIRS};
+use crate::door::{HEAD, HEAD_MARKING, MOST_PAIRS};
 use crate::value::PlainGraph;
 
 /// A pair is source x 256 + target; order and repetition do not count.
@@ -27,7 +27,7 @@ fn relations_in(lists: &[Vec<u16>; 4]) -> Relations {
 }
 
 /// 7 where there is no whole head; then every 3, of A, of a trace's length, of a list's; then
-/// the graph's 5s.
+/// the graph's 5s. Its 16 comes after the 5 of a marking beside it, so it is not judged here.
 pub fn read(plain: &PlainGraph, trace_length: usize) -> Result<Graph, u8> {
     if plain.head.len() < HEAD {
         return Err(7);
@@ -35,7 +35,7 @@ pub fn read(plain: &PlainGraph, trace_length: usize) -> Result<Graph, u8> {
     let graph = Graph {
         a: plain.head[0],
         events: read_set(&plain.head[1..9]),
-        marking: read_marking(&plain.head[9..33]),
+        marking: read_marking(&plain.head[HEAD_MARKING..HEAD]),
         relations: relations_in(&plain.lists),
     };
     judge_size(&graph)?;

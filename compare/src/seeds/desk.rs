@@ -1,54 +1,56 @@
 //! The call desk's inputs: graph files, tables of places, requests. Sound ones and others.
 use super::{damage, graphs, Prng};
 use crate::door::{PLACE, PLACES, TABLE_ROOM};
-use crate::value::Request;
+use crate::value::{GraphValue, Request};
 
 /// Places that a caller may name, whatever is open.
 pub const ANY_PLACE: [usize; 12] = [0, 1, 15, 30, 31, 32, 33, 64, 255, 256, 65536, usize::MAX];
 
 /// Mostly small graphs: with few activities the steps of a history get far. Every fourth file is
-/// damaged. Gives the events of the sound one too.
-pub fn file(prng: &mut Prng) -> (Vec<u8>, u64) {
+/// damaged. Gives the graph of the sound one too.
+pub fn file(prng: &mut Prng) -> (Vec<u8>, GraphValue) {
     let a = prng.one_of(&[0, 1, 2, 3, 3, 4, 4, 5, 5, 8, 8, 20]);
     let a = if prng.percent(3) { 64 } else { a };
     let value = graphs::value_of_size(prng, a);
     let file = graphs::file(&value);
     if prng.percent(25) {
-        return (damage::graph(prng, &file), value.events);
+        return (damage::graph(prng, &file), value);
     }
-    (file, value.events)
+    (file, value)
 }
 
 /// A fresh table, one with few places free or none, one with any markings, any bytes; and now
 /// and then one of another length.
-pub fn table(prng: &mut Prng, events: u64) -> Vec<u8> {
+pub fn table(prng: &mut Prng, graph: &GraphValue) -> Vec<u8> {
     let mut table = vec![0; TABLE_ROOM];
     match prng.below(10) {
         0..=2 => {}
         3..=5 => {
-            taken(prng, &mut table, events, 100, 0);
+            taken(prng, &mut table, graph, 100, 0);
             for _ in 0..prng.below(4) {
                 let place = prng.below(PLACES);
                 table[PLACE * place..PLACE * (place + 1)].fill(0);
             }
         }
-        6..=8 => taken(prng, &mut table, events, 50, 20),
+        6..=8 => taken(prng, &mut table, graph, 50, 30),
         _ => table.iter_mut().for_each(|byte| *byte = prng.byte()),
     }
     if prng.percent(8) {
-        table.resize(prng.one_of(&[0, 1, 24, 25, 799, 801, 825]), 7);
+        let whole = TABLE_ROOM;
+        let lengths = [0, 1, PLACE - 1, PLACE, whole - 1, whole + 1, whole + PLACE];
+        table.resize(prng.one_of(&lengths), 7);
     }
     table
 }
 
 /// About so many of a hundred places are open, and so many of their markings may leave the
-/// events. A place that is not may have been left with any bytes behind its first.
-fn taken(prng: &mut Prng, table: &mut [u8], events: u64, open: usize, stray: usize) {
+/// events or have a false set. A place that is not may have been left with any bytes behind its first.
+fn taken(prng: &mut Prng, table: &mut [u8], graph: &GraphValue, open: usize, stray: usize) {
     for place in table.chunks_mut(PLACE) {
         let marking = if prng.percent(stray) {
-            graphs::any_marking(prng, events)
+            graphs::any_marking(prng, graph)
         } else {
-            graphs::marking(prng, events)
+            graphs::marking(prng, graph)
         };
         if prng.percent(open) {
             place[0] = prng.one_of(&[1, 1, 1, 2, 128, 255]);

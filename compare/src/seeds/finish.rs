@@ -2,6 +2,7 @@
 //! sequence of four steps, so the graphs are small, or few of their steps are open.
 use super::{graphs, Prng};
 use crate::value::{GraphValue, MarkingValue};
+use crate::yardstick::engine::kept;
 
 /// Graph k of two events, 0 and 1: each of the 16 bits is a pair of a relation.
 pub fn of_two(k: u16) -> GraphValue {
@@ -21,13 +22,15 @@ pub fn of_two(k: u16) -> GraphValue {
     graph
 }
 
-/// Marking k of two events, k below 64.
-pub fn marking_of_two(k: u64) -> MarkingValue {
-    MarkingValue {
+/// Marking k of such a graph, k below 64.
+pub fn marking_of_two(graph: &GraphValue, k: u64) -> MarkingValue {
+    let sets = MarkingValue {
         executed: k & 3,
         pending: k >> 2 & 3,
         included: k >> 4 & 3,
-    }
+        enabled: 0,
+    };
+    kept(graph, sets)
 }
 
 /// A small graph with so few pairs that some ways are long. Most of its steps are included.
@@ -51,12 +54,12 @@ pub fn small(prng: &mut Prng) -> GraphValue {
             *row = prng.sparse(share) & events;
         }
     }
-    graph.marking = marking(prng, events);
+    graph.marking = kept(&graph, sets(prng, events));
     graph
 }
 
-/// A marking with something owed, mostly.
-pub fn marking(prng: &mut Prng, events: u64) -> MarkingValue {
+/// Something owed, mostly.
+fn sets(prng: &mut Prng, events: u64) -> MarkingValue {
     let (done, owed, inside) = (
         prng.one_of(&[0, 20, 60]),
         prng.one_of(&[15, 30, 60]),
@@ -66,6 +69,7 @@ pub fn marking(prng: &mut Prng, events: u64) -> MarkingValue {
         executed: prng.sparse(done) & events,
         pending: prng.sparse(owed) & events,
         included: prng.sparse(inside) & events,
+        enabled: 0,
     }
 }
 
@@ -93,6 +97,7 @@ pub fn chain(prng: &mut Prng) -> GraphValue {
     if prng.percent(30) {
         graph.excludes[prng.below(a)] |= 1 << prng.below(a);
     }
+    graph.marking = kept(&graph, graph.marking);
     graph
 }
 
@@ -109,6 +114,7 @@ pub fn hopeless() -> GraphValue {
     // 0 waits for 1, and 1 for itself
     graph.conditions[0] = 2;
     graph.conditions[1] = 2;
+    graph.marking = kept(&graph, graph.marking);
     graph
 }
 

@@ -1,6 +1,10 @@
 //! Graphs as values and as files, markings, traces: sound ones and others.
 use super::Prng;
+use crate::door::MARKING;
 use crate::value::{GraphValue, MarkingValue, Rows};
+use crate::yardstick;
+use crate::yardstick::engine::kept;
+use crate::yardstick::graph_file::put_marking;
 
 /// A graph that 01 accepts, of any size, dense or nearly without pairs.
 pub fn value(prng: &mut Prng) -> GraphValue {
@@ -18,12 +22,24 @@ pub fn value_of_size(prng: &mut Prng, a: u8) -> GraphValue {
         events,
         ..GraphValue::EMPTY
     };
-    graph.marking = marking(prng, events);
+    graph.marking = sets(prng, events);
     graph.conditions = rows(prng, events, dense / 2);
     graph.responses = rows(prng, events, dense);
     graph.includes = rows(prng, events, dense);
     graph.excludes = rows(prng, events, dense);
+    graph.marking = kept(&graph, graph.marking);
     graph
+}
+
+/// The graph of a file; where that is refused, its events without a pair.
+pub fn graph_in(file: &[u8]) -> GraphValue {
+    let head = file.get(3..12).map(|head| GraphValue {
+        a: head[0],
+        events: yardstick::graph_file::word(head, 1),
+        ..GraphValue::EMPTY
+    });
+    let read = yardstick::graph_file::read(file).ok();
+    read.or(head).unwrap_or(GraphValue::EMPTY)
 }
 
 fn rows(prng: &mut Prng, events: u64, share: usize) -> Rows {
@@ -36,19 +52,26 @@ fn rows(prng: &mut Prng, events: u64, share: usize) -> Rows {
     rows
 }
 
-/// A marking within the events, mostly included.
-pub fn marking(prng: &mut Prng, events: u64) -> MarkingValue {
+/// Sets within the events, mostly included.
+fn sets(prng: &mut Prng, events: u64) -> MarkingValue {
     let share = prng.one_of(&[0, 20, 50, 90]);
     MarkingValue {
         executed: prng.sparse(share) & events,
         pending: prng.sparse(20) & events,
         included: prng.sparse(85) & events,
+        enabled: 0,
     }
 }
 
-/// A marking that may leave the events.
-pub fn any_marking(prng: &mut Prng, events: u64) -> MarkingValue {
-    let mut m = marking(prng, events);
+/// A marking within the events, with its set.
+pub fn marking(prng: &mut Prng, graph: &GraphValue) -> MarkingValue {
+    let sets = sets(prng, graph.events);
+    kept(graph, sets)
+}
+
+/// A marking that may leave the events, or have a false set, or both.
+pub fn any_marking(prng: &mut Prng, graph: &GraphValue) -> MarkingValue {
+    let mut m = marking(prng, graph);
     if prng.percent(20) {
         let stray = 1u64 << prng.below(64);
         match prng.below(3) {
@@ -57,25 +80,60 @@ pub fn any_marking(prng: &mut Prng, events: u64) -> MarkingValue {
             _ => m.included |= stray,
         }
     }
+    if prng.percent(20) {
+        m.enabled = false_set(prng, graph, m.enabled);
+    }
     m
 }
 
-/// A value with one or two faults.
+/// The set one member short, with one event too many, with one outside the events or outside A,
+/// all ones, none, or another marking's. Now and then that is the true one.
+pub fn false_set(prng: &mut Prng, graph: &GraphValue, set: u64) -> u64 {
+    let low = yardstick::below(graph.a);
+    match prng.below(8) {
+        0 | 1 => set & !member(prng, set),
+        2 => set | member(prng, graph.events & !set),
+        3 => set | member(prng, low & !graph.events),
+        4 => set | member(prng, !low),
+        5 => u64::MAX,
+        6 => 0,
+        _ => marking(prng, graph).enabled,
+    }
+}
+
+/// One of these alone, or none of none.
+fn member(prng: &mut Prng, of: u64) -> u64 {
+    let members: Vec<u64> = (0..64)
+        .map(|a| 1 << a)
+        .filter(|bit| of & bit != 0)
+        .collect();
+    if members.is_empty() {
+        return 0;
+    }
+    prng.one_of(&members)
+}
+
+/// A value with one or two faults; now and then its set is worked out anew, for what it is then.
 pub fn damaged_value(prng: &mut Prng) -> GraphValue {
     let mut graph = value(prng);
     for _ in 0..prng.within(1, 2) {
         let stray = 1u64 << prng.below(64);
         let key = prng.below(64);
-        match prng.below(8) {
+        match prng.below(11) {
             0 => graph.a = prng.one_of(&[65, 66, 128, 255]),
             1 => graph.a = graph.a.saturating_sub(1),
             2 => graph.events ^= stray,
             3 => graph.marking.included |= stray,
+            8 => graph.marking.executed ^= stray & graph.events,
+            9 | 10 => graph.marking.enabled = false_set(prng, &graph, graph.marking.enabled),
             4 => graph.conditions[key] |= stray,
             5 => graph.responses[key] |= stray,
             6 => graph.includes[key] |= stray,
             _ => graph.excludes[key] |= stray,
         }
+    }
+    if prng.percent(30) {
+        graph.marking = kept(&graph, graph.marking);
     }
     graph
 }
@@ -107,13 +165,14 @@ pub fn file(graph: &GraphValue) -> Vec<u8> {
     bytes
 }
 
-pub fn marking_bytes(m: &MarkingValue) -> [u8; 24] {
-    let mut bytes = [0; 24];
-    bytes[..8].copy_from_slice(&m.executed.to_le_bytes());
-    bytes[8..16].copy_from_slice(&m.pending.to_le_bytes());
-    bytes[16..].copy_from_slice(&m.included.to_le_bytes());
+pub fn marking_bytes(m: &MarkingValue) -> [u8; MARKING] {
+    let mut bytes = [0; MARKING];
+    put_marking(&mut bytes, 0, m);
     bytes
 }
+
+/// Lengths of a lent marking: too few bytes, a byte too few, a byte more, many more.
+pub const OTHER_LENGTHS: [usize; 6] = [0, 8, 24, MARKING - 1, MARKING + 1, MARKING + 16];
 
 /// An activity: mostly below a, sometimes any byte.
 pub fn activity(prng: &mut Prng, a: u8) -> u8 {

@@ -2,9 +2,10 @@
 //! twice, pairs outside the events, and at and past every limit.
 use super::graphs::{self, marking_bytes};
 use super::Prng;
-use crate::door::MOST_PAIRS;
+use crate::door::{HEAD, HEAD_MARKING, MOST_PAIRS, SET};
 use crate::value::{GraphValue, PlainGraph, Rows};
-use crate::yardstick::engine::step;
+use crate::yardstick::engine::{enabled_set, step};
+use crate::yardstick::graph_file::{marking_at, word};
 
 /// The head and the pairs of a value, each pair once, rising.
 pub fn of(value: &GraphValue) -> PlainGraph {
@@ -61,8 +62,17 @@ fn stretch(prng: &mut Prng, list: &mut Vec<u16>, length: usize) {
 
 type Fault = fn(&mut Prng, &mut PlainGraph);
 
-const FAULTS: [Fault; 8] = [
-    stray_pair, stray_pair, too_long, head_cut, size, events, opening, no_event,
+const FAULTS: [Fault; 10] = [
+    stray_pair,
+    stray_pair,
+    too_long,
+    head_cut,
+    size,
+    events,
+    opening,
+    no_event,
+    false_opening,
+    false_opening,
 ];
 
 /// One to three faults, so that their order is tried as well as each of them.
@@ -96,7 +106,8 @@ fn too_long(prng: &mut Prng, graph: &mut PlainGraph) {
 }
 
 fn head_cut(prng: &mut Prng, graph: &mut PlainGraph) {
-    graph.head.resize(prng.one_of(&[0, 1, 32, 34, 40]), 165);
+    let lengths = [0, 1, 33, HEAD - 1, HEAD + 1, HEAD + SET];
+    graph.head.resize(prng.one_of(&lengths), 165);
 }
 
 fn size(prng: &mut Prng, graph: &mut PlainGraph) {
@@ -116,37 +127,72 @@ fn events(prng: &mut Prng, graph: &mut PlainGraph) {
     turn(prng, graph, 1);
 }
 
+/// One of the three sets that 5 judges; half of these heads then have the set that is true for it.
 fn opening(prng: &mut Prng, graph: &mut PlainGraph) {
-    let set = 9 + 8 * prng.below(3);
+    let set = HEAD_MARKING + SET * prng.below(3);
     turn(prng, graph, set);
+    if prng.percent(50) {
+        let set = enabled_at_opening(graph);
+        put_enabled(graph, set);
+    }
+}
+
+/// The fourth.
+fn false_opening(prng: &mut Prng, graph: &mut PlainGraph) {
+    let value = value_in(graph);
+    let set = graphs::false_set(prng, &value, value.marking.enabled);
+    put_enabled(graph, set);
+}
+
+fn put_enabled(graph: &mut PlainGraph, set: u64) {
+    if let Some(bytes) = graph.head.get_mut(HEAD - SET..HEAD) {
+        bytes.copy_from_slice(&set.to_le_bytes());
+    }
+}
+
+fn enabled_at_opening(graph: &PlainGraph) -> u64 {
+    let value = value_in(graph);
+    enabled_set(&value, &value.marking)
+}
+
+/// What a plain graph says, as far as that goes: nothing is judged, a pair that no set can hold
+/// is passed over, and of a cut head nothing is taken but the events.
+pub fn value_in(graph: &PlainGraph) -> GraphValue {
+    let head = &graph.head;
+    let mut value = GraphValue {
+        a: head.first().copied().unwrap_or(0),
+        events: head.get(1..HEAD_MARKING).map_or(0, |set| word(set, 0)),
+        ..GraphValue::EMPTY
+    };
+    if head.len() >= HEAD {
+        value.marking = marking_at(head, HEAD_MARKING);
+    }
+    for pair in graph.lists[0].iter().filter(|&pair| pair & 0xC0C0 == 0) {
+        value.conditions[usize::from(pair & 63)] |= 1 << (pair >> 8);
+    }
+    value
 }
 
 /// The source or the target of a listed pair is no event any more, nor marked: only the list
 /// is at fault.
 fn no_event(prng: &mut Prng, graph: &mut PlainGraph) {
     let list = &graph.lists[prng.below(4)];
-    if list.is_empty() || graph.head.len() < 33 {
+    if list.is_empty() || graph.head.len() < HEAD {
         return;
     }
     let pair = prng.one_of(list);
     let end = prng.one_of(&pair.to_le_bytes());
-    for set in [1, 9, 17, 25] {
+    for set in (1..HEAD).step_by(SET) {
         graph.head[set + usize::from(end / 8 % 8)] &= !(1 << (end % 8));
     }
 }
 
-/// What the events of a head are, for markings and traces.
-pub fn events_of(graph: &PlainGraph) -> u64 {
-    graph.head.get(1..9).map_or(0, |set| {
-        u64::from_le_bytes(set.try_into().expect("eight bytes"))
-    })
-}
-
-/// The bytes of a marking, which may leave the events; sometimes too few, or more.
-pub fn marking(prng: &mut Prng, events: u64) -> Vec<u8> {
-    let mut bytes = marking_bytes(&graphs::any_marking(prng, events)).to_vec();
+/// The bytes of a marking, which may leave the events or have a false set; sometimes too few, or
+/// more.
+pub fn marking(prng: &mut Prng, graph: &PlainGraph) -> Vec<u8> {
+    let mut bytes = marking_bytes(&graphs::any_marking(prng, &value_in(graph))).to_vec();
     if prng.percent(20) {
-        bytes.resize(prng.one_of(&[0, 8, 23, 25, 40]), 0);
+        bytes.resize(prng.one_of(&graphs::OTHER_LENGTHS), 0);
     }
     bytes
 }
@@ -173,7 +219,11 @@ pub fn walk(prng: &mut Prng, value: &GraphValue, length: usize) -> Vec<u8> {
     trace
 }
 
-/// Every event of three, all included; no pair.
+/// Where a head has its included and its enabled events.
+const INCLUDED: usize = HEAD_MARKING + 2 * SET;
+const ENABLED: usize = HEAD_MARKING + 3 * SET;
+
+/// Every event of three, all included, all enabled; no pair.
 fn three() -> PlainGraph {
     let value = GraphValue {
         a: 3,
@@ -181,7 +231,8 @@ fn three() -> PlainGraph {
         ..GraphValue::EMPTY
     };
     let mut graph = of(&value);
-    graph.head[25] = 7;
+    graph.head[INCLUDED] = 7;
+    graph.head[ENABLED] = 7;
     graph
 }
 
@@ -189,9 +240,15 @@ fn three() -> PlainGraph {
 pub fn borders() -> Vec<(u8, PlainGraph)> {
     let mut all = heads();
     all.extend(sizes());
+    all.extend(openings());
     for kind in 0..4 {
+        // a condition of 1 or 2 for itself shuts it off
         let with = |list: Vec<u16>| {
             let mut graph = three();
+            if kind == 0 {
+                let first = list[0];
+                graph.head[ENABLED] &= !(1 << (first & 3));
+            }
             graph.lists[kind] = list;
             graph
         };
@@ -225,11 +282,12 @@ fn heads() -> Vec<(u8, PlainGraph)> {
     };
     vec![
         (7, with(|graph| graph.head.clear())),
-        (7, with(|graph| graph.head.truncate(32))),
+        (7, with(|graph| graph.head.truncate(HEAD - SET))),
+        (7, with(|graph| graph.head.truncate(HEAD - 1))),
         (
             7,
             with(|graph| {
-                graph.head = vec![255; 32];
+                graph.head = vec![255; HEAD - 1];
                 graph.lists[0] = vec![65535; 4097];
             }),
         ),
@@ -246,20 +304,71 @@ fn heads() -> Vec<(u8, PlainGraph)> {
                 graph.lists[2] = vec![65535];
             }),
         ),
-        (5, with(|graph| graph.head[9] = 8)),
-        (5, with(|graph| graph.head[24] = 128)),
-        (5, with(|graph| graph.head[25] = 15)),
+        (5, with(|graph| graph.head[HEAD_MARKING] = 8)),
+        (5, with(|graph| graph.head[INCLUDED - 1] = 128)),
+        (5, with(|graph| graph.head[INCLUDED] = 15)),
+    ]
+}
+
+/// Opening markings with a false set, alone and beside what comes before 16. Some are true again
+/// by another pair or mark.
+fn openings() -> Vec<(u8, PlainGraph)> {
+    let with = |set: u64, change: fn(&mut PlainGraph)| {
+        let mut graph = three();
+        put_enabled(&mut graph, set);
+        change(&mut graph);
+        graph
+    };
+    let nothing: fn(&mut PlainGraph) = |_| ();
+    vec![
+        (16, with(6, nothing)),
+        (16, with(0, nothing)),
+        (16, with(15, nothing)),
+        (16, with(7 + (1 << 63), nothing)),
+        (16, with(u64::MAX, nothing)),
+        // 2 is no event and below A
+        (
+            16,
+            with(7, |graph| (graph.head[1], graph.head[INCLUDED]) = (3, 3)),
+        ),
+        (
+            0,
+            with(3, |graph| (graph.head[1], graph.head[INCLUDED]) = (3, 3)),
+        ),
+        // 2 is shut out
+        (16, with(7, |graph| graph.head[INCLUDED] = 3)),
+        (0, with(3, |graph| graph.head[INCLUDED] = 3)),
+        // 1 waits for 0, and then 0 was done
+        (16, with(7, |graph| graph.lists[0] = vec![1])),
+        (0, with(5, |graph| graph.lists[0] = vec![1])),
+        (
+            16,
+            with(5, |graph| {
+                (graph.lists[0], graph.head[HEAD_MARKING]) = (vec![1], 1)
+            }),
+        ),
+        (
+            0,
+            with(7, |graph| {
+                (graph.lists[0], graph.head[HEAD_MARKING]) = (vec![1], 1)
+            }),
+        ),
+        (5, with(0, |graph| graph.head[INCLUDED] = 15)),
+        (5, with(0, |graph| graph.lists[3] = vec![65535])),
+        (3, with(0, |graph| graph.head[0] = 65)),
+        (3, with(0, |graph| graph.lists[3] = vec![0; 4097])),
+        (7, with(0, |graph| graph.head.truncate(HEAD - 1))),
     ]
 }
 
 /// All 64 activities; none, and then a pair of none.
 fn sizes() -> [(u8, PlainGraph); 3] {
     let whole = PlainGraph {
-        head: [vec![64], vec![255; 32]].concat(),
+        head: [vec![64], vec![255; HEAD - 1]].concat(),
         lists: core::array::from_fn(|_| vec![63 * 256 + 63, 0, 63, 63 * 256]),
     };
     let nothing = PlainGraph {
-        head: vec![0; 33],
+        head: vec![0; HEAD],
         ..PlainGraph::default()
     };
     let mut stray = nothing.clone();

@@ -1,15 +1,8 @@
 //! The call desk on words, straight on the table's bytes.
 use super::engine;
-use super::graph_file::{marking_at, read_into};
+use super::graph_file::{marking_at, put_marking, read_into};
 use crate::door::{PLACE, PLACES, TABLE_ROOM};
 use crate::value::{Answer, GraphValue, MarkingValue};
-
-fn put(table: &mut [u8], place: usize, m: &MarkingValue) {
-    let at = PLACE * place + 1;
-    table[at..at + 8].copy_from_slice(&m.executed.to_le_bytes());
-    table[at + 8..at + 16].copy_from_slice(&m.pending.to_le_bytes());
-    table[at + 16..at + 24].copy_from_slice(&m.included.to_le_bytes());
-}
 
 pub fn open(file: &[u8], table: &mut [u8]) -> Result<usize, u8> {
     if table.len() < TABLE_ROOM {
@@ -20,11 +13,12 @@ pub fn open(file: &[u8], table: &mut [u8]) -> Result<usize, u8> {
     let place = (0..PLACES).find(|place| table[PLACE * place] == 0);
     let place = place.ok_or(13)?;
     table[PLACE * place] = 1;
-    put(table, place, &graph.marking);
+    let opening = engine::kept(&graph, graph.marking);
+    put_marking(table, PLACE * place + 1, &opening);
     Ok(place)
 }
 
-/// 7, 14, the file's refusals, then 5 for the marking there. A graph that was read is sound.
+/// 7, 14, the file's refusals, then 5 and 16 for the marking there. A graph that was read is sound.
 fn call_at(
     file: &[u8],
     table: &[u8],
@@ -39,16 +33,16 @@ fn call_at(
     }
     read_into(file, graph)?;
     let m = marking_at(table, PLACE * place + 1);
-    if (m.executed | m.pending | m.included) & !graph.events != 0 {
-        return Err(5);
-    }
+    engine::within(graph, &m)?;
+    engine::judge_truth(graph, &m)?;
     Ok(m)
 }
 
 pub fn step(file: &[u8], table: &mut [u8], place: usize, e: u8) -> Result<(), Answer> {
     let mut graph = GraphValue::EMPTY;
     let m = call_at(file, table, place, &mut graph)?;
-    put(table, place, &engine::step(&graph, m, e)?);
+    let after = engine::step_keeping(&graph, m, e)?;
+    put_marking(table, PLACE * place + 1, &after);
     Ok(())
 }
 

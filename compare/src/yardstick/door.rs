@@ -1,9 +1,9 @@
 //! The yardstick behind the functions of `port`.
-use super::graph_file::{marking_at, read_into, write_judged};
+use super::graph_file::{marking_at, put_marking, read_into, write_judged};
 use super::rows::transposed;
 use super::{desk, engine, finish as search, listing as lister, log, miner, plain};
 use crate::door::{filled, finished, opened, replayed, shut, stepped, verdict, written};
-use crate::door::{Door, LIGHT, SUMMARY_ROOM, WAY};
+use crate::door::{Door, LIGHT, MARKING, SUMMARY_ROOM, WAY};
 use crate::value::{Answer, GraphValue, MarkingValue, PlainGraph};
 
 pub const DOOR: Door = Door {
@@ -13,6 +13,7 @@ pub const DOOR: Door = Door {
     summary,
     replay,
     rewrite,
+    opening,
     step,
     finish,
     shut_by,
@@ -78,24 +79,42 @@ fn rewrite(file: &[u8], out: &mut [u8]) -> u64 {
     written(read_into(file, &mut graph).and_then(|()| write_judged(&graph, out)))
 }
 
-fn step(file: &[u8], lent: &mut [u8], activity: u8) -> u64 {
+fn opening(file: &[u8], lent: &mut [u8]) -> u64 {
     let mut graph = GraphValue::EMPTY;
-    match read_into(file, &mut graph) {
-        Err(number) => stepped(Err(number.into())),
-        Ok(()) => stepped(step_judged(&graph, lent, activity)),
+    if let Err(number) = read_into(file, &mut graph) {
+        return u64::from(number);
     }
+    if lent.len() < MARKING {
+        return 7;
+    }
+    put_marking(lent, 0, &engine::kept(&graph, graph.marking));
+    0
 }
 
-/// The lent marking where it is whole and within the events.
+fn step(file: &[u8], lent: &mut [u8], activity: u8) -> u64 {
+    let mut graph = GraphValue::EMPTY;
+    let m = read_into(file, &mut graph).and_then(|()| lent_marking(&graph, lent));
+    stepped(step_judged(&graph, m, lent, activity))
+}
+
+/// The lent marking where it is whole, within the events and true.
 fn lent_marking(graph: &GraphValue, lent: &[u8]) -> Result<MarkingValue, u8> {
-    if lent.len() < 24 {
+    if lent.len() < MARKING {
         return Err(7);
     }
     let m = marking_at(lent, 0);
-    if (m.executed | m.pending | m.included) & !graph.events != 0 {
-        return Err(5);
-    }
+    engine::within(graph, &m)?;
+    engine::judge_truth(graph, &m)?;
     Ok(m)
+}
+
+/// The same beside a graph that was handed over: its own 16 stands before all but the marking's 5.
+fn plain_marking(graph: &GraphValue, lent: &[u8]) -> Result<MarkingValue, u8> {
+    if lent.len() >= MARKING {
+        engine::within(graph, &marking_at(lent, 0))?;
+    }
+    engine::judge_truth(graph, &graph.marking)?;
+    lent_marking(graph, lent)
 }
 
 fn finish(file: &[u8], marking: &[u8], lent: &mut [u8]) -> u64 {
@@ -114,28 +133,39 @@ fn shut_by(file: &[u8], trace: &[u8], a: u8) -> u64 {
     shut(read_into(file, &mut graph).map(|()| search::shut_by(&graph, trace, a)))
 }
 
-fn step_judged(graph: &GraphValue, lent: &mut [u8], activity: u8) -> Result<(), Answer> {
-    let m = engine::step(graph, lent_marking(graph, lent)?, activity)?;
-    lent[..8].copy_from_slice(&m.executed.to_le_bytes());
-    lent[8..16].copy_from_slice(&m.pending.to_le_bytes());
-    lent[16..24].copy_from_slice(&m.included.to_le_bytes());
+/// From a marking that was judged, or with its refusal.
+fn step_judged(
+    graph: &GraphValue,
+    m: Result<MarkingValue, u8>,
+    lent: &mut [u8],
+    activity: u8,
+) -> Result<(), Answer> {
+    put_marking(lent, 0, &engine::step_keeping(graph, m?, activity)?);
     Ok(())
 }
 
 fn plain_step(graph: &PlainGraph, lent: &mut [u8], activity: u8) -> u64 {
     match plain::read(graph, 0) {
         Err(number) => stepped(Err(number.into())),
-        Ok(graph) => stepped(step_judged(&graph, lent, activity)),
+        Ok(graph) => {
+            let m = plain_marking(&graph, lent);
+            stepped(step_judged(&graph, m, lent, activity))
+        }
     }
 }
 
 fn plain_accepting(graph: &PlainGraph, marking: &[u8]) -> u64 {
-    let lent = plain::read(graph, 0).and_then(|graph| lent_marking(&graph, marking));
+    let lent = plain::read(graph, 0).and_then(|graph| plain_marking(&graph, marking));
     verdict(lent.map(|m| m.pending & m.included == 0))
 }
 
 fn plain_replay(graph: &PlainGraph, trace: &[u8]) -> u64 {
-    match plain::read(graph, trace.len()) {
+    let read = plain::read(graph, trace.len());
+    let judged = read.and_then(|graph| {
+        engine::judge_truth(&graph, &graph.marking)?;
+        Ok(graph)
+    });
+    match judged {
         Err(number) => replayed(number, 0, false),
         Ok(graph) => {
             let done = engine::replay_judged(&graph, trace);

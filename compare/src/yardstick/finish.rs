@@ -75,12 +75,14 @@ fn last(graph: &GraphValue, tables: &Tables, m: &MarkingValue) -> Option<u8> {
     members(may).find(|&e| !waits(graph, m, e) && tables.owed[index(e)] & m.included == 0)
 }
 
+/// The search asks no set of enabled steps.
 fn after(graph: &GraphValue, m: &MarkingValue, e: u8) -> MarkingValue {
     let k = index(e);
     MarkingValue {
         executed: m.executed | bit(e),
         pending: m.pending & !bit(e) | graph.responses[k],
         included: m.included & !graph.excludes[k] | graph.includes[k],
+        enabled: 0,
     }
 }
 

@@ -1,6 +1,7 @@
 //! Reading and writing graph files.
-use super::engine::judge;
+use super::engine::{judge, kept};
 use super::{below, bit, index};
+use crate::door::{MARKING, SET};
 use crate::value::{GraphValue, MarkingValue, Rows};
 
 const FIRST_ROW: usize = 52;
@@ -12,21 +13,40 @@ pub fn word(bytes: &[u8], at: usize) -> u64 {
     u64::from_le_bytes(eight)
 }
 
-pub fn marking_at(bytes: &[u8], at: usize) -> MarkingValue {
+/// The three sets that a file has.
+fn stored_at(bytes: &[u8], at: usize) -> MarkingValue {
     MarkingValue {
         executed: word(bytes, at),
         pending: word(bytes, at + 8),
         included: word(bytes, at + 16),
+        enabled: 0,
+    }
+}
+
+/// All four.
+pub fn marking_at(bytes: &[u8], at: usize) -> MarkingValue {
+    MarkingValue {
+        enabled: word(bytes, at + 24),
+        ..stored_at(bytes, at)
+    }
+}
+
+pub fn put_marking(bytes: &mut [u8], at: usize, m: &MarkingValue) {
+    let sets = [m.executed, m.pending, m.included, m.enabled];
+    for (place, set) in bytes[at..at + MARKING].chunks_exact_mut(SET).zip(sets) {
+        place.copy_from_slice(&set.to_le_bytes());
     }
 }
 
 pub fn read(bytes: &[u8]) -> Result<GraphValue, u8> {
     let mut graph = GraphValue::EMPTY;
     read_into(bytes, &mut graph)?;
+    graph.marking = kept(&graph, graph.marking);
     Ok(graph)
 }
 
-/// Reads into a graph that starts out empty; after a refusal it is of no use. Handing the
+/// Reads into a graph that starts out empty; after a refusal it is of no use. The set of its
+/// opening marking is left out: who hands that on works it out. Handing the
 /// graph back by value would copy 2 KB, a fifth of the time.
 pub fn read_into(bytes: &[u8], graph: &mut GraphValue) -> Result<(), u8> {
     if bytes.len() < FIRST_ROW {
@@ -40,7 +60,7 @@ pub fn read_into(bytes: &[u8], graph: &mut GraphValue) -> Result<(), u8> {
         return Err(3);
     }
     let events = word(bytes, 4);
-    let marking = marking_at(bytes, 12);
+    let marking = stored_at(bytes, 12);
     let m = marking.executed | marking.pending | marking.included;
     if events & !below(a) != 0 || m & !events != 0 {
         return Err(5);

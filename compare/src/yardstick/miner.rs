@@ -44,11 +44,14 @@ fn mined<const STEP6: bool>(log: &Log) -> GraphValue {
     graph
 }
 
+/// Before there is a relation. What is mined is written or replayed, and neither asks for the set
+/// of the opening marking.
 fn opened(a: u8, events: u64) -> GraphValue {
     let marking = MarkingValue {
         executed: 0,
         pending: 0,
         included: events,
+        enabled: 0,
     };
     GraphValue {
         a,

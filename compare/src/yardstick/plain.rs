@@ -3,10 +3,10 @@
 use super::engine;
 use super::graph_file::marking_at;
 use super::rows::{count, transposed, Bits};
-use crate::door::{HEAD, MOST_PAIRS};
+use crate::door::{HEAD, HEAD_MARKING, MOST_PAIRS};
 use crate::value::{GraphValue, PlainGraph, Rows};
 
-/// 7, 3, 5, or the graph.
+/// 7, 3, 5, or the graph; its 16 comes after the 5 of what stands beside it.
 pub fn read(plain: &PlainGraph, trace_length: usize) -> Result<GraphValue, u8> {
     let PlainGraph { head, lists } = plain;
     if head.len() < HEAD {
@@ -18,13 +18,13 @@ pub fn read(plain: &PlainGraph, trace_length: usize) -> Result<GraphValue, u8> {
     let graph = GraphValue {
         a: head[0],
         events: u64::from_le_bytes(head[1..9].try_into().expect("eight bytes")),
-        marking: marking_at(head, 9),
+        marking: marking_at(head, HEAD_MARKING),
         conditions: transposed(&rows(&lists[0])?),
         responses: rows(&lists[1])?,
         includes: rows(&lists[2])?,
         excludes: rows(&lists[3])?,
     };
-    engine::judge(&graph)?;
+    engine::judge_sets(&graph)?;
     Ok(graph)
 }
 

@@ -1,8 +1,10 @@
 //! Wrong desks. Each asks the judge and spoils one thing, on the histories of the comparison.
 use super::{all_found, SEEDS};
-use compare::door::{asked, opened, stepped, PLACE, PLACES, TABLE_ROOM};
+use compare::door::{asked, opened, stepped, MARKING, PLACE, PLACES, SET, TABLE_ROOM};
 use compare::judge::door::DOOR as JUDGE;
-use compare::judge::graph_file::{read, read_marking};
+use compare::judge::engine::kept;
+use compare::judge::graph::Marking;
+use compare::judge::graph_file::{read, read_marking, set_bytes};
 use compare::seeds::{desk, Prng};
 use compare::value::Request::{self, Close, Open, Step};
 
@@ -17,8 +19,8 @@ fn right(file: &[u8], table: &mut [u8], request: Request) -> u64 {
 fn found(mutant: Desk) -> Option<u64> {
     for seed in 0..SEEDS {
         let mut prng = Prng::new(seed);
-        let (file, events) = desk::file(&mut prng);
-        let mut table = desk::table(&mut prng, events);
+        let (file, graph) = desk::file(&mut prng);
+        let mut table = desk::table(&mut prng, &graph);
         for _ in 0..40 {
             let a = file.get(3).copied().unwrap_or(0);
             let request = desk::request(&mut prng, &table, a);
@@ -32,7 +34,7 @@ fn found(mutant: Desk) -> Option<u64> {
     None
 }
 
-const MUTANTS: [(&str, Desk); 21] = [
+const MUTANTS: [(&str, Desk); 27] = [
     ("a step touches the next place", touches_the_next),
     ("a close keeps the marking", close_keeps_the_marking),
     ("a close keeps the place", close_keeps_the_place),
@@ -57,6 +59,12 @@ const MUTANTS: [(&str, Desk); 21] = [
         every_marking_judged,
     ),
     ("every marking judged by open", open_judges_all),
+    ("open leaves the set empty", open_leaves_the_set_empty),
+    ("a close keeps the set", close_keeps_the_set),
+    ("a false set is believed", false_set_is_believed),
+    ("16 before 5", sixteen_before_five),
+    ("16 after 15", sixteen_after_fifteen),
+    ("every set judged by step and close", every_set_judged),
     ("place modulo 32", place_modulo(32)),
     ("place modulo 256", place_modulo(256)),
     ("place 0 where open is refused", |file, table, request| {
@@ -296,6 +304,97 @@ fn open_judges_all(file: &[u8], table: &mut [u8], request: Request) -> u64 {
         return opened(Err(5));
     }
     right(file, table, request)
+}
+
+fn open_leaves_the_set_empty(file: &[u8], table: &mut [u8], request: Request) -> u64 {
+    let given = right(file, table, request);
+    if request == Open && done(given) {
+        marking(table, (given / 256) as usize)[MARKING - SET..].fill(0);
+    }
+    given
+}
+
+fn close_keeps_the_set(file: &[u8], table: &mut [u8], request: Request) -> u64 {
+    let before = table.to_vec();
+    let given = right(file, table, request);
+    if let (Close(place), true) = (request, done(given)) {
+        let set = PLACE * (place + 1) - SET..PLACE * (place + 1);
+        table[set.clone()].copy_from_slice(&before[set]);
+    }
+    given
+}
+
+/// The place that a step or a close names.
+fn place_of(request: Request) -> usize {
+    match request {
+        Step(place, _) | Close(place) => place,
+        Open => PLACES,
+    }
+}
+
+/// The marking at a place as it would be with its true set, where the file is sound.
+fn kept_there(file: &[u8], bytes: &[u8]) -> Option<(Marking, Marking)> {
+    let (graph, stands) = (read(file).ok()?, read_marking(bytes));
+    Some((stands.clone(), kept(&graph, stands)))
+}
+
+/// The table with the set at the request's place put right.
+fn put_right(file: &[u8], table: &[u8], request: Request) -> Vec<u8> {
+    let mut other = table.to_vec();
+    let bytes = marking(&mut other, place_of(request));
+    if let Some((_, right)) = kept_there(file, bytes) {
+        bytes[MARKING - SET..].copy_from_slice(&set_bytes(&right.enabled));
+    }
+    other
+}
+
+fn false_set_is_believed(file: &[u8], table: &mut [u8], request: Request) -> u64 {
+    let given = right(file, table, request);
+    if given % 256 != 16 {
+        return given;
+    }
+    let mut other = put_right(file, table, request);
+    let given = right(file, &mut other, request);
+    if done(given) {
+        table.copy_from_slice(&other);
+    }
+    given
+}
+
+fn sixteen_before_five(file: &[u8], table: &mut [u8], request: Request) -> u64 {
+    let given = right(file, table, request);
+    if given % 256 != 5 || request == Open {
+        return given;
+    }
+    match kept_there(file, marking(table, place_of(request))) {
+        Some((stands, right)) if stands != right => given + 11,
+        _ => given,
+    }
+}
+
+fn sixteen_after_fifteen(file: &[u8], table: &mut [u8], request: Request) -> u64 {
+    let given = right(file, table, request);
+    if let (Close(_), 16) = (request, given) {
+        if right(file, &mut put_right(file, table, request), request) == 15 {
+            return 15;
+        }
+    }
+    given
+}
+
+fn every_set_judged(file: &[u8], table: &mut [u8], request: Request) -> u64 {
+    let before = table.to_vec();
+    let given = right(file, table, request);
+    let elsewhere = |place| {
+        let bytes = &before[PLACE * place + 1..PLACE * (place + 1)];
+        let false_there = kept_there(file, bytes).is_some_and(|(stands, right)| stands != right);
+        is_open(&before, place) && false_there
+    };
+    if request == Open || !done(given) || !(0..PLACES).any(elsewhere) {
+        return given;
+    }
+    table.copy_from_slice(&before);
+    given + 16
 }
 
 /// A place that is cut down to a byte, or to a place that there is.

@@ -12,17 +12,17 @@ pub type Execute = fn(&Graph, &Marking, u8) -> Result<Marking, Answer>;
 
 pub fn right(graph: &Graph, marking: &Marking, e: u8) -> Result<Marking, Answer> {
     blocked(graph, marking, e)?;
-    Ok(stepped(&graph.relations, marking, e))
+    Ok(stepped(graph, marking, e))
 }
 
 /// Graphs, markings and activities as the comparison makes them.
-fn found(mutant: Execute) -> Option<u64> {
+pub fn found(mutant: Execute) -> Option<u64> {
     for seed in 0..SEEDS {
         let mut prng = Prng::new(seed);
         let value = graphs::value(&mut prng);
         let graph = graph_of(&value);
         for _ in 0..3 {
-            let marking = marking_of(&graphs::marking(&mut prng, value.events));
+            let marking = marking_of(&graphs::marking(&mut prng, &value));
             let e = graphs::activity(&mut prng, value.a);
             if right(&graph, &marking, e) != mutant(&graph, &marking, e) {
                 return Some(seed);
@@ -194,7 +194,7 @@ fn found_in_the_number() {
         let trace = graphs::trace(&mut prng, value.a);
         let mut given = vec![(JUDGE.replay)(&file, &trace)];
         given.push((JUDGE.replay)(&file[..file.len() - 1], &trace));
-        let mut lent = graphs::marking_bytes(&graphs::marking(&mut prng, value.events));
+        let mut lent = graphs::marking_bytes(&graphs::marking(&mut prng, &value));
         let activity = graphs::activity(&mut prng, value.a);
         given.push((JUDGE.step)(&file, &mut lent, activity));
         given.iter().any(|&number| mutant(number) != number)

@@ -155,7 +155,7 @@ impl Search {
             if !(self.may)(graph, marking, e) {
                 continue;
             }
-            let after = stepped(&graph.relations, marking, e);
+            let after = stepped(graph, marking, e);
             let cut = (self.cuts)(&Try {
                 graph,
                 before: marking,

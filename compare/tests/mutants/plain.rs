@@ -2,7 +2,7 @@
 //! judge another graph than they were handed.
 use super::engine::{right, Execute, MUTANTS};
 use super::{all_found, SEEDS};
-use compare::door::{self, Door, MOST_PAIRS};
+use compare::door::{self, Door, HEAD, HEAD_MARKING, MARKING, MOST_PAIRS, SET};
 use compare::judge::door::DOOR as JUDGE;
 use compare::judge::graph_file::read_marking;
 use compare::judge::plain::read;
@@ -14,7 +14,7 @@ use std::collections::BTreeSet;
 type Reading = fn(&PlainGraph) -> Result<PlainGraph, u8>;
 
 /// The seeded inputs of the comparison: sound, then damaged graphs, with the borders first.
-fn graphs_of(seed: u64) -> Vec<PlainGraph> {
+pub fn graphs_of(seed: u64) -> Vec<PlainGraph> {
     let mut prng = Prng::new(seed);
     let value = graphs::value(&mut prng);
     let mut graph = plain::of(&value);
@@ -32,7 +32,7 @@ fn graphs_of(seed: u64) -> Vec<PlainGraph> {
 fn told_apart(prng: &mut Prng, graph: &PlainGraph, mutant: Reading) -> bool {
     let a = graph.head.first().copied().unwrap_or(0);
     for _ in 0..3 {
-        let marking = plain::marking(prng, plain::events_of(graph));
+        let marking = plain::marking(prng, graph);
         let activity = graphs::activity(prng, a);
         let mut lent = [marking.clone(), marking.clone()];
         let wanted = (JUDGE.plain_step)(graph, &mut lent[0], activity);
@@ -106,7 +106,7 @@ const READINGS: [(&str, Reading); 22] = [
     ("limit on conditions alone", |g| limit_on(g, 0)),
     ("limit on excludes alone", |g| limit_on(g, 3)),
     ("opening marking not judged", opening_passes),
-    ("a head of 32 bytes is enough", short_head),
+    ("a head a byte short is enough", short_head),
 ];
 
 #[test]
@@ -141,7 +141,7 @@ const LIMITS: [(&str, Reading); 8] = [
     ("limit 4,095", |g| limited(g, MOST_PAIRS - 1)),
     ("limit 4,097", |g| limited(g, MOST_PAIRS + 1)),
     ("5 before 3", five_first),
-    ("a head of 32 bytes is enough", short_head),
+    ("a head a byte short is enough", short_head),
 ];
 
 #[test]
@@ -163,7 +163,7 @@ fn found_by_the_borders() {
 }
 
 fn number_of(graph: &PlainGraph) -> u64 {
-    (JUDGE.plain_accepting)(graph, &[0; 24]) % 256
+    (JUDGE.plain_accepting)(graph, &[0; MARKING]) % 256
 }
 
 fn lists(graph: &PlainGraph, change: fn(&[u16]) -> Vec<u16>) -> Result<PlainGraph, u8> {
@@ -211,6 +211,10 @@ fn rising_part(list: &[u16]) -> Vec<u16> {
     list[..fall.map_or(list.len(), |place| place + 1)].to_vec()
 }
 
+fn events_of(graph: &PlainGraph) -> u64 {
+    plain::value_in(graph).events
+}
+
 fn holds(events: u64, activity: u8) -> bool {
     activity < 64 && events >> activity & 1 == 1
 }
@@ -222,7 +226,7 @@ fn within(events: u64, pair: u16) -> bool {
 
 /// A pair outside the events that passes has no effect.
 fn judged_without(graph: &PlainGraph, passes: fn(u64, [u8; 2]) -> bool) -> Result<PlainGraph, u8> {
-    let events = plain::events_of(graph);
+    let events = events_of(graph);
     let mut other = graph.clone();
     if other.lists.iter().all(|list| list.len() <= MOST_PAIRS) {
         for list in &mut other.lists {
@@ -233,16 +237,16 @@ fn judged_without(graph: &PlainGraph, passes: fn(u64, [u8; 2]) -> bool) -> Resul
 }
 
 fn five_first(graph: &PlainGraph) -> Result<PlainGraph, u8> {
-    let events = plain::events_of(graph);
+    let events = events_of(graph);
     let stray = |list: &Vec<u16>| list.iter().any(|&pair| !within(events, pair));
-    if graph.head.len() >= 33 && graph.lists.iter().any(stray) {
+    if graph.head.len() >= HEAD && graph.lists.iter().any(stray) {
         return Err(5);
     }
     Ok(graph.clone())
 }
 
 fn limited(graph: &PlainGraph, limit: usize) -> Result<PlainGraph, u8> {
-    if graph.head.len() >= 33 && graph.lists.iter().any(|list| list.len() > limit) {
+    if graph.head.len() >= HEAD && graph.lists.iter().any(|list| list.len() > limit) {
         return Err(3);
     }
     lists(graph, once_each)
@@ -258,9 +262,9 @@ fn limit_on(graph: &PlainGraph, kind: usize) -> Result<PlainGraph, u8> {
 /// What is outside the events is not marked.
 fn opening_passes(graph: &PlainGraph) -> Result<PlainGraph, u8> {
     let mut other = graph.clone();
-    if other.head.len() >= 33 {
-        for place in 9..33 {
-            other.head[place] &= graph.head[1 + (place - 9) % 8];
+    if other.head.len() >= HEAD {
+        for place in HEAD_MARKING..HEAD - SET {
+            other.head[place] &= graph.head[1 + (place - 1) % SET];
         }
     }
     Ok(other)
@@ -268,24 +272,23 @@ fn opening_passes(graph: &PlainGraph) -> Result<PlainGraph, u8> {
 
 fn short_head(graph: &PlainGraph) -> Result<PlainGraph, u8> {
     let mut other = graph.clone();
-    if other.head.len() == 32 {
+    if other.head.len() == HEAD - 1 {
         other.head.push(0);
     }
     Ok(other)
 }
 
 /// The step rules written wrong, at the markings and activities of the plain inputs.
-fn found_step(mutant: Execute) -> Option<u64> {
+pub fn found_step(mutant: Execute) -> Option<u64> {
     for seed in 0..SEEDS {
         let mut prng = Prng::new(seed + SEEDS);
         for graph in graphs_of(seed) {
             let a = graph.head.first().copied().unwrap_or(0);
-            let events = plain::events_of(&graph);
             let Ok(judged) = read(&graph, 0) else {
                 continue;
             };
             for _ in 0..3 {
-                let bytes = plain::marking(&mut prng, events);
+                let bytes = plain::marking(&mut prng, &graph);
                 let activity = graphs::activity(&mut prng, a);
                 if (JUDGE.plain_accepting)(&graph, &bytes) % 256 != 0 {
                     continue;
@@ -334,7 +337,7 @@ const VERDICTS: [(&str, Accepting); 5] = [
     ("always", |g, m| accepting_by(g, m, |_, _, _| false)),
     ("the marking's 7 before the graph's 5", |g, m| {
         let number = (JUDGE.plain_accepting)(g, m);
-        if number == 5 && m.len() < 24 {
+        if number == 5 && m.len() < MARKING {
             7
         } else {
             number
@@ -356,7 +359,7 @@ fn found_by_verdicts() {
         for seed in 0..SEEDS {
             let mut prng = Prng::new(seed + SEEDS);
             for graph in graphs_of(seed) {
-                let bytes = plain::marking(&mut prng, plain::events_of(&graph));
+                let bytes = plain::marking(&mut prng, &graph);
                 if (JUDGE.plain_accepting)(&graph, &bytes) != mutant(&graph, &bytes) {
                     return Some(seed);
                 }
