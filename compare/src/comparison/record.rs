@@ -21,6 +21,7 @@ pub enum Function {
     Finish,
     ShutBy,
     Opening,
+    DeskFinish,
 }
 
 pub struct Call<'a> {

@@ -35,7 +35,7 @@ pub fn once(comparison: &mut Comparison) {
     }
     plain_rounds::once(comparison, &mut prng);
     desk::once(comparison, &mut prng);
-    finish::once(comparison, &mut prng);
+    finish::once(comparison);
 }
 
 pub fn round(comparison: &mut Comparison, seed: u64) {
