@@ -9,12 +9,12 @@ long read(int file, void *bytes, size_t count);
 void *memset(void *bytes, int value, size_t count);
 
 enum { MINE, LISTING, REWRITE, REPLAY, STEP, PLAIN_STEP, PLAIN_ACCEPTING, PLAIN_REPLAY, FILL, SUMMARY, DESK_OPEN, DESK_STEP, DESK_CLOSE };
-enum { FINISH = DESK_CLOSE + 1, SHUT_BY, OPENING, MARKS, MARKS_TEXT, GUESSES_TEXT, REPLAYS, FUNCTIONS, END = 255 };
+enum { FINISH = DESK_CLOSE + 1, SHUT_BY, OPENING, MARKS, MARKS_TEXT, GUESSES_TEXT, REPLAYS, DESK_FINISH, FUNCTIONS, END = 255 };
 enum { ROOM = 1 << 18, PAST = 64, UNTOUCHED = 165 };
 
 static const char *const names[FUNCTIONS] = {"mine",         "listing", "rewrite", "replay",    "step",      "plain step", "plain accepting",
                                              "plain replay", "fill",    "summary", "desk open", "desk step", "desk close", "finish",
-                                             "shut by",      "opening", "marks", "marks text", "guesses text", "replays"};
+                                             "shut by",      "opening", "marks", "marks text", "guesses text", "replays", "desk finish"};
 static uint8_t input[ROOM], beside[ROOM];
 static uint16_t memory[(ROOM + PAST) / 2], lists[4][ROOM / 2];
 static uint8_t *const lent = (uint8_t *)memory;
@@ -101,6 +101,7 @@ static uint64_t call(int function, size_t n, size_t m, size_t room, uint8_t acti
     case REPLAY: return skelfora_replay(input, n, beside, m);
     case FINISH: return skelfora_finish(input, n, beside, m, lent, room);
     case SHUT_BY: return skelfora_shut_by(input, n, beside, m, activity);
+    case DESK_FINISH: return skelfora_desk_finish(input, n, beside, m, place, lent, room);
     case OPENING: return skelfora_opening(input, n, lent, room);
     case MARKS: return skelfora_marks(input, n, beside, place, beside + place, m - place);
     case MARKS_TEXT: return skelfora_marks_text(input, n, beside, place, beside + place, m - place, lent, room);
@@ -161,10 +162,12 @@ int main(void) {
         }
         memset(lent, UNTOUCHED, room + PAST);
         for (size_t i = 0; is_altered(function) && i < m; i++) lent[i] = beside[i];
+        uint64_t looked_at = hash(beside, m);
         uint64_t given = call(function, n, m, room, activity, place);
         calls[function]++;
         all++;
         if (given != wanted || hash(lent, room) != after || touched(lent + room) || !blocker_in_place(function, given)) different++;
+        else if (hash(beside, m) != looked_at) different++; /* what is lent to be read stays as it was */
     }
     if (function != END || number(8) != all) {
         printf("the record is not whole\n");

@@ -151,8 +151,8 @@ uint64_t skelfora_replays(const uint8_t *file, size_t file_len, const uint8_t *l
  * Gives number + 256 * how many pairs. */
 uint64_t skelfora_fill(const uint8_t *file, size_t file_len, uint8_t kind, uint16_t *memory, size_t room);
 
-/* The call desk: the graph of a file, and a table of 32 places in the first 1,056 lent bytes. Fewer bytes give 7, before all else. Of step and
- * close 14 comes next (the place is above 31 or not open), then the file's refusals. A refusal leaves the whole table as it was. */
+/* The call desk: the graph of a file, and a table of 32 places in the first 1,056 lent bytes. Fewer bytes give 7, before all else. Of step,
+ * close and finish 14 comes next (the place is above 31 or not open), then the file's refusals. A refusal leaves the whole table as it was. */
 
 /* Gives the lowest free place a call at the graph's opening marking.
  * Gives number + 256 * place; the place is SKELFORA_NO_PLACE where refused. */
@@ -163,6 +163,11 @@ uint64_t skelfora_desk_step(const uint8_t *file, size_t file_len, uint8_t *table
 
 /* Frees a place whose call is accepting; it then holds zeros. Gives the number. */
 uint64_t skelfora_desk_close(const uint8_t *file, size_t file_len, uint8_t *table, size_t table_len, size_t place);
+
+/* How the call at a place can still finish: as skelfora_finish at the marking there. After the file's refusals SKELFORA_BUFFER_TOO_SMALL for
+ * fewer than four bytes of way. The table is only looked at. Gives the number; refused, way stays as it was. */
+uint64_t skelfora_desk_finish(const uint8_t *file, size_t file_len, const uint8_t *table, size_t table_len, size_t place, uint8_t *way,
+                              size_t room);
 
 /* The parts of what they give. Only a step and a replay have a blocker: beside SKELFORA_WAITING the smallest activity that the step
  * waits for, SKELFORA_NO_BLOCKER beside every other number, SKELFORA_DONE too. So ask for the number of a step that was done. */

@@ -60,6 +60,9 @@ pub struct Door {
     pub desk_step: fn(&[u8], &mut [u8], usize, u8) -> u64,
     /// graph file, table, place -> number
     pub desk_close: fn(&[u8], &mut [u8], usize) -> u64,
+    /// graph file, table, place, the four steps of the way (with fewer than four bytes 7)
+    /// -> number; the table is only looked at
+    pub desk_finish: fn(&[u8], &[u8], usize, &mut [u8]) -> u64,
 }
 
 /// No listing is longer: four relations of 4,096 lines of 8 bytes, 1,024 lines of at

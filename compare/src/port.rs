@@ -168,6 +168,15 @@ mod sys {
             table_len: usize,
             place: usize,
         ) -> u64;
+        pub fn skelfora_desk_finish(
+            file: *const u8,
+            file_len: usize,
+            table: *const u8,
+            table_len: usize,
+            place: usize,
+            way: *mut u8,
+            room: usize,
+        ) -> u64;
     }
 }
 
@@ -317,6 +326,12 @@ mod calls {
         let (lent, room) = (table.as_mut_ptr(), table.len());
         unsafe { sys::skelfora_desk_close(file.as_ptr(), file.len(), lent, room, place) }
     }
+
+    pub fn desk_finish(file: &[u8], table: &[u8], place: usize, way: &mut [u8]) -> u64 {
+        let (lent, room) = (way.as_mut_ptr(), way.len());
+        let (t, t_len) = (table.as_ptr(), table.len());
+        unsafe { sys::skelfora_desk_finish(file.as_ptr(), file.len(), t, t_len, place, lent, room) }
+    }
 }
 
 #[cfg(port)]
@@ -343,6 +358,7 @@ pub fn door() -> Option<Door> {
         desk_open: calls::desk_open,
         desk_step: calls::desk_step,
         desk_close: calls::desk_close,
+        desk_finish: calls::desk_finish,
     })
 }
 

@@ -42,6 +42,7 @@ const WITH_PORT: &[Expected] = &[
     ("desk open", &[0, 1, 2, 3, 4, 5, 6, 7, 13]),
     ("desk step", &[0, 1, 2, 3, 4, 5, 6, 7, 8, 9, 10, 14, 16]),
     ("desk close", &[0, 1, 2, 3, 4, 5, 6, 7, 14, 15, 16]),
+    ("desk finish", &[0, 1, 2, 3, 4, 5, 6, 7, 14, 16, 17]),
 ];
 
 /// What those do not show: judge and yardstick, both Rust. These say nothing of the proved code.

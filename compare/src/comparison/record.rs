@@ -25,6 +25,7 @@ pub enum Function {
     MarksText,
     GuessesText,
     Replays,
+    DeskFinish,
 }
 
 pub struct Call<'a> {

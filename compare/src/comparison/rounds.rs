@@ -38,7 +38,7 @@ pub fn once(comparison: &mut Comparison) {
     }
     plain_rounds::once(comparison, &mut prng);
     desk::once(comparison, &mut prng);
-    finish::once(comparison, &mut prng);
+    finish::once(comparison);
     marks::once(comparison);
 }
 

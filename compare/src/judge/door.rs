@@ -7,7 +7,7 @@ use super::miner::{mine as mine_log, Profile};
 use super::{desk, finish, log, marks, plain, summary};
 use crate::door::{filled, finished, marked, marks_put, opened, replayed, shut, stepped};
 use crate::door::{verdict, written, Door};
-use crate::door::{MARKING, PLACE, PLACES, SUMMARY_ROOM, TABLE_ROOM, WAY};
+use crate::door::{MARKING, PLACE, PLACES, SUMMARY_ROOM, TABLE_ROOM};
 use crate::value::{Answer, PlainGraph};
 
 pub const DOOR: Door = Door {
@@ -35,6 +35,7 @@ pub const DOOR: Door = Door {
     desk_open,
     desk_step,
     desk_close,
+    desk_finish,
 };
 
 /// A profile that there is not is refused before the log is read.
@@ -104,11 +105,7 @@ fn step(file: &[u8], lent: &mut [u8], activity: u8) -> u64 {
 fn finish_on_file(file: &[u8], marking: &[u8], lent: &mut [u8]) -> u64 {
     let way = graph_file::read(file).and_then(|graph| {
         let marking = lent_marking(&graph, marking)?;
-        if lent.len() < WAY {
-            return Err(7);
-        }
-        accepting(&graph, &marking)?;
-        finish::finish(&graph, &marking)
+        finish::finish_within(&graph, &marking, lent.len())
     });
     finished(way, lent)
 }
@@ -219,6 +216,14 @@ fn desk_close(file: &[u8], table: &mut [u8], place: usize) -> u64 {
     written(at_desk(table, |places| {
         desk::close(&graph_file::read(file), places, place).map(|()| 0)
     }))
+}
+
+/// The table is asked as it is, and nothing of it is kept.
+fn desk_finish(file: &[u8], table: &[u8], place: usize, lent: &mut [u8]) -> u64 {
+    let way = at_desk(&mut table.to_vec(), |places| {
+        desk::finish(&graph_file::read(file), places, place, lent.len())
+    });
+    finished(way, lent)
 }
 
 /// A request to the desk of a table, 7 where that is too short. Only a place that the request

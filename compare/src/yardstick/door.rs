@@ -31,6 +31,9 @@ pub const DOOR: Door = Door {
     desk_open: |file, table| opened(desk::open(file, table)),
     desk_step: |file, table, place, e| stepped(desk::step(file, table, place, e)),
     desk_close: |file, table, place| written(desk::close(file, table, place).map(|()| 0)),
+    desk_finish: |file, table, place, lent| {
+        finished(desk::finish(file, table, place, lent.len()), lent)
+    },
 };
 
 fn mine(bytes: &[u8], profile: u8, file: &mut [u8]) -> u64 {

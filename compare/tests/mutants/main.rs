@@ -1,6 +1,7 @@
 //! Deliberately wrong versions of single rules. Each must be told apart from the judge by
 //! the inputs that the comparison makes: this tries the generators, not the judge.
 mod desk;
+mod desk_ways;
 mod enabled;
 mod engine;
 mod files;

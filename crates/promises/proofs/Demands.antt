@@ -13,6 +13,7 @@
 -- Enabled, 6/12: every marking given back has the true set of enabled activities; 16 exactly where a set is false; a replay is its steps.
 -- NotRedundant, 7/12: which exclusions step 7 takes out of the mined graph, and that it takes out no other.
 -- Finish, 8/12: a way out is a finishing sequence, the shortest and the first of these; 17 exactly where there is none.
+-- FinishAtPlace, 8/12: at a place of the desk the way out is that of the place's own call; 14 exactly where there is none.
 -- ShutOut, 8/12: what is said to have shut a step out is an event of the call that excludes it.
 -- Marks, 9/12: each count is the number of traces of its kind, and they add up; the measures; 18 and 19; demand 3 in marks.
 use mathlib.Core.Path.{_≡_, refl, sym, ap, subst, _∙_}

@@ -81,6 +81,7 @@ use Rattle.graphfile.proofs.marking.write_marking.Reads as write-marking
 use Rattle.desk.proofs.requests.open.Reads as desk-open
 use Rattle.desk.proofs.requests.step.Reads as desk-step
 use Rattle.desk.proofs.requests.close.Reads as desk-close
+use Rattle.desk.proofs.way.finish.Reads as desk-finish
 use Rattle.steps.proofs.relations.unbroken.Reads as unbroken
 use Rattle.steps.proofs.relations.excluded_by.Reads as excluded-by
 use Rattle.steps.proofs.relations.absent.Reads as absent
@@ -111,6 +112,7 @@ use Rattle.port.proofs.skelfora_replay.Reads as skelfora-replay
 use Rattle.port.proofs.skelfora_step.Reads as skelfora-step
 use Rattle.port.proofs.skelfora_opening.Reads as skelfora-opening
 use Rattle.port.proofs.way_out.skelfora_finish.Reads as skelfora-finish
+use Rattle.port.proofs.way_out.skelfora_desk_finish.Reads as skelfora-desk-finish
 use Rattle.port.proofs.way_out.skelfora_shut_by.Reads as skelfora-shut-by
 use Rattle.port.proofs.marked.skelfora_marks.Reads as skelfora-marks
 use Rattle.port.proofs.marked.skelfora_marks_text.Reads as skelfora-marks-text
@@ -415,6 +417,9 @@ desk-step-once κ a r r′ s s′ h h′ = (h .0 ∙ sym (h′ .0), h .1 ∙ sym
 pub desk-close-once : OnceLent desk-close.Post (λ κ s. now (s .1 .1 .0))
 desk-close-once κ a r r′ s s′ h h′ = (h .0 ∙ sym (h′ .0), h .1 ∙ sym (h′ .1))
 
+pub desk-finish-once : Once desk-finish.Post
+desk-finish-once κ a r r′ s s′ h h′ = h ∙ sym h′
+
 -- ---- steps
 
 pub unbroken-once : Once unbroken.Post
@@ -516,6 +521,9 @@ skelfora-opening-once κ a r r′ s s′ h h′ = (h .0 ∙ sym (h′ .0), h .1 
 
 pub skelfora-finish-once : OnceLent skelfora-finish.Post (λ κ s. now (s .1 .1 .0))
 skelfora-finish-once κ a r r′ s s′ h h′ = (h .0 ∙ sym (h′ .0), h .1 ∙ sym (h′ .1))
+
+pub skelfora-desk-finish-once : OnceLent skelfora-desk-finish.Post (λ κ s. now (s .1 .1 .1 .0))
+skelfora-desk-finish-once κ a r r′ s s′ h h′ = (h .0 ∙ sym (h′ .0), h .1 ∙ sym (h′ .1))
 
 pub skelfora-shut-by-once : Once skelfora-shut-by.Post
 skelfora-shut-by-once κ a r r′ s s′ h h′ = h ∙ sym h′
