@@ -19,8 +19,11 @@ Inv-loop events relations s asked out₀ a₀ out a =
 abbrev μ-loop : tie.MeasureT-loop
 μ-loop events relations s asked out₀ a₀ out a = width - a .0
 
+loop-holds : tie.Need-loop-holds Inv-loop μ-loop
+loop-holds c = search (gathering, needs)
+
 pub enabled-set-spec : {M : Type 1} → statement M
 enabled-set-spec =
     tie.close
-    (tie.spec Inv-loop μ-loop (λ c κs. search needs) (λ c κs. search needs) (λ c. search (gathering, needs)) (λ c κs. search needs)
+    (tie.spec Inv-loop μ-loop (λ c κs. search needs) (λ c κs. search needs) loop-holds (λ c κs. search needs)
     (λ c κs. search needs) (λ c. search (gathering, needs)) (λ c. search (gathering, needs)) (λ c. search (gathered, needs)))

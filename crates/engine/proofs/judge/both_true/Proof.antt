@@ -3,7 +3,10 @@ use Rattle.sets.proofs.Ways.{conjunction}
 use Rattle.engine.proofs.judge.both_true.Statement.{statement}
 use Rattle.engine.proofs.judge.both_true.Tie as tie
 
+returns-2 : tie.Need-returns-2
+returns-2 c = search (conjunction, needs)
+
 pub both-true-spec : {M : Type 1} → statement M
 both-true-spec =
     tie.close
-    (tie.spec (λ c κs. search needs) (λ c. search (conjunction, needs)) (λ c κs. search needs) (λ c. search (conjunction, needs)))
+    (tie.spec (λ c κs. search needs) (λ c. search (conjunction, needs)) (λ c κs. search needs) returns-2)
