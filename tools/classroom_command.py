@@ -18,8 +18,8 @@ PARTS = [
 
 COLUMNS = ["trace", "number", "blocker", "place", "executed", "pending", "included", "open", "accepting"]
 
-# A line of the program `cases`.
-REPLAYED = re.compile(r"replay .* trace \d+: (\d+) by (\d+) place (\d+) executed(.*) pending(.*) included(.*) accepting (yes|no)")
+# A line of the program `cases`. It has what is enabled too (02, 6/12), which the page's rows leave to the reader.
+REPLAYED = re.compile(r"replay .* trace \d+: (\d+) by (\d+) place (\d+) executed(.*) pending(.*) included(.*) enabled.* accepting (yes|no)")
 
 
 def traces(log):

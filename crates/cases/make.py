@@ -2,7 +2,7 @@
 """Writes data/, args and stdout of the program `cases`: python3 crates/cases/make.py
 
 A case is three words: what is done, a file of data/, and a second file or `-`. What it must print was worked out by hand from 01
-and stands beside it, with the reason where that is not plain; nothing here reads, mines or replays. `rt check cases` runs the
+and 02 and stands beside it, with the reason where that is not plain; nothing here reads, mines or replays. `rt check cases` runs the
 proved code on the files and compares.
 """
 import os
@@ -82,23 +82,23 @@ def same(length, contents):
     return f"; written: 0 length {length} contents {contents} same yes"
 
 
-def graph_good(name, file, a, events, length, contents):
-    """An accepted file: A, the events, and the same file when it is written again."""
+def graph_good(name, file, a, events, enabled, length, contents):
+    """An accepted file: A, the events, what is enabled at its marking, and the same file when it is written again."""
     files[name] = file
-    case("graph", name, "-", f"graph {name}: 0" + said(a, events) + same(length, contents))
+    case("graph", name, "-", f"graph {name}: 0" + said(a, events, enabled) + same(length, contents))
 
 
 def graph_bad(name, file, number):
     files[name] = file
-    case("graph", name, "-", f"graph {name}: {number}" + said(0, []))
+    case("graph", name, "-", f"graph {name}: {number}" + said(0, [], []))
 
 
 def listed(word, members):
     return f" {word}" + "".join(f" {a}" for a in members)
 
 
-def marked(executed, pending, included):
-    return listed("executed", executed) + listed("pending", pending) + listed("included", included)
+def marked(executed, pending, included, enabled):
+    return listed("executed", executed) + listed("pending", pending) + listed("included", included) + listed("enabled", enabled)
 
 
 def blocked(answer):
@@ -106,16 +106,16 @@ def blocked(answer):
     return answer if isinstance(answer, str) else f"{answer} by 255"
 
 
-def ended(answer, place, executed, pending, included, accepting):
-    return f": {blocked(answer)} place {place}" + marked(executed, pending, included) + f" accepting {accepting}"
+def ended(answer, place, executed, pending, included, enabled, accepting):
+    return f": {blocked(answer)} place {place}" + marked(executed, pending, included, enabled) + f" accepting {accepting}"
 
 
-def said(a, events):
-    return f" A {a}" + listed("events", events)
+def said(a, events, enabled):
+    return f" A {a}" + listed("events", events) + listed("enabled", enabled)
 
 
 def replays(graph, log, a, *table):
-    """Each trace with what its replay returns: number, place, executed, pending, included, accepting."""
+    """Each trace with what its replay returns: number, place, executed, pending, included, enabled, accepting."""
     files[log] = log_file(a, [trace for trace, _ in table])
     case("replay", graph, log, *(f"replay {graph} {log} trace {k}" + ended(*end) for k, (_, end) in enumerate(table)))
 
@@ -185,10 +185,10 @@ G = graph_file(
     [(0, [0]), (1, [1]), (2, [1, 2])],
 )  # fmt: skip
 G_CONTENTS = "0 2 18 2 36 1 45 3"
-graph_good("sample.graph", G, 3, [0, 1, 2], 124, G_CONTENTS)
+graph_good("sample.graph", G, 3, [0, 1, 2], [0], 124, G_CONTENTS)
 
 # the paper's graph a, b, c, d as 0, 1, 2, 3 (document 002, the example after Definition 3): 6 rows, 106 bytes; a is pending and b
-# is not included, so its marking is no opening one
+# is not included, so its marking is no opening one, and 0 need not wait for it
 PAPER = graph_file(
     4, [0, 1, 2, 3], [], [0], [0, 2, 3],
     [(0, [1]), (1, [0])],
@@ -196,16 +196,16 @@ PAPER = graph_file(
     [(2, [1])],
     [(3, [1, 3])],
 )  # fmt: skip
-graph_good("paper.graph", PAPER, 4, [0, 1, 2, 3], 106, "0 2 18 2 36 1 45 1")
+graph_good("paper.graph", PAPER, 4, [0, 1, 2, 3], [0, 2, 3], 106, "0 2 18 2 36 1 45 1")
 
 # 1: 51 bytes; 52 are a graph with no activity
 NONE = "0 0 0 0 0 0 0 0"
 EMPTY_GRAPH = graph_file(0, [], [], [], [], [], [], [], [])
 graph_bad("bytes-51.graph", EMPTY_GRAPH[:51], 1)
-graph_good("bytes-52.graph", EMPTY_GRAPH, 0, [], 52, NONE)
+graph_good("bytes-52.graph", EMPTY_GRAPH, 0, [], [], 52, NONE)
 
 # any marking within the events is accepted: 2 executed, 0 and 2 pending, 0 included; 1 is no event
-graph_good("marking.graph", graph_file(3, [0, 2], [2], [0, 2], [0], [], [], [], []), 3, [0, 2], 52, NONE)
+graph_good("marking.graph", graph_file(3, [0, 2], [2], [0, 2], [0], [], [], [], []), 3, [0, 2], [0], 52, NONE)
 
 # 2: either letter, the edition
 graph_bad("letter-first.graph", edited(G, (0, b"C")), 2)
@@ -214,12 +214,12 @@ graph_bad("edition-0.graph", edited(G, (2, b"\x00")), 2)
 graph_bad("edition-2.graph", edited(G, (2, b"\x02")), 2)
 
 # 3: A 64 and 65, 64 rows and 65; the greatest file has 52 + 9 * 4 * 64 = 2,356 bytes, and 64 rows take 576
-graph_good("a-64.graph", edited(G, (3, b"\x40")), 64, [0, 1, 2], 124, G_CONTENTS)
+graph_good("a-64.graph", edited(G, (3, b"\x40")), 64, [0, 1, 2], [0], 124, G_CONTENTS)
 graph_bad("a-65.graph", edited(G, (3, b"\x41")), 3)
 ALL = range(64)
 ROWS = [(a, ALL) for a in ALL]
 MOST_ROWS = graph_file(64, ALL, ALL, ALL, ALL, ROWS, ROWS, ROWS, ROWS)
-graph_good("rows-64.graph", MOST_ROWS, 64, ALL, 2356, "0 64 576 64 1152 64 1728 64")
+graph_good("rows-64.graph", MOST_ROWS, 64, ALL, ALL, 2356, "0 64 576 64 1152 64 1728 64")
 graph_bad("rows-65.graph", graph_file(64, ALL, [], [], ALL, ROWS + [(64, [0])], [], [], []), 3)
 
 # 5: an event that is A; executed, pending, included outside the events
@@ -248,7 +248,7 @@ graph_bad("outside-and-empty.graph", edited(G, (52, b"\x03"), (53, eight([]))), 
 
 # a pair may be in includes and excludes at once
 BOTH = graph_file(2, [0, 1], [], [], [0, 1], [], [], [(0, [1])], [(0, [1])])
-graph_good("both.graph", BOTH, 2, [0, 1], 70, "0 0 0 0 0 1 9 1")
+graph_good("both.graph", BOTH, 2, [0, 1], [0, 1], 70, "0 0 0 0 0 1 9 1")
 
 # two faults in one file: the order decides
 graph_bad("letters-then-a.graph", edited(G, (0, b"C"), (3, b"\x41")), 2)
@@ -272,18 +272,18 @@ for size, line in (
 
 # ---- mined graphs, as files: L gives G; a log with A 0 gives the empty graph; a refused log gives its number and nothing else
 
-case("mine", "sample.log", "sample.graph", "mine sample.log sample.graph: 0" + said(3, [0, 1, 2]) + same(124, G_CONTENTS))
-case("mine", "a-0.log", "bytes-52.graph", "mine a-0.log bytes-52.graph: 0" + said(0, []) + same(52, NONE))
-case("mine", "a-65.log", "bytes-52.graph", "mine a-65.log bytes-52.graph: 3" + said(0, []))
+case("mine", "sample.log", "sample.graph", "mine sample.log sample.graph: 0" + said(3, [0, 1, 2], [0]) + same(124, G_CONTENTS))
+case("mine", "a-0.log", "bytes-52.graph", "mine a-0.log bytes-52.graph: 0" + said(0, [], []) + same(52, NONE))
+case("mine", "a-65.log", "bytes-52.graph", "mine a-65.log bytes-52.graph: 3" + said(0, [], []))
 
 # ---- replay: the paper's runs on a, b, c, d. After c, d, c the conditions between a and b bar both, and d has excluded itself.
 
-LOCKED = ([2, 3], [0], [0, 1, 2], "no")
+LOCKED = ([2, 3], [0], [0, 1, 2], [2], "no")
 replays(
     "paper.graph", "paper.log", 4,
-    ([], (0, 0, [], [0], [0, 2, 3], "no")),
-    ([0], (0, 1, [0], [1], [0, 2, 3], "yes")),
-    ([0, 2, 1, 3, 0], (0, 5, [0, 1, 2, 3], [1], [0, 2], "yes")),
+    ([], (0, 0, [], [0], [0, 2, 3], [0, 2, 3], "no")),
+    ([0], (0, 1, [0], [1], [0, 2, 3], [0, 2, 3], "yes")),
+    ([0, 2, 1, 3, 0], (0, 5, [0, 1, 2, 3], [1], [0, 2], [0, 2], "yes")),
     ([2, 3, 2], (0, 3, *LOCKED)),
     ([2, 3, 2, 0], ("10 by 1", 3, *LOCKED)),
     ([2, 3, 2, 1], ("10 by 0", 3, *LOCKED)),
@@ -293,10 +293,10 @@ replays(
 # a trace handed to replay: 512 events, 513, and an activity that is no event, of any number up to 255
 files["one.graph"] = graph_file(1, [0], [], [], [0], [], [], [], [])
 for name, trace, end in (
-    ("trace-512", [0] * 512, (0, 512, [0], [], [0], "yes")),
-    ("trace-513", [0] * 513, (3, 0, [], [], [], "no")),
-    ("trace-1", [0, 1], (8, 1, [0], [], [0], "no")),
-    ("trace-255", [0, 255], (8, 1, [0], [], [0], "no")),
+    ("trace-512", [0] * 512, (0, 512, [0], [], [0], [0], "yes")),
+    ("trace-513", [0] * 513, (3, 0, [], [], [], [], "no")),
+    ("trace-1", [0, 1], (8, 1, [0], [], [0], [0], "no")),
+    ("trace-255", [0, 255], (8, 1, [0], [], [0], [0], "no")),
 ):
     files[name] = bytes(trace)
     case("trace", "one.graph", name, f"trace one.graph {name}" + ended(*end))
@@ -332,7 +332,7 @@ for name, number in (("bytes-5.log", 1), ("letter-first.log", 2), ("a-65.log", 3
 def one_step(accepting, answer, marking):
     """The marking handed over is accepting or not, with the number where it or the graph is refused. Enabled and the step have
     the same number and blocker; then the marking that the step leaves."""
-    judged = answer if answer in (3, 5) else 0
+    judged = answer if answer in (3, 5, 16) else 0
     return f": accepting {judged} {accepting}; enabled {blocked(answer)}; step {blocked(answer)}" + marked(*marking)
 
 
@@ -343,54 +343,74 @@ def step(graph, name, marking, accepting, activity, answer, after=None):
 
 
 # on G, at its opening marking: 0 is done, and lets 1 in again, excludes itself, asks for 2; 1 and 2 wait for 0; the rest are no events
-OPEN = ([], [], [0, 1, 2])
-step("sample.graph", "open-0.step", OPEN, "yes", 0, 0, ([0], [2], [1, 2]))
+OPEN = ([], [], [0, 1, 2], [0])
+step("sample.graph", "open-0.step", OPEN, "yes", 0, 0, ([0], [2], [1, 2], [1, 2]))
 step("sample.graph", "open-1.step", OPEN, "yes", 1, "10 by 0")
 step("sample.graph", "open-2.step", OPEN, "yes", 2, "10 by 0")
 step("sample.graph", "open-3.step", OPEN, "yes", 3, 8)
 step("sample.graph", "open-64.step", OPEN, "yes", 64, 8)
 step("sample.graph", "open-255.step", OPEN, "yes", 255, 8)
 # after 0: 0 is out, 2 is pending and included; 2 is done, excludes 1 and itself, and is pending no more
-BEGUN = ([0], [2], [1, 2])
+BEGUN = ([0], [2], [1, 2], [1, 2])
 step("sample.graph", "begun-0.step", BEGUN, "no", 0, 9)
-step("sample.graph", "begun-2.step", BEGUN, "no", 2, 0, ([0, 2], [], []))
+step("sample.graph", "begun-2.step", BEGUN, "no", 2, 0, ([0, 2], [], [], []))
 # a condition's source that is not included bars nothing; what is pending and not included leaves a marking accepting
-step("sample.graph", "source-out.step", ([], [], [1]), "yes", 1, 0, ([1], [2], []))
-step("sample.graph", "pending-out.step", ([0], [2], [1]), "yes", 2, 9)
-# a marking outside the events: 5, before 8
+step("sample.graph", "source-out.step", ([], [], [1], [1]), "yes", 1, 0, ([1], [2], [], []))
+step("sample.graph", "pending-out.step", ([0], [2], [1], [1]), "yes", 2, 9)
+# a marking outside the events: 5, before 8, and before 16, which the last two would get
 for name, marking in (
-    ("executed-out.step", ([3], [], [0, 1, 2])),
-    ("pending-3.step", ([], [3], [0, 1, 2])),
-    ("included-3.step", ([], [], [0, 1, 2, 3])),
-    ("included-63.step", ([], [], [63])),
+    ("executed-out.step", ([3], [], [0, 1, 2], [0])),
+    ("pending-3.step", ([], [3], [0, 1, 2], [0])),
+    ("included-3.step", ([], [], [0, 1, 2, 3], [])),
+    ("included-63.step", ([], [], [63], [63])),
 ):
     step("sample.graph", name, marking, "no", 255, 5)
 
+# 02, 6/12: a false set is not believed, and nothing happens. At the opening marking 0 alone is enabled; an enabled set that leaves the
+# events is a false one, not an outside one; 16 comes before 8, 9 and 10
+for name, enabled, activity in (
+    ("none-enabled.step", [], 0),
+    ("another-enabled.step", [1], 1),
+    ("one-more-enabled.step", [0, 2], 0),
+    ("no-event-enabled.step", [0, 3], 0),
+    ("63-enabled.step", [0, 63], 255),
+    ("all-enabled.step", range(64), 2),
+):
+    step("sample.graph", name, (*OPEN[:3], enabled), "no", activity, 16)
+# after 0: what it shut out is kept, what it freed is not
+step("sample.graph", "kept-0.step", (*BEGUN[:3], [0, 1, 2]), "no", 0, 16)
+step("sample.graph", "freed-none.step", (*BEGUN[:3], [1]), "no", 1, 16)
+
 # 9 comes before 10: in the paper's graph 1 is not included, and its source 0 is included and not executed
-step("paper.graph", "paper-1.step", ([], [0], [0, 2, 3]), "no", 1, 9)
+step("paper.graph", "paper-1.step", ([], [0], [0, 2, 3], [0, 2, 3]), "no", 1, 9)
 
 # 02, 2/12: 3 waits for 0, 2 and 4. The smallest of them that is included and not executed blocks; executed and included in turn
 files["blocked.graph"] = graph_file(5, range(5), [], [], range(5), [(3, [0, 2, 4])], [], [], [])
-step("blocked.graph", "by-0.step", ([], [], range(5)), "yes", 3, "10 by 0")
-step("blocked.graph", "0-executed.step", ([0], [], range(5)), "yes", 3, "10 by 2")
-step("blocked.graph", "0-excluded.step", ([], [], [1, 2, 3, 4]), "yes", 3, "10 by 2")
-step("blocked.graph", "4-left.step", ([0], [], [0, 1, 3, 4]), "yes", 3, "10 by 4")
-step("blocked.graph", "none-left.step", ([0, 2], [], [0, 1, 2, 3]), "yes", 3, 0, ([0, 2, 3], [], [0, 1, 2, 3]))
+step("blocked.graph", "by-0.step", ([], [], range(5), [0, 1, 2, 4]), "yes", 3, "10 by 0")
+step("blocked.graph", "0-executed.step", ([0], [], range(5), [0, 1, 2, 4]), "yes", 3, "10 by 2")
+step("blocked.graph", "0-excluded.step", ([], [], [1, 2, 3, 4], [1, 2, 4]), "yes", 3, "10 by 2")
+step("blocked.graph", "4-left.step", ([0], [], [0, 1, 3, 4], [0, 1, 4]), "yes", 3, "10 by 4")
+REST = ([], [0, 1, 2, 3], [0, 1, 2, 3])
+step("blocked.graph", "none-left.step", ([0, 2], *REST), "yes", 3, 0, ([0, 2, 3], *REST))
 
 # the paper's Table 3: event 4 has response 2, include 2, exclude 7
-TABLE_3 = ([0], [1, 4], [1, 4, 7])
-files["table-3.graph"] = graph_file(8, range(8), *TABLE_3, [], [(4, [2])], [(4, [2])], [(4, [7])])
-step("table-3.graph", "table-3.step", TABLE_3, "no", 4, 0, ([0, 4], [1, 2], [1, 2, 4]))
+TABLE_3 = ([0], [1, 4], [1, 4, 7], [1, 4, 7])
+files["table-3.graph"] = graph_file(8, range(8), *TABLE_3[:3], [], [(4, [2])], [(4, [2])], [(4, [7])])
+step("table-3.graph", "table-3.step", TABLE_3, "no", 4, 0, ([0, 4], [1, 2], [1, 2, 4], [1, 2, 4]))
 
 # a response to itself stays pending; an include wins over an exclude
 files["self.graph"] = graph_file(2, [0, 1], [], [], [0, 1], [], [(0, [0])], [(0, [0])], [(0, [0, 1])])
-step("self.graph", "self.step", ([], [0], [0, 1]), "no", 0, 0, ([0], [0], [0]))
+step("self.graph", "self.step", ([], [0], [0, 1], [0, 1]), "no", 0, 0, ([0], [0], [0], [0]))
 
 # ---- a graph as a value, put together by hand: at its opening marking the step of its row's key; then its write into a buffer of
 # `size` bytes, which are 170 each. Whether the buffer then holds the graph file named, and the rest of it what it held.
 
 
-def value(file, name, size, stepped, written, a=3, events=(0, 1, 2), opening=OPEN, row=(0, 1, [0])):
+FREE = ([], [], [0, 1, 2], [0, 1, 2])  # no event waits
+WAITED = ([], [], [0, 1, 2], [0, 2])  # 1 waits for 0
+
+
+def value(file, name, size, stepped, written, a=3, events=(0, 1, 2), opening=WAITED, row=(0, 1, [0])):
     """The row: relation, key and members. `stepped`: accepting, number, the marking then; `written`: number, length."""
     relation, key, members = row
     name += ".value"
@@ -402,21 +422,21 @@ def value(file, name, size, stepped, written, a=3, events=(0, 1, 2), opening=OPE
 
 
 def value_bad(name, number, size=61, **changes):
-    """Refused with 3 or 5 by all four: the marking is as it was, and so is every byte of the buffer."""
-    value("row-c.graph", name, size, ("no", number, changes.get("opening", OPEN)), (number, 0), **changes)
+    """Refused with 3, 5 or 16 by all four: the marking is as it was, and so is every byte of the buffer."""
+    value("row-c.graph", name, size, ("no", number, changes.get("opening", WAITED)), (number, 0), **changes)
 
 
 # one row in each relation, from 1 to 0: 52 + 9 bytes
 ROW = [(1, [0])]
-files["row-c.graph"] = graph_file(3, [0, 1, 2], *OPEN, ROW, [], [], [])
-files["row-r.graph"] = graph_file(3, [0, 1, 2], *OPEN, [], ROW, [], [])
+files["row-c.graph"] = graph_file(3, [0, 1, 2], *OPEN[:3], ROW, [], [], [])
+files["row-r.graph"] = graph_file(3, [0, 1, 2], *OPEN[:3], [], ROW, [], [])
 files["row-i.graph"] = graph_file(3, [0, 1, 2], [], [], [1, 2], [], [], ROW, [])
-files["row-e.graph"] = graph_file(3, [0, 1, 2], *OPEN, [], [], [], ROW)
-WAITS = ("yes", "10 by 0", OPEN)
+files["row-e.graph"] = graph_file(3, [0, 1, 2], *OPEN[:3], [], [], [], ROW)
+WAITS = ("yes", "10 by 0", WAITED)
 value("row-c.graph", "row-c", 255, WAITS, (0, 61))
-value("row-r.graph", "row-r", 61, ("yes", 0, ([1], [0], [0, 1, 2])), (0, 61), row=(1, 1, [0]))
-value("row-i.graph", "row-i", 62, ("yes", 0, ([1], [], [0, 1, 2])), (0, 61), row=(2, 1, [0]), opening=([], [], [1, 2]))
-value("row-e.graph", "row-e", 61, ("yes", 0, ([1], [], [1, 2])), (0, 61), row=(3, 1, [0]))
+value("row-r.graph", "row-r", 61, ("yes", 0, ([1], [0], *FREE[2:])), (0, 61), row=(1, 1, [0]), opening=FREE)
+value("row-i.graph", "row-i", 62, ("yes", 0, ([1], *FREE[1:])), (0, 61), row=(2, 1, [0]), opening=([], [], [1, 2], [1, 2]))
+value("row-e.graph", "row-e", 61, ("yes", 0, ([1], [], [1, 2], [1, 2])), (0, 61), row=(3, 1, [0]), opening=FREE)
 
 # 7, and no byte changes
 value("row-c.graph", "size-60", 60, WAITS, (7, 0))
@@ -424,78 +444,91 @@ value("row-c.graph", "size-0", 0, WAITS, (7, 0))
 
 # A 64 and 65, and the greatest byte
 files["a-64-row.graph"] = graph_file(64, [63], [], [], [63], [], [], [], [(63, [63])])
-LAST = {"events": [63], "opening": ([], [], [63]), "row": (3, 63, [63])}
-value("a-64-row.graph", "a-64", 61, ("yes", 0, ([63], [], [])), (0, 61), a=64, **LAST)
+LAST = {"events": [63], "opening": ([], [], [63], [63]), "row": (3, 63, [63])}
+value("a-64-row.graph", "a-64", 61, ("yes", 0, ([63], [], [], [])), (0, 61), a=64, **LAST)
 value_bad("a-65", 3, a=65)
 value_bad("a-255", 3, a=255)
 
 # 5: an event that is A; the opening marking outside the events; a row at a number that is no event; a row's set outside the events
 value_bad("event-is-a", 5, a=2)
 value_bad("event-63", 5, a=63, **LAST)
-value_bad("executed-outside", 5, opening=([3], [], [0, 1, 2]))
-value_bad("pending-outside", 5, opening=([], [3], [0, 1, 2]))
-value_bad("included-outside", 5, opening=([], [], [0, 1, 2, 3]))
+value_bad("executed-outside", 5, opening=([3], *WAITED[1:]))
+value_bad("pending-outside", 5, opening=([], [3], *WAITED[2:]))
+value_bad("included-outside", 5, opening=([], [], [0, 1, 2, 3], [0, 2]))
 for relation in range(4):
     value_bad(f"key-no-event-{relation}", 5, row=(relation, 3, [0]))
     value_bad(f"set-outside-{relation}", 5, row=(relation, 1, [0, 3]))
 value_bad("key-63", 5, a=64, row=(0, 63, [0]))
 
-# an empty row is no fault anywhere, and no row of the file: at 3, which is no event, and where there is no activity at all
-files["no-row.graph"] = graph_file(3, [0, 1, 2], *OPEN, [], [], [], [])
-value("no-row.graph", "empty-at-3", 52, ("yes", 8, OPEN), (0, 52), row=(0, 3, []))
-value("bytes-52.graph", "empty", 52, ("yes", 8, ([], [], [])), (0, 52), a=0, events=[], opening=([], [], []), row=(0, 0, []))
+# 16: the opening marking's set is false, with a member too few, one that waits, one that is no event, one that is no activity of A
+value_bad("none-enabled", 16, opening=(*WAITED[:3], []))
+value_bad("one-enabled-less", 16, opening=(*WAITED[:3], [0]))
+value_bad("waiting-enabled", 16, opening=FREE)
+value_bad("no-event-enabled", 16, a=64, opening=(*WAITED[:3], [0, 2, 3]))
+value_bad("63-enabled", 16, opening=(*WAITED[:3], [0, 2, 63]))
+value_bad("enabled-of-no-row", 16, row=(3, 1, [0]))
 
-# two faults in one value: 3, then 5, then 7
-value_bad("a-then-event", 3, a=65, opening=([3], [], [0, 1, 2]))
+# an empty row is no fault anywhere, and no row of the file: at 3, which is no event, and where there is no activity at all
+files["no-row.graph"] = graph_file(3, [0, 1, 2], *OPEN[:3], [], [], [], [])
+value("no-row.graph", "empty-at-3", 52, ("yes", 8, FREE), (0, 52), opening=FREE, row=(0, 3, []))
+NOTHING = ([], [], [], [])
+value("bytes-52.graph", "empty", 52, ("yes", 8, NOTHING), (0, 52), a=0, events=[], opening=NOTHING, row=(0, 0, []))
+
+# two faults in one value: 3, then 5, then 16, then 7
+value_bad("a-then-event", 3, a=65, opening=([3], *WAITED[1:]))
 value_bad("a-then-buffer", 3, size=60, a=65)
 value_bad("event-then-buffer", 5, size=60, a=2)
+value_bad("a-then-false", 3, a=65, opening=FREE)
+value_bad("event-then-false", 5, opening=([3], *FREE[1:]))
+value_bad("row-then-false", 5, opening=FREE, row=(2, 1, [0, 3]))
+value_bad("false-then-buffer", 16, size=60, opening=FREE)
 
 # ---- docs/CLASSROOM.md
 
 # 1: 0 Request, 1 Inspect, 2 Assign; the graph is G
 replays(
     "sample.graph", "class-route.log", 3,
-    ([], (0, 0, [], [], [0, 1, 2], "yes")),
-    ([0], (0, 1, [0], [2], [1, 2], "no")),
-    ([0, 2], (0, 2, [0, 2], [], [], "yes")),
-    ([0, 1], (0, 2, [0, 1], [2], [2], "no")),
-    ([0, 1, 2], (0, 3, [0, 1, 2], [], [], "yes")),
-    ([1], ("10 by 0", 0, [], [], [0, 1, 2], "no")),
-    ([0, 2, 1], (9, 2, [0, 2], [], [], "no")),
+    ([], (0, 0, [], [], [0, 1, 2], [0], "yes")),
+    ([0], (0, 1, [0], [2], [1, 2], [1, 2], "no")),
+    ([0, 2], (0, 2, [0, 2], [], [], [], "yes")),
+    ([0, 1], (0, 2, [0, 1], [2], [2], [2], "no")),
+    ([0, 1, 2], (0, 3, [0, 1, 2], [], [], [], "yes")),
+    ([1], ("10 by 0", 0, [], [], [0, 1, 2], [0], "no")),
+    ([0, 2, 1], (9, 2, [0, 2], [], [], [], "no")),
 )  # fmt: skip
 
 # 2: 0 Waive, 1 Survey, 2 Assign; condition 1 to 2, 0 excludes 1
 files["class-waive.graph"] = graph_file(3, [0, 1, 2], [], [], [0, 1, 2], [(2, [1])], [], [], [(0, [1])])
 replays(
     "class-waive.graph", "class-waive.log", 3,
-    ([2], ("10 by 1", 0, [], [], [0, 1, 2], "no")),
-    ([1, 2], (0, 2, [1, 2], [], [0, 1, 2], "yes")),
-    ([0], (0, 1, [0], [], [0, 2], "yes")),
-    ([0, 2], (0, 2, [0, 2], [], [0, 2], "yes")),
-    ([0, 1], (9, 1, [0], [], [0, 2], "no")),
+    ([2], ("10 by 1", 0, [], [], [0, 1, 2], [0, 1], "no")),
+    ([1, 2], (0, 2, [1, 2], [], [0, 1, 2], [0, 1, 2], "yes")),
+    ([0], (0, 1, [0], [], [0, 2], [0, 2], "yes")),
+    ([0, 2], (0, 2, [0, 2], [], [0, 2], [0, 2], "yes")),
+    ([0, 1], (9, 1, [0], [], [0, 2], [0, 2], "no")),
 )  # fmt: skip
 
 # 3: 0 Book pilot, 1 Pilot report, 2 Cancel pilot; response 0 to 1, 0 includes 1, 2 excludes 1
 files["class-pending.graph"] = graph_file(3, [0, 1, 2], [], [], [0, 1, 2], [], [(0, [1])], [(0, [1])], [(2, [1])])
 replays(
     "class-pending.graph", "class-pending.log", 3,
-    ([0], (0, 1, [0], [1], [0, 1, 2], "no")),
-    ([0, 1], (0, 2, [0, 1], [], [0, 1, 2], "yes")),
-    ([0, 2], (0, 2, [0, 2], [1], [0, 2], "yes")),
-    ([0, 2, 1], (9, 2, [0, 2], [1], [0, 2], "no")),
-    ([0, 2, 0], (0, 3, [0, 2], [1], [0, 1, 2], "no")),
+    ([0], (0, 1, [0], [1], [0, 1, 2], [0, 1, 2], "no")),
+    ([0, 1], (0, 2, [0, 1], [], [0, 1, 2], [0, 1, 2], "yes")),
+    ([0, 2], (0, 2, [0, 2], [1], [0, 2], [0, 2], "yes")),
+    ([0, 2, 1], (9, 2, [0, 2], [1], [0, 2], [0, 2], "no")),
+    ([0, 2, 0], (0, 3, [0, 2], [1], [0, 1, 2], [0, 1, 2], "no")),
 )  # fmt: skip
 
 # 4: 0 Waive, 1 Survey, 2 Assign, 3 Damage; condition 1 to 2, 0 excludes 1, 3 includes 1
 files["class-again.graph"] = graph_file(4, [0, 1, 2, 3], [], [], [0, 1, 2, 3], [(2, [1])], [], [(3, [1])], [(0, [1])])
 replays(
     "class-again.graph", "class-again.log", 4,
-    ([0, 2], (0, 2, [0, 2], [], [0, 2, 3], "yes")),
-    ([0, 3], (0, 2, [0, 3], [], [0, 1, 2, 3], "yes")),
-    ([0, 3, 2], ("10 by 1", 2, [0, 3], [], [0, 1, 2, 3], "no")),
-    ([0, 3, 1], (0, 3, [0, 1, 3], [], [0, 1, 2, 3], "yes")),
-    ([0, 3, 1, 2], (0, 4, [0, 1, 2, 3], [], [0, 1, 2, 3], "yes")),
-    ([3, 0, 2], (0, 3, [0, 2, 3], [], [0, 2, 3], "yes")),
+    ([0, 2], (0, 2, [0, 2], [], [0, 2, 3], [0, 2, 3], "yes")),
+    ([0, 3], (0, 2, [0, 3], [], [0, 1, 2, 3], [0, 1, 3], "yes")),
+    ([0, 3, 2], ("10 by 1", 2, [0, 3], [], [0, 1, 2, 3], [0, 1, 3], "no")),
+    ([0, 3, 1], (0, 3, [0, 1, 3], [], [0, 1, 2, 3], [0, 1, 2, 3], "yes")),
+    ([0, 3, 1, 2], (0, 4, [0, 1, 2, 3], [], [0, 1, 2, 3], [0, 1, 2, 3], "yes")),
+    ([3, 0, 2], (0, 3, [0, 2, 3], [], [0, 2, 3], [0, 2, 3], "yes")),
 )  # fmt: skip
 
 

@@ -49,13 +49,19 @@ fn say_written(g: Graph, file: &[u8]) {
     text::yes_or_no(b" same", is_file(&out, w.length, file));
 }
 
+// A, the events, and what is enabled at the opening marking.
+fn say_head(head: Head) {
+    text::number(b" A ", head.activities as u64);
+    text::members(b" events", head.events);
+    text::members(b" enabled", head.opening.enabled);
+}
+
 pub fn rewrite(file: &[u8]) {
     let r = graphfile::read(file);
     let answer = r.answer;
     let g = r.graph;
     text::answer(b": ", answer);
-    text::number(b" A ", g.head.activities as u64);
-    text::members(b" events", g.head.events);
+    say_head(g.head);
     if answer.is_done() {
         say_written(g, file);
     }
@@ -68,8 +74,7 @@ pub fn mine<'a>(log: &'a [u8], file: &'a [u8]) {
     let answer = m.answer;
     let g = m.graph;
     text::answer(b": ", answer);
-    text::number(b" A ", g.head.activities as u64);
-    text::members(b" events", g.head.events);
+    say_head(g.head);
     if answer.is_done() {
         say_written(g, file);
     }
@@ -109,11 +114,11 @@ pub fn lend(file: &[u8], i: u32) {
 // The set in the first 8 bytes: a marking's executed activities stand first.
 fn set_of(bytes: &[u8]) -> Set {
     let m = graphfile::marking::read_marking(bytes);
-    m.executed
+    m.state.executed
 }
 
 // A value's bytes: how large a buffer is lent to its write; A; relation, key and set of its row; events; opening marking.
-const VALUE: usize = 44;
+const VALUE: usize = 52;
 
 // A graph put together by hand: nothing judges it, so it may be one that no file can hold. It has one row, in the relation of that number.
 fn value_of(bytes: &[u8]) -> Graph {

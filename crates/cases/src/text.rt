@@ -57,7 +57,9 @@ pub fn members(name: &[u8], s: Set) {
 }
 
 pub fn marking(m: Marking) {
-    members(b" executed", m.executed);
-    members(b" pending", m.pending);
-    members(b" included", m.included);
+    let s = m.state;
+    members(b" executed", s.executed);
+    members(b" pending", s.pending);
+    members(b" included", s.included);
+    members(b" enabled", m.enabled);
 }

@@ -21,12 +21,13 @@ use Rattle.port.specs.Port.{packedOf, verdictOf, blockedOf, refusedStep,
 abbrev pub handed : List ℕ → List ℕ → List ℕ → List ℕ → List ℕ → PlainGraph
 handed head c r i x = plainOf (headFrom head) c r i x
 
--- 7 where there are too few bytes for a head, so that there is no graph to judge; then the graph's refusals; then 7 where there are too few
--- for a marking
+-- 7 where there are too few bytes for a head, so that there is no graph to judge; where there are too few for a marking the graph's refusals,
+-- then 7. A graph with a marking beside it is judged with it, since all 5s come before any 16 (02, 6/12)
 unfoldable pub judgedHanded : List ℕ → List ℕ → List ℕ → List ℕ → List ℕ → List ℕ → Answer
 judgedHanded head c r i x marking =
     when ltb (length head) loneHeadLength then BufferTooSmall
-    else thenAsk (plainJudgedFor (handed head c r i x) 0) (when ltb (length marking) markingLength then BufferTooSmall else Done)
+    else when ltb (length marking) markingLength then thenAsk (plainJudgedFor (handed head c r i x) 0) BufferTooSmall
+    else Done
 
 -- skelfora_plain_step: these, then what the step gives
 unfoldable pub plainStepOf : List ℕ → List ℕ → List ℕ → List ℕ → List ℕ → List ℕ → ℕ → Stepped
@@ -38,7 +39,7 @@ plainStepOf head c r i x marking a =
 abbrev pub plainStepBytes : List ℕ → List ℕ → List ℕ → List ℕ → List ℕ → List ℕ → ℕ → List ℕ
 plainStepBytes head c r i x marking a = storedOf (plainStepOf head c r i x marking a) marking
 
--- skelfora_plain_accepting: the same refusals, then the marking's; 2^32 more where accepting
+-- skelfora_plain_accepting: the same refusals, then those of graph and marking; 2^32 more where accepting
 unfoldable pub plainAcceptingNumber : List ℕ → List ℕ → List ℕ → List ℕ → List ℕ → List ℕ → ℕ
 plainAcceptingNumber head c r i x marking =
     when isDone (judgedHanded head c r i x marking) then

@@ -13,7 +13,7 @@ use engine::Stepped;
 use sets::Activity;
 use sets::Answer;
 
-// Whether there is a graph, that can be accepted, and room for a marking beside it.
+// Whether there is a graph, and a marking beside it: without one the graph is judged by itself, with one they are judged together.
 fn judge_handed<'a>(
     head: &'a [u8],
     conditions: &'a [u16],
@@ -28,15 +28,15 @@ fn judge_handed<'a>(
     if head.len() < graphfile::head::LENGTH {
         return Answer::BufferTooSmall;
     }
+    if graphfile::marking::LENGTH <= marking.len() {
+        return Answer::Done;
+    }
     let h = graphfile::head::read_head(head);
     let answer = plain::judge::judge_for(h, conditions, responses, includes, excludes, 0);
     if !answer.is_done() {
         return answer;
     }
-    if marking.len() < graphfile::marking::LENGTH {
-        return Answer::BufferTooSmall;
-    }
-    Answer::Done
+    Answer::BufferTooSmall
 }
 
 // A step: these refusals, then the step's.

@@ -11,9 +11,9 @@ judge-handed-spec =
     tie.close
     (tie.spec
     (λ c. unfold judgedHanded in search (ask-stops, ask-goes, choice, handed-judged, needs) depth 8)
-    (λ c κs. search needs)
-    (λ c κs. search needs)
-    (λ c κs. search needs)
     (λ c. unfold judgedHanded in search (ask-stops, ask-goes, choice, handed-judged, needs) depth 8)
+    (λ c κs. search needs)
+    (λ c κs. search needs)
+    (λ c κs. search needs)
     (λ c. unfold judgedHanded in search (ask-stops, ask-goes, choice, handed-judged, needs) depth 8)
     (λ c. unfold judgedHanded in search (ask-stops, ask-goes, choice, handed-judged, needs) depth 8))
