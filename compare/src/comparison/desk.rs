@@ -26,7 +26,7 @@ pub fn round(comparison: &mut Comparison, prng: &mut Prng) {
             let a = file.get(3).copied().unwrap_or(0);
             let request = desk::request(prng, &table, a);
             table = comparison.desk(&file, &table, request);
-            if a <= MOST_SEARCHED && prng.percent(ASKED) {
+            if graph.a <= MOST_SEARCHED && prng.percent(ASKED) {
                 let place = desk::place(prng, &table);
                 comparison.desk_finish(&file, &table, place, desk::way_room(prng));
             }

@@ -25,7 +25,7 @@ fn found(mutant: Ways) -> Option<u64> {
             asked(&JUDGE, &file, &mut table, request);
             let place = desk::place(&mut prng, &table);
             let room = desk::way_room(&mut prng);
-            if a > 5 {
+            if graph.a > 5 {
                 continue;
             }
             let (mut lent, mut theirs, mut own) = (table.clone(), vec![165; room], vec![165; room]);
