@@ -9,12 +9,12 @@ long read(int file, void *bytes, size_t count);
 void *memset(void *bytes, int value, size_t count);
 
 enum { MINE, LISTING, REWRITE, REPLAY, STEP, PLAIN_STEP, PLAIN_ACCEPTING, PLAIN_REPLAY, FILL, SUMMARY, DESK_OPEN, DESK_STEP, DESK_CLOSE };
-enum { FINISH = DESK_CLOSE + 1, SHUT_BY, OPENING, FUNCTIONS, END = 255 };
+enum { FINISH = DESK_CLOSE + 1, SHUT_BY, OPENING, MARKS, MARKS_TEXT, GUESSES_TEXT, REPLAYS, DESK_FINISH, FUNCTIONS, END = 255 };
 enum { ROOM = 1 << 18, PAST = 64, UNTOUCHED = 165 };
 
 static const char *const names[FUNCTIONS] = {"mine",         "listing", "rewrite", "replay",    "step",      "plain step", "plain accepting",
                                              "plain replay", "fill",    "summary", "desk open", "desk step", "desk close", "finish",
-                                             "shut by",      "opening"};
+                                             "shut by",      "opening", "marks", "marks text", "guesses text", "replays", "desk finish"};
 static uint8_t input[ROOM], beside[ROOM];
 static uint16_t memory[(ROOM + PAST) / 2], lists[4][ROOM / 2];
 static uint8_t *const lent = (uint8_t *)memory;
@@ -83,7 +83,8 @@ static int is_plain(int function) { return function >= PLAIN_STEP && function <=
 
 #define PLAIN input, n, lists[0], pairs[0], lists[1], pairs[1], lists[2], pairs[2], lists[3], pairs[3]
 
-/* `activity` is that of a step, the relation to fill from, or the number of the profile. */
+/* `activity` is that of a step, the relation to fill from, or the number of the profile. Of marks `place` is where the labels begin beside
+   the input, after the log. */
 static uint64_t call(int function, size_t n, size_t m, size_t room, uint8_t activity, size_t place) {
     switch (function) {
     case DESK_OPEN: return skelfora_desk_open(input, n, lent, room);
@@ -100,7 +101,12 @@ static uint64_t call(int function, size_t n, size_t m, size_t room, uint8_t acti
     case REPLAY: return skelfora_replay(input, n, beside, m);
     case FINISH: return skelfora_finish(input, n, beside, m, lent, room);
     case SHUT_BY: return skelfora_shut_by(input, n, beside, m, activity);
+    case DESK_FINISH: return skelfora_desk_finish(input, n, beside, m, place, lent, room);
     case OPENING: return skelfora_opening(input, n, lent, room);
+    case MARKS: return skelfora_marks(input, n, beside, place, beside + place, m - place);
+    case MARKS_TEXT: return skelfora_marks_text(input, n, beside, place, beside + place, m - place, lent, room);
+    case GUESSES_TEXT: return skelfora_guesses_text(input, n, beside, m, lent, room);
+    case REPLAYS: return skelfora_replays(input, n, beside, m, lent, room);
     default: return skelfora_step(input, n, lent, room, activity);
     }
 }
@@ -114,6 +120,7 @@ static int blocker_in_place(int function, uint64_t given) {
     case PLAIN_STEP:
     case DESK_STEP:
     case PLAIN_REPLAY: return waits == (skelfora_blocker(given) != SKELFORA_NO_BLOCKER);
+    case MARKS: return 1; /* those bits are counts */
     default: return skelfora_blocker(given) == 0;
     }
 }
@@ -130,7 +137,15 @@ static int short_buffers(void) {
     memset(lent, UNTOUCHED, ROOM);
     uint64_t before = hash(lent, ROOM);
     int wrong = skelfora_listing(input, 0, SKELFORA_FULL, lent, SKELFORA_LISTING_ROOM - 1) != 7;
+    wrong += skelfora_guesses_text(input, 0, input, 0, lent, SKELFORA_MARKS_ROOM - 1) != 7;
     return wrong + (hash(lent, ROOM) != before);
+}
+
+/* Each count has its own 12 bits. */
+static int counts_read(void) {
+    uint64_t given = 0 + ((uint64_t)1 << 8) + ((uint64_t)2 << 20) + ((uint64_t)3 << 32) + ((uint64_t)1024 << 44);
+    return skelfora_true_positives(given) != 1 || skelfora_false_positives(given) != 2 || skelfora_false_negatives(given) != 3 ||
+           skelfora_true_negatives(given) != 1024;
 }
 
 int main(void) {
@@ -147,16 +162,18 @@ int main(void) {
         }
         memset(lent, UNTOUCHED, room + PAST);
         for (size_t i = 0; is_altered(function) && i < m; i++) lent[i] = beside[i];
+        uint64_t looked_at = hash(beside, m);
         uint64_t given = call(function, n, m, room, activity, place);
         calls[function]++;
         all++;
         if (given != wanted || hash(lent, room) != after || touched(lent + room) || !blocker_in_place(function, given)) different++;
+        else if (hash(beside, m) != looked_at) different++; /* what is lent to be read stays as it was */
     }
     if (function != END || number(8) != all) {
         printf("the record is not whole\n");
         return 2;
     }
-    different += short_buffers();
+    different += short_buffers() + counts_read();
     for (int i = 0; i < FUNCTIONS; i++) {
         different += calls[i] == 0;
         printf("%s %lu, ", names[i], calls[i]);

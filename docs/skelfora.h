@@ -29,7 +29,9 @@ enum {
     SKELFORA_NOT_OPEN = 14,
     SKELFORA_NOT_ACCEPTING = 15,
     SKELFORA_FALSE_ENABLED = 16,
-    SKELFORA_NO_WAY_OUT = 17
+    SKELFORA_NO_WAY_OUT = 17,
+    SKELFORA_LABELS_NOT_AS_MANY = 18,
+    SKELFORA_LABEL_ABOVE_ONE = 19
 };
 
 /* The profiles; any other number is refused with 12, before the log is read. */
@@ -43,6 +45,9 @@ enum {
 #define SKELFORA_WAY_ROOM 4
 #define SKELFORA_NO_STEP 255
 
+/* The byte of a trace whose replay is done and accepting; of any other it is the replay's number. */
+#define SKELFORA_YES 128
+
 /* What skelfora_blocker gives beside every number but SKELFORA_WAITING. */
 #define SKELFORA_NO_BLOCKER 255
 
@@ -51,6 +56,8 @@ enum {
 #define SKELFORA_GRAPH_ROOM 2356     /* a graph file: 52, and 9 for each of 4 x 64 rows */
 #define SKELFORA_LISTING_ROOM 147506 /* a listing; skelfora_listing asks for no less */
 #define SKELFORA_SUMMARY_SIZE 128    /* a summary: a byte for each of 64 activities, twice */
+#define SKELFORA_MARKS_ROOM 98       /* the text of marks; the functions that write it ask for no less */
+#define SKELFORA_TRACES_ROOM 1024    /* a byte for each trace of any log: labels, guesses, replays */
 #define SKELFORA_MARKING_SIZE 32     /* a marking: executed, pending, included, enabled, 8 bytes each */
 #define SKELFORA_HEAD_SIZE 41        /* a head: A, then events, then a marking */
 #define SKELFORA_HEAD_AT 3           /* where the first SKELFORA_HEAD_STORED bytes of a head stand in a graph's file ... */
@@ -122,12 +129,30 @@ uint64_t skelfora_finish(const uint8_t *file, size_t file_len, const uint8_t *ma
  * activity; SKELFORA_NO_STEP where nothing did, and where the file is refused. */
 uint64_t skelfora_shut_by(const uint8_t *file, size_t file_len, const uint8_t *trace, size_t trace_len, uint8_t activity);
 
+/* Marks of a file's graph on a log, by labels: a byte for each trace, 1 in order and 0 not. Refusals: the log's, the file's,
+ * SKELFORA_LABELS_NOT_AS_MANY, SKELFORA_LABEL_ABOVE_ONE. Gives the number, and above it the counts of the confusion table, 12 bits each: see
+ * skelfora_true_positives and its likes below; all 0 where refused. */
+uint64_t skelfora_marks(const uint8_t *file, size_t file_len, const uint8_t *log, size_t log_len, const uint8_t *labels, size_t labels_len);
+
+/* The same as text, into the first bytes of out: seven lines, or the one line of a refusal. Fewer than SKELFORA_MARKS_ROOM bytes give 7, before all
+ * else. Gives number + 256 * length of the text. */
+uint64_t skelfora_marks_text(const uint8_t *file, size_t file_len, const uint8_t *log, size_t log_len, const uint8_t *labels,
+                             size_t labels_len, uint8_t *out, size_t room);
+
+/* The text of the marks of guesses, which stand in the place of a graph's verdicts. Refusals: SKELFORA_ABOVE_LIMIT for more than 1,024
+ * labels, SKELFORA_LABELS_NOT_AS_MANY where the guesses are not as many as the labels, SKELFORA_LABEL_ABOVE_ONE for a label or a guess. */
+uint64_t skelfora_guesses_text(const uint8_t *guesses, size_t guesses_len, const uint8_t *labels, size_t labels_len, uint8_t *out, size_t room);
+
+/* Replays all traces of a log on the graph of a file, which is read once: byte k of out is SKELFORA_YES where trace k is done and accepting, else
+ * the number of its replay. Refusals: the log's, the file's, 7 for fewer bytes than traces. Gives number + 256 * how many bytes. */
+uint64_t skelfora_replays(const uint8_t *file, size_t file_len, const uint8_t *log, size_t log_len, uint8_t *out, size_t room);
+
 /* Relation kind of a graph file (0 conditions, 1 responses, 2 includes, 3 excludes; any other has no pair) into the first numbers of memory.
  * Gives number + 256 * how many pairs. */
 uint64_t skelfora_fill(const uint8_t *file, size_t file_len, uint8_t kind, uint16_t *memory, size_t room);
 
-/* The call desk: the graph of a file, and a table of 32 places in the first 1,056 lent bytes. Fewer bytes give 7, before all else. Of step and
- * close 14 comes next (the place is above 31 or not open), then the file's refusals. A refusal leaves the whole table as it was. */
+/* The call desk: the graph of a file, and a table of 32 places in the first 1,056 lent bytes. Fewer bytes give 7, before all else. Of step,
+ * close and finish 14 comes next (the place is above 31 or not open), then the file's refusals. A refusal leaves the whole table as it was. */
 
 /* Gives the lowest free place a call at the graph's opening marking.
  * Gives number + 256 * place; the place is SKELFORA_NO_PLACE where refused. */
@@ -139,6 +164,11 @@ uint64_t skelfora_desk_step(const uint8_t *file, size_t file_len, uint8_t *table
 /* Frees a place whose call is accepting; it then holds zeros. Gives the number. */
 uint64_t skelfora_desk_close(const uint8_t *file, size_t file_len, uint8_t *table, size_t table_len, size_t place);
 
+/* How the call at a place can still finish: as skelfora_finish at the marking there. After the file's refusals SKELFORA_BUFFER_TOO_SMALL for
+ * fewer than four bytes of way. The table is only looked at. Gives the number; refused, way stays as it was. */
+uint64_t skelfora_desk_finish(const uint8_t *file, size_t file_len, const uint8_t *table, size_t table_len, size_t place, uint8_t *way,
+                              size_t room);
+
 /* The parts of what they give. Only a step and a replay have a blocker: beside SKELFORA_WAITING the smallest activity that the step
  * waits for, SKELFORA_NO_BLOCKER beside every other number, SKELFORA_DONE too. So ask for the number of a step that was done. */
 static inline unsigned skelfora_number(uint64_t given) { return (unsigned)(given & 0xff); }
@@ -146,6 +176,10 @@ static inline size_t skelfora_length(uint64_t given) { return (size_t)((given >>
 static inline size_t skelfora_place(uint64_t given) { return skelfora_length(given); }
 static inline size_t skelfora_pairs(uint64_t given) { return skelfora_length(given); }
 static inline unsigned skelfora_shutter(uint64_t given) { return (unsigned)skelfora_length(given); }
+static inline unsigned skelfora_true_positives(uint64_t given) { return (unsigned)((given >> 8) & 0xfff); }
+static inline unsigned skelfora_false_positives(uint64_t given) { return (unsigned)((given >> 20) & 0xfff); }
+static inline unsigned skelfora_false_negatives(uint64_t given) { return (unsigned)((given >> 32) & 0xfff); }
+static inline unsigned skelfora_true_negatives(uint64_t given) { return (unsigned)((given >> 44) & 0xfff); }
 static inline unsigned skelfora_blocker(uint64_t given) { return (unsigned)((given >> 40) & 0xff); }
 static inline int skelfora_accepting(uint64_t given) { return (int)((given >> 32) & 1); }
 

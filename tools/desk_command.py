@@ -13,6 +13,7 @@ The call desk: one graph, and 32 places for vessels in port, each at its own mar
   open        gives the lowest free place a call at the opening state
   step P A    runs activity A at place P
   close P     frees place P, where its call may end
+  way P       the shortest way to the end of the call at place P, if four steps are enough; nothing is done
   show        which places are open, and at each which activities are open
   show P      what is executed, pending, included and enabled at place P
 
@@ -24,10 +25,10 @@ The first three are answered by the proved library with one line: number, place,
 
 STATUS = "exit status: 0 all requests answered, 1 the graph or the log is refused, 2 used wrongly, 3 something could not be read or built"
 
-# The two numbers that decide what is printed; docs/FORMATS.md has them all.
-WAITING, NOT_OPEN = 10, 14
+# The numbers that decide what is printed; docs/FORMATS.md has them all.
+DONE, WAITING, NOT_OPEN, NO_WAY_OUT = 0, 10, 14, 17
 
-REQUESTS = "open, step P A, close P, show or show P"
+REQUESTS = "open, step P A, close P, way P, show or show P"
 
 
 class NoRequest(Exception):
@@ -104,6 +105,17 @@ class Desk:
     def close(self, place):
         return self.answer(self.library.call("skelfora_desk_close", self.file, self.table, handed(place)), place)
 
+    def way(self, place):
+        """As ./call has it; a place without a call is answered as by close."""
+        lent = port.way()
+        given = self.library.call("skelfora_desk_finish", self.file, self.table, handed(place), lent)
+        if port.number(given) not in (DONE, NO_WAY_OUT):
+            return self.answer(given, place)
+        if port.number(given) == NO_WAY_OUT:
+            return f"place {place} way out: none within {port.WAY} steps"
+        steps = port.steps(lent)
+        return f"place {place} way out: {self.listed(steps) if steps else 'none needed, the call may end now'}"
+
     def not_open(self, place):
         """What a step of no activity is answered there, on a copy of the table: 14 where the place is not open."""
         copy = port.buffer(len(self.table))
@@ -143,6 +155,8 @@ class Desk:
             return self.step(place_in(given[0]), given[1])
         if (word, len(given)) == ("close", 1):
             return self.close(place_in(given[0]))
+        if (word, len(given)) == ("way", 1):
+            return self.way(place_in(given[0]))
         if word == "show" and len(given) < 2:
             return self.show(place_in(given[0])) if given else self.places()
         raise NoRequest(f"a request is {REQUESTS}")

@@ -8,6 +8,7 @@ import program
 from command import Fault
 
 GRAPH_ROOM = 2356
+MARKS_ROOM = 98
 SET = 8
 
 # A marking's sets, in the order of its bytes; enabled is what can be done next.
@@ -16,6 +17,9 @@ MARKING = SET * len(Sets._fields)
 
 PLACES, PLACE = 32, 1 + MARKING
 NO_PLACE = 255
+
+# The bytes of a way out, and what stands in one that is not used.
+WAY, NO_STEP = 4, 255
 FULL = 0
 
 # The greatest number that a function can be handed; all above 31 are alike to the desk.
@@ -32,9 +36,12 @@ TAKEN = {
     "skelfora_step": [*BYTES, *BYTES, ctypes.c_uint8],
     "skelfora_finish": [*BYTES, *BYTES, *BYTES],
     "skelfora_shut_by": [*BYTES, *BYTES, ctypes.c_uint8],
+    "skelfora_marks_text": [*BYTES, *BYTES, *BYTES, *BYTES],
+    "skelfora_guesses_text": [*BYTES, *BYTES, *BYTES],
     "skelfora_desk_open": [*BYTES, *BYTES],
     "skelfora_desk_step": [*BYTES, *BYTES, ctypes.c_size_t, ctypes.c_uint8],
     "skelfora_desk_close": [*BYTES, *BYTES, ctypes.c_size_t],
+    "skelfora_desk_finish": [*BYTES, *BYTES, ctypes.c_size_t, *BYTES],
 }
 
 
@@ -86,6 +93,16 @@ def members(data):
 def sets(marking):
     """The four sets of a marking, each as step numbers."""
     return Sets(*(members(marking[at : at + SET]) for at in range(0, MARKING, SET)))
+
+
+def way():
+    """Lent memory for a way out, no step in it."""
+    return holding(bytes([NO_STEP] * WAY))
+
+
+def steps(lent):
+    """The steps of a way out."""
+    return [step for step in lent.raw if step != NO_STEP]
 
 
 def buffer(room):

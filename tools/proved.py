@@ -2,9 +2,7 @@
 from collections import namedtuple
 
 import port
-from port import number, place
-
-NO_STEP = 255
+from port import NO_STEP, number, place
 
 Stepped = namedtuple("Stepped", "number blocker marking")
 
@@ -42,9 +40,9 @@ class Library:
 
     def finish(self, file, marking):
         """The number, and the steps of the way."""
-        lent = port.holding(bytes([NO_STEP] * 4))
+        lent = port.way()
         given = self.call("skelfora_finish", file, marking, lent)
-        return number(given), [step for step in lent.raw if step != NO_STEP]
+        return number(given), port.steps(lent)
 
     def shut_by(self, file, trace, activity):
         """What shut an activity out in this trace, or None."""

@@ -1,4 +1,4 @@
-//! The sixteen functions of the proved library `port`, as every implementation offers them.
+//! The functions of the proved library `port`, as every implementation offers them.
 //! Numbers and bytes only, so that results can be compared to the byte.
 use crate::value::{Answer, PlainGraph, Request};
 
@@ -38,6 +38,14 @@ pub struct Door {
     pub finish: fn(&[u8], &[u8], &mut [u8]) -> u64,
     /// graph file, trace, activity -> number + 256 x what shut it out, 255 where nothing did
     pub shut_by: fn(&[u8], &[u8], u8) -> u64,
+    /// graph file, log, labels -> number + 2^8 x TP + 2^20 x FP + 2^32 x FN + 2^44 x TN
+    pub marks: fn(&[u8], &[u8], &[u8]) -> u64,
+    /// graph file, log, labels, text (with less room than `MARKS_ROOM` 7) -> number + 256 x length
+    pub marks_text: fn(&[u8], &[u8], &[u8], &mut [u8]) -> u64,
+    /// guesses, labels, text -> the same
+    pub guesses_text: fn(&[u8], &[u8], &mut [u8]) -> u64,
+    /// graph file, log, a byte for each trace -> number + 256 x traces
+    pub replays: fn(&[u8], &[u8], &mut [u8]) -> u64,
     /// the plain engine's step: marking, activity -> number + 2^40 x blocker
     pub plain_step: fn(&PlainGraph, &mut [u8], u8) -> u64,
     /// marking -> number + 2^32 where accepting
@@ -52,6 +60,9 @@ pub struct Door {
     pub desk_step: fn(&[u8], &mut [u8], usize, u8) -> u64,
     /// graph file, table, place -> number
     pub desk_close: fn(&[u8], &mut [u8], usize) -> u64,
+    /// graph file, table, place, the four steps of the way (with fewer than four bytes 7)
+    /// -> number; the table is only looked at
+    pub desk_finish: fn(&[u8], &[u8], usize, &mut [u8]) -> u64,
 }
 
 /// No listing is longer: four relations of 4,096 lines of 8 bytes, 1,024 lines of at
@@ -64,6 +75,9 @@ pub const SUMMARY_ROOM: usize = 2 * 64;
 
 /// No graph file is longer: 52 bytes and four times 64 rows of 9.
 pub const GRAPH_ROOM: usize = 52 + 4 * 64 * 9;
+
+/// No text of marks is longer; less room is refused.
+pub const MARKS_ROOM: usize = 98;
 
 /// A way out has four places.
 pub const WAY: usize = 4;
@@ -122,6 +136,27 @@ pub fn verdict(outcome: Result<bool, u8>) -> u64 {
         Ok(accepting) => u64::from(accepting) << 32,
         Err(number) => u64::from(number),
     }
+}
+
+/// The four counts of marks, 12 bits each, in the order TP, FP, FN, TN; or a refusal's number.
+pub fn marked(outcome: Result<[usize; 4], u8>) -> u64 {
+    match outcome {
+        Ok(counts) => counts
+            .iter()
+            .rev()
+            .fold(0, |above, &count| (above << 12) + count as u64)
+            .wrapping_shl(8),
+        Err(number) => u64::from(number),
+    }
+}
+
+/// A text of marks and the number beside it, or 7 where there might be too little room.
+pub fn marks_put(text: &str, number: u8, out: &mut [u8]) -> u64 {
+    if out.len() < MARKS_ROOM {
+        return filled(7, 0);
+    }
+    out[..text.len()].copy_from_slice(text.as_bytes());
+    filled(number, text.len())
 }
 
 /// A way out into the first bytes, or the number of a refusal, which leaves them.

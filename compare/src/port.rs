@@ -63,6 +63,40 @@ mod sys {
             trace_len: usize,
             activity: u8,
         ) -> u64;
+        pub fn skelfora_marks(
+            file: *const u8,
+            file_len: usize,
+            log: *const u8,
+            log_len: usize,
+            labels: *const u8,
+            labels_len: usize,
+        ) -> u64;
+        pub fn skelfora_marks_text(
+            file: *const u8,
+            file_len: usize,
+            log: *const u8,
+            log_len: usize,
+            labels: *const u8,
+            labels_len: usize,
+            out: *mut u8,
+            room: usize,
+        ) -> u64;
+        pub fn skelfora_guesses_text(
+            guesses: *const u8,
+            guesses_len: usize,
+            labels: *const u8,
+            labels_len: usize,
+            out: *mut u8,
+            room: usize,
+        ) -> u64;
+        pub fn skelfora_replays(
+            file: *const u8,
+            file_len: usize,
+            log: *const u8,
+            log_len: usize,
+            out: *mut u8,
+            room: usize,
+        ) -> u64;
         pub fn skelfora_plain_step(
             head: *const u8,
             head_len: usize,
@@ -134,6 +168,15 @@ mod sys {
             table_len: usize,
             place: usize,
         ) -> u64;
+        pub fn skelfora_desk_finish(
+            file: *const u8,
+            file_len: usize,
+            table: *const u8,
+            table_len: usize,
+            place: usize,
+            way: *mut u8,
+            room: usize,
+        ) -> u64;
     }
 }
 
@@ -186,6 +229,33 @@ mod calls {
         let (t, t_len) = (trace.as_ptr(), trace.len());
         unsafe { sys::skelfora_shut_by(file.as_ptr(), file.len(), t, t_len, activity) }
     }
+
+    pub fn marks(file: &[u8], log: &[u8], labels: &[u8]) -> u64 {
+        let (l, l_len) = (log.as_ptr(), log.len());
+        let (b, b_len) = (labels.as_ptr(), labels.len());
+        unsafe { sys::skelfora_marks(file.as_ptr(), file.len(), l, l_len, b, b_len) }
+    }
+
+    pub fn marks_text(file: &[u8], log: &[u8], labels: &[u8], out: &mut [u8]) -> u64 {
+        let (f, f_len) = (file.as_ptr(), file.len());
+        let (l, l_len) = (log.as_ptr(), log.len());
+        let (b, b_len) = (labels.as_ptr(), labels.len());
+        let (lent, room) = (out.as_mut_ptr(), out.len());
+        unsafe { sys::skelfora_marks_text(f, f_len, l, l_len, b, b_len, lent, room) }
+    }
+
+    /// Guesses and replays take the same: bytes, bytes beside them, and what is lent.
+    macro_rules! beside {
+        ($name:ident, $function:ident) => {
+            pub fn $name(first: &[u8], second: &[u8], out: &mut [u8]) -> u64 {
+                let (lent, room) = (out.as_mut_ptr(), out.len());
+                let (s, s_len) = (second.as_ptr(), second.len());
+                unsafe { sys::$function(first.as_ptr(), first.len(), s, s_len, lent, room) }
+            }
+        };
+    }
+    beside!(guesses_text, skelfora_guesses_text);
+    beside!(replays, skelfora_replays);
 
     pub fn plain_step(graph: &PlainGraph, marking: &mut [u8], activity: u8) -> u64 {
         let PlainGraph { head, lists } = graph;
@@ -256,6 +326,12 @@ mod calls {
         let (lent, room) = (table.as_mut_ptr(), table.len());
         unsafe { sys::skelfora_desk_close(file.as_ptr(), file.len(), lent, room, place) }
     }
+
+    pub fn desk_finish(file: &[u8], table: &[u8], place: usize, way: &mut [u8]) -> u64 {
+        let (lent, room) = (way.as_mut_ptr(), way.len());
+        let (t, t_len) = (table.as_ptr(), table.len());
+        unsafe { sys::skelfora_desk_finish(file.as_ptr(), file.len(), t, t_len, place, lent, room) }
+    }
 }
 
 #[cfg(port)]
@@ -271,6 +347,10 @@ pub fn door() -> Option<Door> {
         step: calls::step,
         finish: calls::finish,
         shut_by: calls::shut_by,
+        marks: calls::marks,
+        marks_text: calls::marks_text,
+        guesses_text: calls::guesses_text,
+        replays: calls::replays,
         plain_step: calls::plain_step,
         plain_accepting: calls::plain_accepting,
         plain_replay: calls::plain_replay,
@@ -278,6 +358,7 @@ pub fn door() -> Option<Door> {
         desk_open: calls::desk_open,
         desk_step: calls::desk_step,
         desk_close: calls::desk_close,
+        desk_finish: calls::desk_finish,
     })
 }
 

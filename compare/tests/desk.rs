@@ -217,3 +217,79 @@ fn the_opening_state() {
         assert_eq!((door.desk_close)(&graph, &mut table, 0), 0);
     }
 }
+
+/// The number, and six bytes that had 165, of which so many were lent.
+fn way_at(door: &Door, file: &[u8], table: &[u8], place: usize, room: usize) -> (u64, [u8; 6]) {
+    let (lent, mut way) = (table.to_vec(), [165; 6]);
+    let number = (door.desk_finish)(file, &lent, place, &mut way[..room]);
+    assert_eq!(lent, table, "{} {place}", door.name);
+    (number, way)
+}
+
+const UNTOUCHED: [u8; 6] = [165; 6];
+
+/// On G: no call, no way. Both calls may end at first; after 0 at place 0 its 2 is owed there, and nothing at place 1.
+#[test]
+fn ways_out_on_g() {
+    let g = g_file();
+    let none = [255, 255, 255, 255, 165, 165];
+    for door in doors() {
+        let mut table = fresh();
+        assert_eq!(way_at(&door, &g, &table, 0, 6), (14, UNTOUCHED));
+        for number in 0..2 {
+            assert_eq!((door.desk_open)(&g, &mut table), 256 * number);
+            let place = number as usize;
+            assert_eq!(way_at(&door, &g, &table, place, 6), (0, none));
+        }
+        assert_eq!((door.desk_step)(&g, &mut table, 0, 0), BY_NONE);
+        let owed = [2, 255, 255, 255, 165, 165];
+        assert_eq!(way_at(&door, &g, &table, 0, 4), (0, owed), "{}", door.name);
+        assert_eq!(way_at(&door, &g, &table, 1, 4), (0, none), "{}", door.name);
+        assert_eq!((door.desk_step)(&g, &mut table, 0, 2), BY_NONE);
+        assert_eq!((door.desk_close)(&g, &mut table, 0), 0, "{}", door.name);
+        assert_eq!(way_at(&door, &g, &table, 0, 4), (14, UNTOUCHED));
+        assert_eq!(way_at(&door, &g, &table, 1, 4), (0, none), "{}", door.name);
+    }
+}
+
+/// 7 for a short table, 14, the file's numbers, 7 for the room, 5, 16, 17. The call of `stuck` waits for its own only step.
+#[test]
+fn ways_out_refused_in_order() {
+    let g = g_file();
+    let mut value = GraphValue {
+        a: 1,
+        events: 1,
+        ..GraphValue::EMPTY
+    };
+    value.conditions[0] = 1;
+    value.marking.pending = 1;
+    value.marking.included = 1;
+    let stuck = file(&value);
+    let pending = all(&place(1, [1, 4, 6, 6]));
+    let both = all(&place(9, [8, 4, 4, 0]));
+    let untrue = all(&place(1, [1, 4, 6, 7]));
+    for door in doors() {
+        let refused = |file: &[u8], table: &[u8], place, room| {
+            let (number, way) = way_at(&door, file, table, place, room);
+            assert_eq!(way, UNTOUCHED, "{} {place} {room}", door.name);
+            number
+        };
+        for short in [0, 800, 1055] {
+            assert_eq!(refused(&g[..51], &pending[..short], 99, 0), 7);
+        }
+        for number in [32, 33, 255, 256, usize::MAX] {
+            assert_eq!(refused(&g[..51], &pending, number, 0), 14);
+        }
+        assert_eq!(refused(&g[..51], &fresh(), 31, 0), 14);
+        assert_eq!(refused(&g[..51], &both, 31, 0), 1);
+        for room in 0..4 {
+            assert_eq!(refused(&g, &both, 31, room), 7);
+        }
+        assert_eq!(refused(&g, &both, 31, 4), 5);
+        assert_eq!(refused(&g, &untrue, 31, 4), 16);
+        let mut table = fresh();
+        assert_eq!((door.desk_open)(&stuck, &mut table), 0, "{}", door.name);
+        assert_eq!(refused(&stuck, &table, 0, 3), 7);
+        assert_eq!(refused(&stuck, &table, 0, 4), 17);
+    }
+}

@@ -134,7 +134,12 @@ fn readings_9_and_14_keys_and_counts() {
 fn buffers_of_124_and_123_bytes() {
     for door in doors() {
         let mut enough = [3; 124];
-        assert_eq!((door.mine)(&L, FULL, &mut enough), 256 * 124, "{}", door.name);
+        assert_eq!(
+            (door.mine)(&L, FULL, &mut enough),
+            256 * 124,
+            "{}",
+            door.name
+        );
         assert_eq!(enough[..], g_file(), "{}", door.name);
         let mut short = [3; 123];
         assert_eq!((door.mine)(&L, FULL, &mut short), 7, "{}", door.name);

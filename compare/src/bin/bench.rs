@@ -242,11 +242,49 @@ fn ways(doors: &[Door]) {
         let (file, marking) = finish::bytes(&graph);
         let mut way = [0; 4];
         let ns = best(doors, |door| {
-            black_box((door.finish)(black_box(&file), black_box(&marking), &mut way));
+            black_box((door.finish)(
+                black_box(&file),
+                black_box(&marking),
+                &mut way,
+            ));
         });
         let mut line = format!("{name:<14}{:>12.2}", ns[0] / 1000.0);
         for theirs in &ns[1..] {
             line += &format!("{:>12.2}{:>7.2}", theirs / 1000.0, theirs / ns[0]);
+        }
+        println!("{line}");
+    }
+}
+
+/// A log replayed call by call, the file read for each; all at once, the file read once and the
+/// log judged; and its marks. In ns an event.
+fn replays(doors: &[Door]) {
+    println!("a whole log, ns an event: call by call, all at once, marks");
+    let mut samples = vec![sample("small", small(3))];
+    for (name, shape) in SHAPES {
+        samples.push(sample(name, of_size(shape, SIZES[1], 11)));
+    }
+    for sample in samples {
+        let labels = vec![1; sample.traces.len()];
+        let mut out = vec![0; sample.traces.len()];
+        let (file, log) = (&sample.file, &sample.log);
+        let single = best(doors, |door| {
+            for trace in &sample.traces {
+                black_box((door.replay)(black_box(file), black_box(trace)));
+            }
+        });
+        let batch = best(doors, |door| {
+            black_box((door.replays)(black_box(file), black_box(log), &mut out));
+        });
+        let marks = best(doors, |door| {
+            black_box((door.marks)(black_box(file), black_box(log), &labels));
+        });
+        let mut line = format!("{:<14}{:>7}", sample.name, sample.events);
+        for column in [single, batch, marks] {
+            for ns in &column {
+                line += &format!("{:>10.2}", ns / sample.events as f64);
+            }
+            line += &format!("{:>7.2}", column[column.len() - 1] / column[0]);
         }
         println!("{line}");
     }
@@ -261,6 +299,9 @@ fn main() {
     }
     if asked("--steps") {
         return steps(&doors);
+    }
+    if asked("--replays") {
+        return replays(&doors);
     }
     head(doors.len() == 2);
     row(&doors, &sample("small", small(3)));

@@ -1,7 +1,7 @@
 //! The call desk: histories of requests, each made of every implementation on the same table.
 use super::record::{Call, Function};
 use super::{decimal, Comparison};
-use crate::door::{asked, PLACE, TABLE_ROOM};
+use crate::door::{asked, PLACE, TABLE_ROOM, WAY};
 use crate::judge::door::DOOR as JUDGE;
 use crate::seeds::{desk, graphs, Prng};
 use crate::value::Request;
@@ -9,6 +9,13 @@ use crate::value::Request;
 /// How many histories a round has, and how many requests a history.
 const HISTORIES: usize = 2;
 const REQUESTS: usize = 40;
+
+/// After so many of a hundred requests a place is asked for its way out, where the graph has few
+/// activities: the judge tries every sequence of four.
+const ASKED: usize = 25;
+const MOST_SEARCHED: u8 = 5;
+
+const UNTOUCHED: u8 = 165;
 
 pub fn round(comparison: &mut Comparison, prng: &mut Prng) {
     for _ in 0..HISTORIES {
@@ -19,6 +26,10 @@ pub fn round(comparison: &mut Comparison, prng: &mut Prng) {
             let a = file.get(3).copied().unwrap_or(0);
             let request = desk::request(prng, &table, a);
             table = comparison.desk(&file, &table, request);
+            if graph.a <= MOST_SEARCHED && prng.percent(ASKED) {
+                let place = desk::place(prng, &table);
+                comparison.desk_finish(&file, &table, place, desk::way_room(prng));
+            }
         }
     }
 }
@@ -39,6 +50,9 @@ pub fn once(comparison: &mut Comparison, prng: &mut Prng) {
                 for place in desk::ANY_PLACE {
                     comparison.desk(file, &table, Request::Step(place, 0));
                     comparison.desk(file, &table, Request::Close(place));
+                    for room in [0, WAY - 1, WAY, WAY + 1] {
+                        comparison.desk_finish(file, &table, place, room);
+                    }
                 }
             }
         }
@@ -86,5 +100,38 @@ impl Comparison {
             }
         }
         after
+    }
+
+    /// A place asked for its way out: number, way, and that no byte of the table moved.
+    fn desk_finish(&mut self, file: &[u8], table: &[u8], place: usize, room: usize) {
+        let mut way = vec![UNTOUCHED; room];
+        let wanted = (JUDGE.desk_finish)(file, table, place, &mut way);
+        self.saw("desk finish", wanted as u8);
+        self.record.keep(&Call {
+            function: Function::DeskFinish,
+            input: file,
+            lists: None,
+            beside: table,
+            room,
+            activity: 0,
+            place,
+            result: wanted,
+            after: &way,
+        });
+        for other in self.others.clone() {
+            let (asked, mut lent) = (table.to_vec(), vec![UNTOUCHED; room]);
+            let result = (other.desk_finish)(file, &asked, place, &mut lent);
+            if result != wanted || lent != way || asked != table {
+                self.differ("desk finish", other.name, || {
+                    let (file, from) = (decimal(file), decimal(table));
+                    let (judge, theirs) = (decimal(&way), decimal(&lent));
+                    format!(
+                        "file {file}\ntable {from}\nplace {place}, room {room}\n\
+                         judge {wanted}, way {judge}\nother {result}, way {theirs}, table {}",
+                        decimal(&asked)
+                    )
+                });
+            }
+        }
     }
 }

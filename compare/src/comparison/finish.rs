@@ -90,24 +90,27 @@ impl Comparison {
 }
 
 /// Of so many graphs of two events one is recorded.
-const RECORDED: u16 = 128;
+const RECORDED: u16 = 2048;
 
-/// Every graph of two events, each at four of the 64 markings: over the graphs all come up.
-pub fn once(comparison: &mut Comparison, prng: &mut Prng) {
+/// How many markings such a graph has.
+const MARKINGS_OF_TWO: u64 = 64;
+
+/// Every graph of two events, each at all of its markings.
+pub fn once(comparison: &mut Comparison) {
     let record = std::mem::take(&mut comparison.record);
     let (kept, others): (Vec<u16>, Vec<u16>) = (0..=u16::MAX).partition(|k| k % RECORDED == 77);
-    of_two(comparison, prng, &others);
+    of_two(comparison, &others);
     comparison.record = record;
-    of_two(comparison, prng, &kept);
+    of_two(comparison, &kept);
 }
 
-fn of_two(comparison: &mut Comparison, prng: &mut Prng, numbers: &[u16]) {
+fn of_two(comparison: &mut Comparison, numbers: &[u16]) {
     for &k in numbers {
         comparison.input("half-done: of two events");
         let graph = finish::of_two(k);
         let file = graphs::file(&graph);
-        for part in 0..4 {
-            let marking = finish::marking_of_two(&graph, 16 * part + prng.below(16) as u64);
+        for marking in 0..MARKINGS_OF_TWO {
+            let marking = finish::marking_of_two(&graph, marking);
             comparison.finish(&file, &graphs::marking_bytes(&marking), WAY);
         }
     }

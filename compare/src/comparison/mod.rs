@@ -6,6 +6,7 @@ use std::collections::BTreeMap;
 pub mod desk;
 pub mod doors;
 pub mod finish;
+pub mod marks;
 pub mod plain;
 pub mod plain_rounds;
 pub mod record;
@@ -30,6 +31,10 @@ const WITH_PORT: &[Expected] = &[
     ("step", &[0, 1, 2, 3, 4, 5, 6, 7, 8, 9, 10, 16]),
     ("finish", &[0, 1, 2, 3, 4, 5, 6, 7, 16, 17]),
     ("shut by", &[0, 1, 2, 3, 4, 5, 6]),
+    ("marks", &[0, 1, 2, 3, 4, 5, 6, 18, 19]),
+    ("marks text", &[0, 1, 2, 3, 4, 5, 6, 7, 18, 19]),
+    ("guesses text", &[0, 3, 7, 18, 19]),
+    ("replays", &[0, 1, 2, 3, 4, 5, 6, 7]),
     ("plain step", &[0, 3, 5, 7, 8, 9, 10, 16]),
     ("plain accepting", &[0, 3, 5, 7, 16]),
     ("plain replay", &[0, 3, 5, 7, 8, 9, 10, 16]),
@@ -37,6 +42,7 @@ const WITH_PORT: &[Expected] = &[
     ("desk open", &[0, 1, 2, 3, 4, 5, 6, 7, 13]),
     ("desk step", &[0, 1, 2, 3, 4, 5, 6, 7, 8, 9, 10, 14, 16]),
     ("desk close", &[0, 1, 2, 3, 4, 5, 6, 7, 14, 15, 16]),
+    ("desk finish", &[0, 1, 2, 3, 4, 5, 6, 7, 14, 16, 17]),
 ];
 
 /// What those do not show: judge and yardstick, both Rust. These say nothing of the proved code.
@@ -50,8 +56,8 @@ const RUST_ALONE: &[Expected] = &[
     ("reader", &[0, 1, 2, 3, 4, 5, 11]),
 ];
 
-/// 0 to 17.
-const NUMBERS: usize = 18;
+/// 0 to 19.
+const NUMBERS: usize = 20;
 
 pub struct Comparison {
     /// everything but the judge

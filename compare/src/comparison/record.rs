@@ -21,6 +21,11 @@ pub enum Function {
     Finish,
     ShutBy,
     Opening,
+    Marks,
+    MarksText,
+    GuessesText,
+    Replays,
+    DeskFinish,
 }
 
 pub struct Call<'a> {
@@ -29,13 +34,14 @@ pub struct Call<'a> {
     pub input: &'a [u8],
     /// a plain graph's lists
     pub lists: Option<&'a [Vec<u16>; 4]>,
-    /// the trace, or the marking or table before the call
+    /// the trace, the labels of guesses, the log of replays, or the marking or table before the call;
+    /// of marks the log, then the labels
     pub beside: &'a [u8],
     /// in bytes
     pub room: usize,
     /// the activity, the relation to fill from, or the number of the profile
     pub activity: u8,
-    /// the desk's place
+    /// the desk's place; of marks how many bytes the log has
     pub place: usize,
     pub result: u64,
     /// what was lent, after the call

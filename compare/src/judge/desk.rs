@@ -1,6 +1,7 @@
 //! The call desk (02, 5/12): one graph, and 32 places for vessels in port. The graph comes from a
 //! file; the number of a file that is refused stands where the graph's 3 and 5 stand.
 use super::engine::{accepting, execute, judge_graph};
+use super::finish::finish_within;
 use super::graph::{Graph, Marking};
 use crate::value::Answer;
 
@@ -21,7 +22,7 @@ pub fn open(graph: &Result<Graph, u8>, places: &mut [Place]) -> Result<usize, u8
     Err(13)
 }
 
-/// 14 where the place is above 31 or not open, before all others of step and close.
+/// 14 where the place is above 31 or not open, before all others of step, close and finish.
 fn call_at(places: &mut [Place], place: usize) -> Result<&mut Marking, u8> {
     match places.get_mut(place) {
         Some(Some(marking)) => Ok(marking),
@@ -50,4 +51,16 @@ pub fn close(graph: &Result<Graph, u8>, places: &mut [Place], place: usize) -> R
     }
     places[place] = None;
     Ok(())
+}
+
+/// How the call at a place can still finish (02, 8/12): 14 first, then as at any marking.
+pub fn finish(
+    graph: &Result<Graph, u8>,
+    places: &mut [Place],
+    place: usize,
+    room: usize,
+) -> Result<[u8; 4], u8> {
+    let marking = call_at(places, place)?;
+    let graph = graph.as_ref().map_err(|&number| number)?;
+    finish_within(graph, marking, room)
 }

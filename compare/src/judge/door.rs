@@ -4,9 +4,10 @@ use super::graph::{Graph, Marking};
 use super::graph_file::{self, read_marking, set_bytes};
 use super::listing::listing as list;
 use super::miner::{mine as mine_log, Profile};
-use super::{desk, finish, log, plain, summary};
-use crate::door::{filled, finished, opened, replayed, shut, stepped, verdict, written, Door};
-use crate::door::{MARKING, PLACE, PLACES, SUMMARY_ROOM, TABLE_ROOM, WAY};
+use super::{desk, finish, log, marks, plain, summary};
+use crate::door::{filled, finished, marked, marks_put, opened, replayed, shut, stepped};
+use crate::door::{verdict, written, Door};
+use crate::door::{MARKING, PLACE, PLACES, SUMMARY_ROOM, TABLE_ROOM};
 use crate::value::{Answer, PlainGraph};
 
 pub const DOOR: Door = Door {
@@ -20,6 +21,13 @@ pub const DOOR: Door = Door {
     step,
     finish: finish_on_file,
     shut_by,
+    marks: |file, log, labels| {
+        let table = marks_of(file, log, labels);
+        marked(table.map(|t| [t.tp, t.fp, t.fn_, t.tn]))
+    },
+    marks_text: |file, log, labels, out| put_marks(marks_of(file, log, labels), out),
+    guesses_text: |guesses, labels, out| put_marks(marks::of_guesses(guesses, labels), out),
+    replays,
     plain_step,
     plain_accepting,
     plain_replay,
@@ -27,6 +35,7 @@ pub const DOOR: Door = Door {
     desk_open,
     desk_step,
     desk_close,
+    desk_finish,
 };
 
 /// A profile that there is not is refused before the log is read.
@@ -96,17 +105,41 @@ fn step(file: &[u8], lent: &mut [u8], activity: u8) -> u64 {
 fn finish_on_file(file: &[u8], marking: &[u8], lent: &mut [u8]) -> u64 {
     let way = graph_file::read(file).and_then(|graph| {
         let marking = lent_marking(&graph, marking)?;
-        if lent.len() < WAY {
-            return Err(7);
-        }
-        accepting(&graph, &marking)?;
-        finish::finish(&graph, &marking)
+        finish::finish_within(&graph, &marking, lent.len())
     });
     finished(way, lent)
 }
 
 fn shut_by(file: &[u8], trace: &[u8], a: u8) -> u64 {
     shut(graph_file::read(file).map(|graph| finish::shut_by(&graph, trace, a)))
+}
+
+/// "Refusals, after those of log and graph"
+fn marks_of(file: &[u8], log: &[u8], labels: &[u8]) -> Result<marks::Table, u8> {
+    let log = log::read(log)?;
+    let graph = graph_file::read(file)?;
+    marks::of_graph(&graph, &log, labels)
+}
+
+fn put_marks(marks: Result<marks::Table, u8>, out: &mut [u8]) -> u64 {
+    marks_put(&marks::text(marks), marks.err().unwrap_or(0), out)
+}
+
+/// The log's refusals, the file's, then 7.
+fn replays(file: &[u8], log: &[u8], out: &mut [u8]) -> u64 {
+    written(log::read(log).and_then(|log| {
+        let graph = graph_file::read(file)?;
+        if out.len() < log.traces.len() {
+            return Err(7);
+        }
+        for (k, trace) in log.traces.iter().enumerate() {
+            out[k] = match marks::verdict(&graph, trace) {
+                true => 128,
+                false => replay_graph(&graph, trace).answer.number,
+            };
+        }
+        Ok(log.traces.len())
+    }))
 }
 
 fn plain_step(graph: &PlainGraph, lent: &mut [u8], activity: u8) -> u64 {
@@ -183,6 +216,14 @@ fn desk_close(file: &[u8], table: &mut [u8], place: usize) -> u64 {
     written(at_desk(table, |places| {
         desk::close(&graph_file::read(file), places, place).map(|()| 0)
     }))
+}
+
+/// The table is asked as it is, and nothing of it is kept.
+fn desk_finish(file: &[u8], table: &[u8], place: usize, lent: &mut [u8]) -> u64 {
+    let way = at_desk(&mut table.to_vec(), |places| {
+        desk::finish(&graph_file::read(file), places, place, lent.len())
+    });
+    finished(way, lent)
 }
 
 /// A request to the desk of a table, 7 where that is too short. Only a place that the request

@@ -1,5 +1,5 @@
 //! How a half-done call can still finish (02, 8/12), and what shut a step out: word for word.
-use super::engine::{at_rest, blocked, with_effects};
+use super::engine::{accepting, at_rest, blocked, with_effects};
 use super::graph::{Graph, Marking};
 
 /// "a sequence of at most 4 activities"
@@ -38,6 +38,15 @@ pub fn finish(graph: &Graph, marking: &Marking) -> Result<[u8; MOST], u8> {
         }
     }
     Err(17)
+}
+
+/// The same into lent room: 7 where it is too little, then 3, 5 and 16, then 17.
+pub fn finish_within(graph: &Graph, marking: &Marking, room: usize) -> Result<[u8; MOST], u8> {
+    if room < MOST {
+        return Err(7);
+    }
+    accepting(graph, marking)?;
+    finish(graph, marking)
 }
 
 /// What shut a step out last and was not followed by what lets it in. An include wins, so what

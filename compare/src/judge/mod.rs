@@ -12,6 +12,7 @@ pub mod graph;
 pub mod graph_file;
 pub mod listing;
 pub mod log;
+pub mod marks;
 pub mod miner;
 pub mod plain;
 pub mod steps;

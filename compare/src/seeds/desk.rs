@@ -1,6 +1,6 @@
 //! The call desk's inputs: graph files, tables of places, requests. Sound ones and others.
 use super::{damage, graphs, Prng};
-use crate::door::{PLACE, PLACES, TABLE_ROOM};
+use crate::door::{PLACE, PLACES, TABLE_ROOM, WAY};
 use crate::value::{GraphValue, Request};
 
 /// Places that a caller may name, whatever is open.
@@ -61,19 +61,28 @@ fn taken(prng: &mut Prng, table: &mut [u8], graph: &GraphValue, open: usize, str
     }
 }
 
-/// Mostly at a place that is open.
-pub fn request(prng: &mut Prng, table: &[u8], a: u8) -> Request {
+/// Mostly a place that is open.
+pub fn place(prng: &mut Prng, table: &[u8]) -> usize {
     let open: Vec<usize> = (0..PLACES)
         .filter(|place| table.get(PLACE * place).is_some_and(|&first| first != 0))
         .collect();
-    let place = if open.is_empty() || prng.percent(15) {
+    if open.is_empty() || prng.percent(15) {
         prng.one_of(&ANY_PLACE)
     } else {
         prng.one_of(&open)
-    };
+    }
+}
+
+pub fn request(prng: &mut Prng, table: &[u8], a: u8) -> Request {
+    let place = place(prng, table);
     match prng.below(10) {
         0..=2 => Request::Open,
         3..=6 => Request::Step(place, graphs::activity(prng, a)),
         _ => Request::Close(place),
     }
+}
+
+/// Room for a way out, now and then too little or more than it takes.
+pub fn way_room(prng: &mut Prng) -> usize {
+    prng.one_of(&[WAY, WAY, WAY, WAY, WAY, WAY, 0, WAY - 1, WAY + 1, 9])
 }

@@ -4,6 +4,7 @@ pub mod desk;
 pub mod finish;
 pub mod graphs;
 pub mod logs;
+pub mod marks;
 pub mod plain;
 pub mod prng;
 pub mod process;

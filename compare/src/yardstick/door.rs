@@ -1,9 +1,9 @@
 //! The yardstick behind the functions of `port`.
 use super::graph_file::{marking_at, put_marking, read_into, write_judged};
 use super::rows::transposed;
-use super::{desk, engine, finish as search, listing as lister, log, miner, plain};
-use crate::door::{filled, finished, opened, replayed, shut, stepped, verdict, written};
-use crate::door::{Door, LIGHT, MARKING, SUMMARY_ROOM, WAY};
+use super::{desk, engine, finish as search, listing as lister, log, marks, miner, plain};
+use crate::door::{filled, finished, marked, marks_put, opened, replayed, shut, stepped, verdict};
+use crate::door::{written, Door, LIGHT, MARKING, SUMMARY_ROOM, WAY};
 use crate::value::{Answer, GraphValue, MarkingValue, PlainGraph};
 
 pub const DOOR: Door = Door {
@@ -17,6 +17,13 @@ pub const DOOR: Door = Door {
     step,
     finish,
     shut_by,
+    marks: |file, log, labels| {
+        let counts = marks_of(file, log, labels);
+        marked(counts.map(|[tn, missed, fp, tp]| [tp, fp, missed, tn]))
+    },
+    marks_text: |file, log, labels, out| put_marks(marks_of(file, log, labels), out),
+    guesses_text: |guesses, labels, out| put_marks(marks::on_guesses(guesses, labels), out),
+    replays,
     plain_step,
     plain_accepting,
     plain_replay,
@@ -24,6 +31,9 @@ pub const DOOR: Door = Door {
     desk_open: |file, table| opened(desk::open(file, table)),
     desk_step: |file, table, place, e| stepped(desk::step(file, table, place, e)),
     desk_close: |file, table, place| written(desk::close(file, table, place).map(|()| 0)),
+    desk_finish: |file, table, place, lent| {
+        finished(desk::finish(file, table, place, lent.len()), lent)
+    },
 };
 
 fn mine(bytes: &[u8], profile: u8, file: &mut [u8]) -> u64 {
@@ -131,6 +141,25 @@ fn finish(file: &[u8], marking: &[u8], lent: &mut [u8]) -> u64 {
 fn shut_by(file: &[u8], trace: &[u8], a: u8) -> u64 {
     let mut graph = GraphValue::EMPTY;
     shut(read_into(file, &mut graph).map(|()| search::shut_by(&graph, trace, a)))
+}
+
+fn marks_of(file: &[u8], log: &[u8], labels: &[u8]) -> Result<marks::Counts, u8> {
+    let log = log::judge(log)?;
+    let mut graph = GraphValue::EMPTY;
+    read_into(file, &mut graph)?;
+    marks::on_graph(&graph, &log, labels)
+}
+
+fn put_marks(counts: Result<marks::Counts, u8>, out: &mut [u8]) -> u64 {
+    marks_put(&marks::text(counts), counts.err().unwrap_or(0), out)
+}
+
+fn replays(file: &[u8], log: &[u8], out: &mut [u8]) -> u64 {
+    written(log::judge(log).and_then(|log| {
+        let mut graph = GraphValue::EMPTY;
+        read_into(file, &mut graph)?;
+        marks::replays(&graph, &log, out)
+    }))
 }
 
 /// From a marking that was judged, or with its refusal.

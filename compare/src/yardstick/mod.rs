@@ -9,6 +9,7 @@ pub mod finish;
 pub mod graph_file;
 pub mod listing;
 pub mod log;
+pub mod marks;
 pub mod miner;
 pub mod plain;
 pub mod redundant;

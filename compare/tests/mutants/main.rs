@@ -1,10 +1,12 @@
 //! Deliberately wrong versions of single rules. Each must be told apart from the judge by
 //! the inputs that the comparison makes: this tries the generators, not the judge.
 mod desk;
+mod desk_ways;
 mod enabled;
 mod engine;
 mod files;
 mod finish;
+mod marks;
 mod mining;
 mod plain;
 mod wrong_steps;

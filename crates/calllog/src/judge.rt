@@ -125,7 +125,7 @@ fn judge_bodies(bytes: &[u8], events: u32) -> Answer
 
 // Whether every byte from a position on is below a. There is no way out of the loop before its end, so that the compiler can look at
 // many bytes at once.
-fn all_below(bytes: &[u8], from: usize, a: u8) -> bool
+pub fn all_below(bytes: &[u8], from: usize, a: u8) -> bool
     ensures { λ r. ⌜ r ≡ allBelow a (drop from (now (bytes .entry))) ⌝ }
 {
     let mut below = true;

@@ -5,6 +5,7 @@ pub mod reader;
 pub mod trace;
 
 pub use judge::Judged;
+pub use layout::MOST_TRACES;
 pub use reader::LogReader;
 pub use trace::Asked;
 pub use trace::Found;

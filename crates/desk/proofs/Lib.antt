@@ -3,3 +3,4 @@ pub mod Placing
 pub mod Serving
 pub mod Isolation
 pub mod OnePlace
+pub mod WayOut

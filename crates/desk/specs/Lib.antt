@@ -1,3 +1,4 @@
 pub mod Places
 pub mod Desk
 pub mod Histories
+pub mod WayOut

@@ -1,8 +1,10 @@
 // The call desk (02, 5/12): one graph, and a table of 32 places for the calls of vessels in port. The table is lent bytes.
 pub mod requests;
 pub mod table;
+pub mod way;
 
 pub use requests::Opened;
 pub use requests::close;
 pub use requests::open;
 pub use requests::step;
+pub use way::finish;

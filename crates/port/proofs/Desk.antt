@@ -137,7 +137,7 @@ module _ (file table : List ℕ) where
 
 pub ruleset opening = (open-short, open-short-table, open-no-file, open-no-file-table, open-served, open-served-table)
 
--- ---- step and close
+-- ---- step and close; what is asked first serves a way out too
 
 module _ (file table : List ℕ) (p : ℕ) where
   -- refused before there is a graph
@@ -169,7 +169,7 @@ module _ (file table : List ℕ) (p : ℕ) where
       no-place : isDone b ≡ false
       no-place = sym hd ∙ not-true d t
 
-      the-place : b ≡ beforePlace file table p
+      pub the-place : b ≡ beforePlace file table p
       unfolding beforePlace
       the-place = stays (placeAnswer table p) b hb no-place (readOf file .answer)
 
@@ -186,7 +186,7 @@ module _ (file table : List ℕ) (p : ℕ) where
       close-no-place-table = close-refused-table b the-place no-place
 
     module _ (t : not d ≡ false) (r : Reading) (f : Bool) (hr : r ≡ readOf file) (hf : f ≡ isDone (r .answer)) where
-      the-file-then : r .answer ≡ beforePlace file table p
+      pub the-file-then : r .answer ≡ beforePlace file table p
       unfolding beforePlace
       the-file-then =
           ap (λ (x : Reading). x .answer) hr
@@ -209,7 +209,7 @@ module _ (file table : List ℕ) (p : ℕ) where
         close-no-file-table = close-refused-table (r .answer) the-file-then no-file
 
       module _ (u : not f ≡ false) where
-        asked : isDone (beforePlace file table p) ≡ true
+        pub asked : isDone (beforePlace file table p) ≡ true
         asked = ap isDone (sym the-file-then) ∙ sym hf ∙ not-false f u
 
         on : (y : Answer) → thenAsk (beforePlace file table p) y ≡ y

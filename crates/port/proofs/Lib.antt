@@ -2,3 +2,4 @@ pub mod Packing
 pub mod Handing
 pub mod Desk
 pub mod WayOut
+pub mod Marks

@@ -21,7 +21,10 @@ use Rattle.finish.specs.Shut.{nothing, shutBy}
 use Rattle.finish.specs.declared.search.Way.{Way}
 use Rattle.finish.specs.declared.search.Finished.{Finished}
 use Rattle.port.specs.Port.{packedOf}
-use Rattle.port.specs.WayOut.{wayInto, finishIn, finishNumber, finishBytes, shutNumber}
+use Rattle.desk.specs.WayOut.{finishedAt}
+use Rattle.port.specs.Desk.{placeAnswer, beforePlace}
+use Rattle.port.specs.WayOut.{wayInto, wayAfter, finishIn, deskFinishIn, shutNumber}
+use Rattle.port.proofs.Desk.{the-place, the-file-then, asked}
 
 -- ---- a way put down
 
@@ -79,28 +82,72 @@ module _ (file marking : List ℕ) (room : ℕ) where
 
 pub ruleset finding = (finish-refused, finish-short, finish-narrow, finish-searched)
 
--- ---- its number and its bytes
+-- ---- the call at a place
 
-module _ (file marking way : List ℕ) (f : Finished) (hf : f ≡ finishIn file marking (length way)) where
-  pub finish-number : (n : ℕ) → n ≡ numberOf (f .answer) → n ≡ finishNumber file marking (length way)
-  finish-number n e = e ∙ ap (λ (x : Finished). numberOf (x .answer)) hf
+module _ (file table : List ℕ) (p room : ℕ) where
+  -- what is given where the place or the file is refused or not, and where the room is short or not
+  abbrev chosenAt : Bool → Bool → Finished
+  chosenAt d narrow =
+      when non d then finishedBy (beforePlace file table p) []
+      else when narrow then finishedBy BufferTooSmall []
+      else finishedAt (readOf file .graph) table p
 
+  by-both : (d narrow : Bool) → isDone (beforePlace file table p) ≡ d → ltb room 4 ≡ narrow → chosenAt d narrow ≡ deskFinishIn file table p room
+  unfolding deskFinishIn
+  by-both d narrow e l = sym (ap₂ chosenAt e l)
+
+  refused-there : (a : Answer) → a ≡ beforePlace file table p → isDone a ≡ false → finishedBy a [] ≡ deskFinishIn file table p room
+  unfolding non
+  refused-there a same e = ap (λ (x : Answer). finishedBy x []) same ∙ by-both false _ (ap isDone (sym same) ∙ e) refl
+
+  module _ (b : Answer) (d : Bool) (hb : b ≡ placeAnswer table p) (hd : d ≡ isDone b) where
+    pub no-such-call : not d ≡ true → finishedBy b [] ≡ deskFinishIn file table p room
+    no-such-call t = refused-there b (the-place file table p b d hb hd t) (sym hd ∙ not-true d t)
+
+    module _ (t : not d ≡ false) (r : Reading) (f : Bool) (hr : r ≡ readOf file) (hf : f ≡ isDone (r .answer)) where
+      pub no-graph-there : not f ≡ true → finishedBy (r .answer) [] ≡ deskFinishIn file table p room
+      no-graph-there u = refused-there (r .answer) (the-file-then file table p b d hb hd t r f hr hf) (sym hf ∙ not-true f u)
+
+      module _ (u : not f ≡ false) where
+        before : isDone (beforePlace file table p) ≡ true
+        before = asked file table p b d hb hd t r f hr hf u
+
+        pub narrow-there : room < 4 → finishedBy BufferTooSmall [] ≡ deskFinishIn file table p room
+        unfolding non
+        narrow-there k = by-both true true before (lt-ltb room 4 k)
+
+        pub searched-there : (x : Finished) → 4 ≤ room → x ≡ finishedAt (r .graph) table p → x ≡ deskFinishIn file table p room
+        unfolding non
+        searched-there x k e =
+            e ∙ ap (λ (y : Reading). finishedAt (y .graph) table p) hr ∙ by-both true false before (le-ltb room 4 k)
+
+pub ruleset finding-there = (no-such-call, no-graph-there, narrow-there, searched-there)
+
+-- ---- what is left of a search
+
+module _ (f : Finished) (way : List ℕ) (t : Bool) (ht : t ≡ isDone (f .answer)) where
   abbrev left : Bool → List ℕ
-  left t = when t then wayInto (finishIn file marking (length way) .way) way else way
+  left b = when b then wayInto (f .way) way else way
 
-  tested : (t x : Bool) → t ≡ isDone (f .answer) → t ≡ x → isDone (finishIn file marking (length way) .answer) ≡ x
-  tested t x ht e = sym (ap (λ (y : Finished). isDone (y .answer)) hf) ∙ sym ht ∙ e
+  pub way-given : (way′ : List ℕ) → not t ≡ false → way′ ≡ wayInto (f .way) way → way′ ≡ wayAfter f way
+  unfolding wayAfter
+  way-given way′ y e = e ∙ ap left (sym (not-false t y) ∙ ht)
 
-  pub way-given : (t : Bool) (way′ : List ℕ) → t ≡ isDone (f .answer) → not t ≡ false → way′ ≡ wayInto (f .way) way
-      → way′ ≡ finishBytes file marking way
-  unfolding finishBytes
-  way-given t way′ ht y e = e ∙ ap (λ (x : Finished). wayInto (x .way) way) hf ∙ sym (ap left (tested t true ht (not-false t y)))
+  pub way-kept : not t ≡ true → way ≡ wayAfter f way
+  unfolding wayAfter
+  way-kept y = ap left (sym (not-true t y) ∙ ht)
 
-  pub way-kept : (t : Bool) → t ≡ isDone (f .answer) → not t ≡ true → way ≡ finishBytes file marking way
-  unfolding finishBytes
-  way-kept t ht y = sym (ap left (tested t false ht (not-true t y)))
+pub ruleset leaving = (way-given, way-kept)
 
-pub ruleset finishing = (finish-number, way-given, way-kept)
+-- the same search, its number and its bytes
+module _ (f g : Finished) (same : f ≡ g) where
+  pub number-of-same : (n : ℕ) → n ≡ numberOf (f .answer) → n ≡ numberOf (g .answer)
+  number-of-same n e = e ∙ ap (λ (x : Finished). numberOf (x .answer)) same
+
+  pub way-of-same : (way way′ : List ℕ) → way′ ≡ wayAfter f way → way′ ≡ wayAfter g way
+  way-of-same way way′ e = e ∙ ap (λ (x : Finished). wayAfter x way) same
+
+pub ruleset finishing = (number-of-same, way-of-same)
 
 -- ---- what shut a step out
 

@@ -2,3 +2,4 @@ pub mod Port
 pub mod Classroom
 pub mod Desk
 pub mod WayOut
+pub mod Marks

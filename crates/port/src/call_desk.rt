@@ -28,8 +28,8 @@ pub extern "C" fn skelfora_desk_open(file: &[u8], table: &mut [u8]) -> u64
     packed(a, opened.place)
 }
 
-// What step and close ask of the table alone: 7, then 14.
-fn judge_place(table: &[u8], place: usize) -> Answer
+// What step, close and a way out ask of the table alone: 7, then 14.
+pub(crate) fn judge_place(table: &[u8], place: usize) -> Answer
     ensures { λ r. ⌜ r ≡ placeAnswer (now (table .entry)) place ⌝ }
 {
     if table.len() < desk::table::LENGTH {

@@ -12,6 +12,7 @@ ghost use Rattle.report.specs.Summary.{summaryAfter};
 
 pub mod call_desk;
 pub mod classroom;
+pub mod marked;
 pub mod way_out;
 
 use engine::Graph;

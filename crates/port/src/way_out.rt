@@ -1,7 +1,10 @@
 // How a half-done call can still finish, and what shut a step out, on the graph of a file (02, 8/12).
 ghost use mathlib.Core.Path.{_≡_};
 ghost use lib.ListN.{length};
-ghost use Rattle.port.specs.WayOut.{wayInto, finishIn, finishNumber, finishBytes, shutNumber};
+ghost use Rattle.sets.specs.Answers.{numberOf};
+ghost use Rattle.port.specs.WayOut.{wayInto, wayAfter, finishIn, finishNumber, finishBytes, shutNumber};
+ghost use Rattle.port.specs.WayOut.{deskFinishIn, deskFinishNumber, deskFinishBytes};
+use crate::call_desk;
 use crate::packed;
 use finish::Finished;
 use finish::Way;
@@ -24,6 +27,20 @@ fn put_way(way: Way, out: &mut [u8])
         out[2] = way.third.0;
         out[3] = way.fourth.0;
     }
+}
+
+// What is left of a search: its number, and where it is done its way in the lent bytes.
+fn given(f: Finished, way: &mut [u8]) -> u64
+    ensures { λ r. ⌜ r ≡ numberOf (f .answer) ⌝ }
+    ensures { λ _. ⌜ now (way .exit) ≡ wayAfter f (now (way .entry)) ⌝ }
+{
+    let answer = f.answer;
+    if !answer.is_done() {
+        return answer.number() as u64;
+    }
+    let steps = f.way;
+    put_way(steps, way);
+    answer.number() as u64
 }
 
 // The way out: the file's refusals, then 7 where the marking or the room for the way has too few bytes, then the search's.
@@ -66,13 +83,51 @@ pub extern "C" fn skelfora_finish<'a, 'w>(
     ensures { λ _. ⌜ now (way .exit) ≡ finishBytes (now (file .entry)) (now (marking .entry)) (now (way .entry)) ⌝ }
 {
     let f = finished(file, marking, way.len());
-    let answer = f.answer;
-    if !answer.is_done() {
-        return answer.number() as u64;
+    given(f, way)
+}
+
+// The way out of the call at a place: what step and close ask first, then 7 where the room has too few bytes, then the desk's answer.
+fn finished_at<'a>(file: &'a [u8], table: &'a [u8], place: usize, room: usize) -> Finished
+    ensures { λ r. ⌜ r ≡ deskFinishIn (now (file .entry)) (now (table .entry)) place room ⌝ }
+{
+    let asked = call_desk::judge_place(table, place);
+    if !asked.is_done() {
+        return Finished {
+            answer: asked,
+            way: Way::NONE,
+        };
     }
-    let steps = f.way;
-    put_way(steps, way);
-    answer.number() as u64
+    let r = graphfile::read(file);
+    let answer = r.answer;
+    if !answer.is_done() {
+        return Finished {
+            answer,
+            way: Way::NONE,
+        };
+    }
+    if room < LENGTH {
+        return Finished {
+            answer: Answer::BufferTooSmall,
+            way: Way::NONE,
+        };
+    }
+    let head = r.graph.head;
+    desk::finish(head, &r.graph.relations, table, place)
+}
+
+// The same for the call at a place of the desk; the table is lent to be read.
+#[no_mangle]
+pub extern "C" fn skelfora_desk_finish<'a, 'w>(
+    file: &'a [u8],
+    table: &'a [u8],
+    place: usize,
+    way: &'w mut [u8],
+) -> u64
+    ensures { λ r. ⌜ r ≡ deskFinishNumber (now (file .entry)) (now (table .entry)) place (length (now (way .entry))) ⌝ }
+    ensures { λ _. ⌜ now (way .exit) ≡ deskFinishBytes (now (file .entry)) (now (table .entry)) place (now (way .entry)) ⌝ }
+{
+    let f = finished_at(file, table, place, way.len());
+    given(f, way)
 }
 
 // What shut a step out last in a trace and was not followed by what lets it in: the number, and 256 times that activity.

@@ -21,6 +21,7 @@ use Rattle.sets.specs.declared.set.Set.{Set}
 use Rattle.sets.specs.declared.answer.Answer.{Answer}
 use Rattle.sets.specs.declared.answer.Answer.the-variants.{Done, TooShort, WrongLetters, AboveLimit, WrongOffset, Outside, BadRow, BufferTooSmall, NoEvent, NotIncluded, Waiting, NoTrace, WrongArgument}
 use Rattle.sets.specs.declared.answer.Answer.the-variants.{NoPlaceFree, NotOpen, NotAccepting, FalseEnabled, NoWayOut}
+use Rattle.sets.specs.declared.answer.Answer.the-variants.{LabelsNotAsMany, LabelAboveOne}
 use Rattle.sets.proofs.Tests.{and-l, and-r, and-i, non-i, non-e, T→true, F→false, true→T, false→F, split, either}
 use Rattle.sets.proofs.Below.{least-lt, least-is, least-before}
 use Rattle.sets.proofs.Asking.{done-is, ask-on, ask-stop}
@@ -77,6 +78,8 @@ beside-others NotOpen n = refl
 beside-others NotAccepting n = refl
 beside-others FalseEnabled n = refl
 beside-others NoWayOut n = refl
+beside-others LabelsNotAsMany n = refl
+beside-others LabelAboveOne n = refl
 
 module _ (r : Relations) (m : State) (e : ℕ) where
   -- the least number that blocks is the blocker

@@ -13,7 +13,9 @@
 -- Enabled, 6/12: every marking given back has the true set of enabled activities; 16 exactly where a set is false; a replay is its steps.
 -- NotRedundant, 7/12: which exclusions step 7 takes out of the mined graph, and that it takes out no other.
 -- Finish, 8/12: a way out is a finishing sequence, the shortest and the first of these; 17 exactly where there is none.
+-- FinishAtPlace, 8/12: at a place of the desk the way out is that of the place's own call; 14 exactly where there is none.
 -- ShutOut, 8/12: what is said to have shut a step out is an event of the call that excludes it.
+-- Marks, 9/12: each count is the number of traces of its kind, and they add up; the measures; 18 and 19; demand 3 in marks.
 use mathlib.Core.Path.{_≡_, refl, sym, ap, subst, _∙_}
 use mathlib.Core.Bool.{Bool, true, false}
 use mathlib.Core.Logic.{_⊎_}
@@ -27,6 +29,7 @@ use Rattle.sets.specs.declared.activity.Activity.{Activity}
 use Rattle.sets.specs.declared.answer.Answer.{Answer}
 use Rattle.sets.specs.declared.answer.Answer.the-variants.{Done, TooShort, WrongLetters, AboveLimit, WrongOffset, Outside, BadRow, BufferTooSmall, NoEvent, NotIncluded, Waiting, NoTrace, WrongArgument}
 use Rattle.sets.specs.declared.answer.Answer.the-variants.{NoPlaceFree, NotOpen, NotAccepting, FalseEnabled, NoWayOut}
+use Rattle.sets.specs.declared.answer.Answer.the-variants.{LabelsNotAsMany, LabelAboveOne}
 use Rattle.sets.proofs.Members.{mem-those}
 use Rattle.sets.proofs.Asking.{done-is}
 use Rattle.sets.specs.Members.{noSet}
@@ -76,16 +79,16 @@ use Rattle.promises.proofs.Early.{replay-runs, early-nothing}
 abbrev cases : Activity → List Answer
 cases b =
     Done ∷ TooShort ∷ WrongLetters ∷ AboveLimit ∷ WrongOffset ∷ Outside ∷ BadRow ∷ BufferTooSmall ∷ NoEvent ∷ NotIncluded ∷ Waiting b ∷ NoTrace
-    ∷ WrongArgument ∷ NoPlaceFree ∷ NotOpen ∷ NotAccepting ∷ FalseEnabled ∷ NoWayOut ∷ []
+    ∷ WrongArgument ∷ NoPlaceFree ∷ NotOpen ∷ NotAccepting ∷ FalseEnabled ∷ NoWayOut ∷ LabelsNotAsMany ∷ LabelAboveOne ∷ []
 
 -- 01's table, "Numbers given back", and 02's numbers: the number of each
-pub numbers : (b : Activity) → map numberOf (cases b) ≡ 0 ∷ 1 ∷ 2 ∷ 3 ∷ 4 ∷ 5 ∷ 6 ∷ 7 ∷ 8 ∷ 9 ∷ 10 ∷ 11 ∷ 12 ∷ 13 ∷ 14 ∷ 15 ∷ 16 ∷ 17 ∷ []
+pub numbers : (b : Activity) → map numberOf (cases b) ≡ 0 ∷ 1 ∷ 2 ∷ 3 ∷ 4 ∷ 5 ∷ 6 ∷ 7 ∷ 8 ∷ 9 ∷ 10 ∷ 11 ∷ 12 ∷ 13 ∷ 14 ∷ 15 ∷ 16 ∷ 17 ∷ 18 ∷ 19 ∷ []
 numbers b = refl
 
 -- 02, 2/12: the blocker beside each
 pub blockers : (b : Activity)
     → map blockerOf (cases b)
-    ≡ 255 ∷ 255 ∷ 255 ∷ 255 ∷ 255 ∷ 255 ∷ 255 ∷ 255 ∷ 255 ∷ 255 ∷ b .0 ∷ 255 ∷ 255 ∷ 255 ∷ 255 ∷ 255 ∷ 255 ∷ 255 ∷ []
+    ≡ 255 ∷ 255 ∷ 255 ∷ 255 ∷ 255 ∷ 255 ∷ 255 ∷ 255 ∷ 255 ∷ 255 ∷ b .0 ∷ 255 ∷ 255 ∷ 255 ∷ 255 ∷ 255 ∷ 255 ∷ 255 ∷ 255 ∷ 255 ∷ []
 blockers b = refl
 
 -- that is the number which the function `number` gives

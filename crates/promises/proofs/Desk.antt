@@ -131,7 +131,7 @@ Served g (Step p a ∷ history) after = (before : List ℕ) × Served g history 
 Served g (Close p ∷ history) after = (before : List ℕ) × Served g history before × ((x : Answer) × close-gives g before p x after)
 
 -- that is the table after the history
-served : (g : Graph) (history : List Request) (table : List ℕ) → Served g history table
+pub served : (g : Graph) (history : List Request) (table : List ℕ) → Served g history table
     → (first : List ℕ) × Fresh first × (table ≡ tableAfter g first history)
 unfolding tableAfter tableServed
 served g [] table h = (table, h, refl)

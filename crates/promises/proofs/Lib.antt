@@ -16,5 +16,7 @@ pub mod Light
 pub mod Desk
 pub mod Enabled
 pub mod Finish
+pub mod FinishAtPlace
 pub mod ShutOut
 pub mod NotRedundant
+pub mod Marks

@@ -67,6 +67,7 @@ use Rattle.finish.proofs.search.way_out.Reads as way-out
 use Rattle.finish.proofs.search.finish.Reads as finish
 use Rattle.finish.proofs.shut.shut_by.Reads as shut-by
 use Rattle.calllog.proofs.judge.judge_log.Reads as judge-log
+use Rattle.calllog.proofs.judge.all_below.Reads as all-below
 use Rattle.calllog.proofs.trace.trace_part.Reads as trace-part
 use Rattle.calllog.proofs.trace.find_trace.Reads as find-trace
 use Rattle.calllog.proofs.trace.ask.Reads as log-ask
@@ -80,6 +81,7 @@ use Rattle.graphfile.proofs.marking.write_marking.Reads as write-marking
 use Rattle.desk.proofs.requests.open.Reads as desk-open
 use Rattle.desk.proofs.requests.step.Reads as desk-step
 use Rattle.desk.proofs.requests.close.Reads as desk-close
+use Rattle.desk.proofs.way.finish.Reads as desk-finish
 use Rattle.steps.proofs.relations.unbroken.Reads as unbroken
 use Rattle.steps.proofs.relations.excluded_by.Reads as excluded-by
 use Rattle.steps.proofs.relations.absent.Reads as absent
@@ -90,8 +92,16 @@ use Rattle.steps.proofs.reduce.reduced.Reads as reduced
 use Rattle.tally.proofs.log.empty.Reads as log-empty
 use Rattle.tally.proofs.log.note_traces.Reads as log-note-traces
 use Rattle.miner.proofs.mining.mine.Reads as mine
+use Rattle.marks.proofs.counts.Counts.precision.Reads as Counts-precision
+use Rattle.marks.proofs.counts.Counts.recall.Reads as Counts-recall
+use Rattle.marks.proofs.counts.Counts.accuracy.Reads as Counts-accuracy
+use Rattle.marks.proofs.labels.judge_labels.Reads as judge-labels
+use Rattle.marks.proofs.marks.mark.Reads as mark
+use Rattle.marks.proofs.marks.mark_guesses.Reads as mark-guesses
+use Rattle.marks.proofs.replays.write_replays.Reads as write-replays
 use Rattle.report.proofs.choice.choose.Reads as choose
 use Rattle.report.proofs.choice.write_refused.Reads as write-refused
+use Rattle.report.proofs.marked.write_marks.Reads as write-marks
 use Rattle.report.proofs.summary.write_summary.Reads as write-summary
 use Rattle.report.proofs.writer.write_listing.Reads as write-listing
 use Rattle.port.proofs.skelfora_mine.Reads as skelfora-mine
@@ -102,7 +112,12 @@ use Rattle.port.proofs.skelfora_replay.Reads as skelfora-replay
 use Rattle.port.proofs.skelfora_step.Reads as skelfora-step
 use Rattle.port.proofs.skelfora_opening.Reads as skelfora-opening
 use Rattle.port.proofs.way_out.skelfora_finish.Reads as skelfora-finish
+use Rattle.port.proofs.way_out.skelfora_desk_finish.Reads as skelfora-desk-finish
 use Rattle.port.proofs.way_out.skelfora_shut_by.Reads as skelfora-shut-by
+use Rattle.port.proofs.marked.skelfora_marks.Reads as skelfora-marks
+use Rattle.port.proofs.marked.skelfora_marks_text.Reads as skelfora-marks-text
+use Rattle.port.proofs.marked.skelfora_guesses_text.Reads as skelfora-guesses-text
+use Rattle.port.proofs.marked.skelfora_replays.Reads as skelfora-replays
 use Rattle.port.proofs.classroom.skelfora_plain_step.Reads as skelfora-plain-step
 use Rattle.port.proofs.classroom.skelfora_plain_accepting.Reads as skelfora-plain-accepting
 use Rattle.port.proofs.classroom.skelfora_plain_replay.Reads as skelfora-plain-replay
@@ -341,6 +356,9 @@ shut-by-once κ a r r′ s s′ h h′ = ap {B = Activity} (λ n. record { 0 = n
 pub judge-log-once : Once judge-log.Post
 judge-log-once κ a r r′ s s′ h h′ = h ∙ sym h′
 
+pub all-below-once : Once all-below.Post
+all-below-once κ a r r′ s s′ h h′ = h ∙ sym h′
+
 pub trace-part-once : Once trace-part.Post
 trace-part-once κ a r r′ s s′ h h′ = h ∙ sym h′
 
@@ -399,6 +417,9 @@ desk-step-once κ a r r′ s s′ h h′ = (h .0 ∙ sym (h′ .0), h .1 ∙ sym
 pub desk-close-once : OnceLent desk-close.Post (λ κ s. now (s .1 .1 .0))
 desk-close-once κ a r r′ s s′ h h′ = (h .0 ∙ sym (h′ .0), h .1 ∙ sym (h′ .1))
 
+pub desk-finish-once : Once desk-finish.Post
+desk-finish-once κ a r r′ s s′ h h′ = h ∙ sym h′
+
 -- ---- steps
 
 pub unbroken-once : Once unbroken.Post
@@ -435,6 +456,29 @@ log-note-traces-once κ a r r′ s s′ h h′ = (h .0 ∙ sym (h′ .0), h .1 �
 pub mine-once : Once mine.Post
 mine-once κ a r r′ s s′ h h′ = h ∙ sym h′
 
+-- ---- marks
+
+pub Counts-precision-once : Once Counts-precision.Post
+Counts-precision-once κ a r r′ s s′ h h′ = h ∙ sym h′
+
+pub Counts-recall-once : Once Counts-recall.Post
+Counts-recall-once κ a r r′ s s′ h h′ = h ∙ sym h′
+
+pub Counts-accuracy-once : Once Counts-accuracy.Post
+Counts-accuracy-once κ a r r′ s s′ h h′ = h ∙ sym h′
+
+pub judge-labels-once : Once judge-labels.Post
+judge-labels-once κ a r r′ s s′ h h′ = h ∙ sym h′
+
+pub mark-once : Once mark.Post
+mark-once κ a r r′ s s′ h h′ = h ∙ sym h′
+
+pub mark-guesses-once : Once mark-guesses.Post
+mark-guesses-once κ a r r′ s s′ h h′ = h ∙ sym h′
+
+pub write-replays-once : OnceLent write-replays.Post (λ κ s. now (s .1 .1 .1 .0))
+write-replays-once κ a r r′ s s′ h h′ = (h .0 ∙ sym (h′ .0), h .1 ∙ sym (h′ .1))
+
 -- ---- report
 
 pub choose-once : Once choose.Post
@@ -442,6 +486,9 @@ choose-once κ a r r′ s s′ h h′ = h ∙ sym h′
 
 pub write-refused-once : OnceLent write-refused.Post (λ κ s. now (s .1 .0))
 write-refused-once κ a r r′ s s′ h h′ = (h .0 ∙ sym (h′ .0), h .1 ∙ sym (h′ .1))
+
+pub write-marks-once : OnceLent write-marks.Post (λ κ s. now (s .1 .0))
+write-marks-once κ a r r′ s s′ h h′ = (h .0 ∙ sym (h′ .0), h .1 ∙ sym (h′ .1))
 
 pub write-summary-once : OnceLent write-summary.Post (λ κ s. now (s .1 .1 .0))
 write-summary-once κ a r r′ s s′ h h′ = (h .0 ∙ sym (h′ .0), h .1 ∙ sym (h′ .1))
@@ -475,8 +522,23 @@ skelfora-opening-once κ a r r′ s s′ h h′ = (h .0 ∙ sym (h′ .0), h .1 
 pub skelfora-finish-once : OnceLent skelfora-finish.Post (λ κ s. now (s .1 .1 .0))
 skelfora-finish-once κ a r r′ s s′ h h′ = (h .0 ∙ sym (h′ .0), h .1 ∙ sym (h′ .1))
 
+pub skelfora-desk-finish-once : OnceLent skelfora-desk-finish.Post (λ κ s. now (s .1 .1 .1 .0))
+skelfora-desk-finish-once κ a r r′ s s′ h h′ = (h .0 ∙ sym (h′ .0), h .1 ∙ sym (h′ .1))
+
 pub skelfora-shut-by-once : Once skelfora-shut-by.Post
 skelfora-shut-by-once κ a r r′ s s′ h h′ = h ∙ sym h′
+
+pub skelfora-marks-once : Once skelfora-marks.Post
+skelfora-marks-once κ a r r′ s s′ h h′ = h ∙ sym h′
+
+pub skelfora-marks-text-once : OnceLent skelfora-marks-text.Post (λ κ s. now (s .1 .1 .1 .0))
+skelfora-marks-text-once κ a r r′ s s′ h h′ = (h .0 ∙ sym (h′ .0), h .1 ∙ sym (h′ .1))
+
+pub skelfora-guesses-text-once : OnceLent skelfora-guesses-text.Post (λ κ s. now (s .1 .1 .0))
+skelfora-guesses-text-once κ a r r′ s s′ h h′ = (h .0 ∙ sym (h′ .0), h .1 ∙ sym (h′ .1))
+
+pub skelfora-replays-once : OnceLent skelfora-replays.Post (λ κ s. now (s .1 .1 .0))
+skelfora-replays-once κ a r r′ s s′ h h′ = (h .0 ∙ sym (h′ .0), h .1 ∙ sym (h′ .1))
 
 pub skelfora-plain-step-once : OnceLent skelfora-plain-step.Post (λ κ s. now (s .1 .1 .1 .1 .1 .0))
 skelfora-plain-step-once κ a r r′ s s′ h h′ = (h .0 ∙ sym (h′ .0), h .1 ∙ sym (h′ .1))

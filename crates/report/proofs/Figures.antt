@@ -74,6 +74,16 @@ few (suc k) j n l = by (λ i m h. few k i m h) j l (ltb n 10) refl
     by ih zero l false e = absurd (let g = ltb-false n 10 e in omega arith)
     by ih (suc j) l false e = omega (arith, ih j (n / 10) (tenth n (suc j) l), length-append (figures k (n / 10)) (figure n ∷ []))
 
+-- no number has more figures than are asked for
+pub at-most : (k n : ℕ) → length (figures k n) ≤ k
+unfolding figures
+at-most zero n = omega arith
+at-most (suc k) n = by (at-most k (n / 10)) (ltb n 10)
+  where
+    by : length (figures k (n / 10)) ≤ k → (b : Bool) → length ((when b then [] else figures k (n / 10)) ++ (figure n ∷ [])) ≤ suc k
+    by h true = omega arith
+    by h false = omega (arith, length-append (figures k (n / 10)) (figure n ∷ []))
+
 pub one-figure : (n : ℕ) → n < 10 → length (decimal n) ≤ 1
 one-figure n l = few 5 0 n l
 

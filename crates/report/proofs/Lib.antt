@@ -6,8 +6,10 @@ pub mod LineLaws
 pub mod TraceLaws
 pub mod Longest
 pub mod WholeLaws
+pub mod Fitting
 pub mod Ways
 pub mod SummaryLaws
+pub mod MarkLaws
 pub mod Choosing
 pub mod Examples
 pub mod Decimal

@@ -15,6 +15,7 @@ use Rattle.sets.specs.declared.answer.Answer.{Answer}
 use Rattle.sets.specs.declared.answer.Answer.the-variants.{Done, TooShort, WrongLetters, AboveLimit, WrongOffset, Outside, BadRow}
 use Rattle.sets.specs.declared.answer.Answer.the-variants.{BufferTooSmall, NoEvent, NotIncluded, Waiting, NoTrace, WrongArgument}
 use Rattle.sets.specs.declared.answer.Answer.the-variants.{NoPlaceFree, NotOpen, NotAccepting, FalseEnabled, NoWayOut}
+use Rattle.sets.specs.declared.answer.Answer.the-variants.{LabelsNotAsMany, LabelAboveOne}
 use Rattle.sets.proofs.Below.{count-le}
 use Rattle.engine.specs.Relations.{relationsOf}
 use Rattle.engine.specs.Replay.{replayOf}
@@ -102,6 +103,8 @@ number-small NotOpen = omega arith
 number-small NotAccepting = omega arith
 number-small FalseEnabled = omega arith
 number-small NoWayOut = omega arith
+number-small LabelsNotAsMany = omega arith
+number-small LabelAboveOne = omega arith
 
 digit-small : (b : Bool) → digit b < 10
 digit-small true = omega arith

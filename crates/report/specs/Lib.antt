@@ -3,4 +3,5 @@ pub mod Pairs
 pub mod Listing
 pub mod Choice
 pub mod Summary
+pub mod Marks
 pub mod Puts

@@ -3,7 +3,7 @@ use mathlib.Core.Path.{_≡_, refl, sym, ap, ap₂, _∙_}
 use mathlib.Core.Bool.{Bool, true, false}
 use mathlib.Core.Logic.{_⊎_, inl, inr}
 use Prim.Native.Nat.{ℕ, zero, suc, _+_, _*_, _/_, _%_, _^_, _≤_, _<_, suc-le-suc}
-use native.Mathlib.Nat.{not-suc-le-zero, le-of-suc-le-suc, mod-lt, zero-lt-suc}
+use native.Mathlib.Nat.{not-suc-le-zero, le-of-suc-le-suc, mod-lt, zero-lt-suc, add-assoc}
 use native.Mathlib.Omega.{arith}
 use borrow.Author.Tests.{ne-eqb, lt-ltb, ltb-true, ltb-false}
 use lib.Arith.{lt-one}
@@ -81,6 +81,14 @@ count-ext zero p q e = refl
 count-ext (suc w) p q e =
     ap₂ (λ (m n : ℕ). m + n) (ap digit (e 0 (zero-lt-suc w)))
     (count-ext w (λ a. p (suc a)) (λ a. q (suc a)) (λ a l. e (suc a) (suc-le-suc l)))
+
+-- one number more
+pub count-last : (w : ℕ) (p : ℕ → Bool) → countBelow (suc w) p ≡ countBelow w p + digit (p w)
+unfolding countBelow
+count-last zero p = omega arith
+count-last (suc w) p =
+    ap (λ (n : ℕ). digit (p 0) + n) (count-last w (λ a. p (suc a)))
+    ∙ sym (add-assoc (digit (p 0)) (countBelow w (λ a. p (suc a))) (digit (p (suc w))))
 
 pub count-le : (w : ℕ) (p : ℕ → Bool) → countBelow w p ≤ w
 unfolding countBelow

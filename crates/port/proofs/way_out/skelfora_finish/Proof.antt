@@ -6,11 +6,5 @@ use Rattle.port.proofs.way_out.skelfora_finish.Tie as tie
 returns : tie.Need-returns
 returns c = search (finishing, needs)
 
-returns-2 : tie.Need-returns-2
-returns-2 c = search (finishing, needs)
-
 pub skelfora-finish-spec : {M : Type 1} → statement M
-skelfora-finish-spec =
-    tie.close
-    (tie.spec (λ c κs. search needs) (λ c κs. search needs) (λ c κs. search needs) (λ c. search needs) returns (λ c κs. search needs)
-    (λ c κs. search needs) (λ c. search needs) (λ c. search needs) returns-2)
+skelfora-finish-spec = tie.close (tie.spec (λ c κs. search needs) (λ c κs. search needs) (λ c. search needs) returns)

@@ -1,4 +1,4 @@
--- With eighteen answers `search` no longer finds these by itself: each arm is told which answer it has.
+-- With so many answers `search` no longer finds these by itself: each arm is told which answer it has.
 use mathlib.Core.Path.{_≡_, sym, ap}
 use Prim.Native.Nat.{ℕ}
 use borrow.Author.Needs.{needs}
@@ -34,6 +34,8 @@ blocker-spec =
     (λ c. search needs)
     (λ c. search needs)
     (λ c. search needs)
+    (λ c. search needs)
+    (λ c. search needs)
     (λ c. sym (ap blockerOf (c .enum-told .given .1)))
     (λ c. sym (ap blockerOf (c .enum-told2 .given .1)))
     (λ c. sym (ap blockerOf (c .enum-told3 .given .1)))
@@ -51,4 +53,6 @@ blocker-spec =
     (λ c. sym (ap blockerOf (c .enum-told14 .given .1)))
     (λ c. sym (ap blockerOf (c .enum-told15 .given .1)))
     (λ c. sym (ap blockerOf (c .enum-told16 .given .1)))
-    (λ c. sym (ap blockerOf (c .enum-told17 .given .1))))
+    (λ c. sym (ap blockerOf (c .enum-told17 .given .1)))
+    (λ c. sym (ap blockerOf (c .enum-told18 .given .1)))
+    (λ c. sym (ap blockerOf (c .enum-told19 .given .1))))

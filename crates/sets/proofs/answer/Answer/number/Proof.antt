@@ -1,4 +1,4 @@
--- With eighteen answers `search` no longer finds these by itself: each arm is told which answer it has.
+-- With so many answers `search` no longer finds these by itself: each arm is told which answer it has.
 use mathlib.Core.Path.{sym, ap}
 use borrow.Author.Needs.{needs}
 use Rattle.sets.specs.Answers.{numberOf}
@@ -9,6 +9,8 @@ pub number-spec : {M : Type 1} → statement M
 number-spec =
     tie.close
     (tie.spec
+    (λ c. search needs)
+    (λ c. search needs)
     (λ c. search needs)
     (λ c. search needs)
     (λ c. search needs)
@@ -44,4 +46,6 @@ number-spec =
     (λ c. sym (ap numberOf (c .enum-told15 .given .1)))
     (λ c. sym (ap numberOf (c .enum-told16 .given .1)))
     (λ c. sym (ap numberOf (c .enum-told17 .given .1)))
-    (λ c. sym (ap numberOf (c .enum-told18 .given .1))))
+    (λ c. sym (ap numberOf (c .enum-told18 .given .1)))
+    (λ c. sym (ap numberOf (c .enum-told19 .given .1)))
+    (λ c. sym (ap numberOf (c .enum-told20 .given .1))))

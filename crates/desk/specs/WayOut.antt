@@ -1,0 +1,25 @@
+-- The way out of the call at a place (02, 8/12: "It works on markings from the file or from the desk"), for every graph, table and place.
+use mathlib.Core.List.{List, []}
+use Prim.Native.Nat.{ℕ}
+use lib.Dec.{ltb}
+use lib.ListN.{length}
+use Rattle.sets.specs.Tests.{non, when_then_else_}
+use Rattle.sets.specs.declared.answer.Answer.the-variants.{BufferTooSmall, NotOpen}
+use Rattle.engine.specs.declared.graph.Graph.{Graph}
+use Rattle.finish.specs.Ways.{finishedBy, finishOf}
+use Rattle.finish.specs.declared.search.Finished.{Finished}
+use Rattle.desk.specs.Places.{tableLength, isOpen, markingAtPlace}
+use Rattle.desk.specs.Histories.{Call, none, since, markingAfter}
+
+-- 7 where the bytes are too few for a table, 14 where the place is above 31 or not open, then what the search gives at the place's own marking:
+-- 3, 5, 16, 17, or the way; a refusal returns four 255s
+unfoldable pub finishedAt : Graph → List ℕ → ℕ → Finished
+finishedAt g table p =
+    when ltb (length table) tableLength then finishedBy BufferTooSmall []
+    else when non (isOpen table p) then finishedBy NotOpen []
+    else finishOf g (markingAtPlace table p)
+
+-- what is given at a place, by the graph and the place's own call alone
+unfoldable pub finishBy : Graph → Call → Finished
+finishBy g none = finishedBy NotOpen []
+finishBy g (since past) = finishOf g (markingAfter g past)

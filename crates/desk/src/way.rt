@@ -1,0 +1,31 @@
+// The way out of the call at a place (02, 8/12: "markings from the file or from the desk"). It only looks: the table is lent to be read.
+ghost use mathlib.Core.Path.{_≡_};
+ghost use Rattle.engine.specs.Relations.{graphOf};
+ghost use Rattle.desk.specs.WayOut.{finishedAt};
+use crate::table;
+use engine::Head;
+use engine::Relations;
+use finish::Finished;
+use finish::Way;
+use finish::search;
+use sets::Answer;
+
+// 7 and 14 as step and close have them, then 3, 5, 16 and 17 at the place's own marking; four 255s where it is refused.
+pub fn finish<'a>(head: Head, relations: &'a Relations, table: &'a [u8], place: usize) -> Finished
+    ensures { λ r. ⌜ r ≡ finishedAt (graphOf head (now (relations .entry))) (now (table .entry)) place ⌝ }
+{
+    if table.len() < table::LENGTH {
+        return Finished {
+            answer: Answer::BufferTooSmall,
+            way: Way::NONE,
+        };
+    }
+    if !table::is_open(table, place) {
+        return Finished {
+            answer: Answer::NotOpen,
+            way: Way::NONE,
+        };
+    }
+    let m = table::marking_at(table, place);
+    search::way_out(head, relations, m)
+}

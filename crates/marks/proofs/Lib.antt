@@ -1,0 +1,5 @@
+-- The modules of `proofs/` that belong to no one function.
+pub mod Counting
+pub mod Asking
+pub mod Replaying
+pub mod Marking
