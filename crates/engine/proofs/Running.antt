@@ -1,5 +1,5 @@
 -- The answers of the public functions, and a replay one event further. Assumes nothing.
-use mathlib.Core.Path.{_≡_, refl, sym, ap, _∙_}
+use mathlib.Core.Path.{_≡_, refl, sym, ap, ap₂, _∙_}
 use mathlib.Core.Bool.{Bool, true, false, not}
 use mathlib.Core.List.{List, [], _∷_}
 use Prim.Native.Nat.{ℕ, suc, _+_, _≤_, _<_}
@@ -78,19 +78,24 @@ module _ (events : Set) (q : Relations) (s : State) (n : ℕ) (trace : List ℕ)
         ∙ taken (isDone (enabled events q s (getD trace n 0))) _ _ _ (done _ a t ha ht z) refl
         ∙ opened l inv
 
-    pub walk-stop : not t ≡ true → replayFrom events q s n (drop n trace) ≡ R → walkedOf (ending a n (marked events q s) false) ≡ walkedOf R
-    walk-stop z inv =
-        ap walkedOf
-        (ap (λ (b : Answer). ending b n (marked events q s) false) ha
+    pub run-stop : (m : Marking) → m ≡ marked events q s → not t ≡ true → replayFrom events q s n (drop n trace) ≡ R → ending a n m false ≡ R
+    run-stop m hm z inv =
+        ap₂ (λ (b : Answer) (k : Marking). ending b n k false) ha hm
         ∙ passed-by (isDone (enabled events q s (getD trace n 0))) _ _ _ (undone _ a t ha ht z) refl
-        ∙ opened l inv)
+        ∙ opened l inv
+
+    pub walk-stop : not t ≡ true → replayFrom events q s n (drop n trace) ≡ R → walkedOf (ending a n (marked events q s) false) ≡ walkedOf R
+    walk-stop z inv = ap walkedOf (run-stop (marked events q s) refl z inv)
+
+  pub run-end : (m : Marking) (y : Bool) → length trace ≤ n → m ≡ marked events q s → y ≡ accepting s
+      → replayFrom events q s n (drop n trace) ≡ R → ending Done n m y ≡ R
+  unfolding replayFrom
+  run-end m y l hm h inv =
+      ap₂ (λ (k : Marking) (b : Bool). ending Done n k b) hm h ∙ ap (replayFrom events q s n) (sym (drop-of-length-le trace l)) ∙ inv
 
   pub walk-end : (y : Bool) → length trace ≤ n → y ≡ accepting s → replayFrom events q s n (drop n trace) ≡ R
       → walkedOf (ending Done n (marked events q s) y) ≡ walkedOf R
-  unfolding replayFrom
-  walk-end y l h inv =
-      ap walkedOf
-      (ap (λ (b : Bool). ending Done n (marked events q s) b) h ∙ ap (replayFrom events q s n) (sym (drop-of-length-le trace l)) ∙ inv)
+  walk-end y l h inv = ap walkedOf (run-end (marked events q s) y l refl h inv)
 
 -- the marking that a replay gives back is its state's
 pub ran-marked : (events : Set) (q : Relations) (s : State) (i : ℕ) (σ : List ℕ)
