@@ -6,7 +6,7 @@ use Rattle.port.proofs.skelfora_replay.Tie as tie
 returns-3 : tie.Need-returns-3
 returns-3 c =
     let run = c .before in
-    let short = run .before .before .before .before in
+    let short = run .before .before .before .before .before in
     let left = short .before in
     let read = left .before .before in
     replay-run _ _ _ (read .read-bare .ensures) _ (left .before .is-done .ensures) _ (left .if1 .left)
