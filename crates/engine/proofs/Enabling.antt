@@ -5,7 +5,7 @@ use mathlib.Core.List.{List}
 use Prim.Native.Nat.{ℕ, _≤_, _<_}
 use lib.Dec.{T, eqb}
 use Rattle.sets.specs.Tests.{_and_, _or_, non, when_then_else_}
-use Rattle.sets.specs.Members.{width, mem, those, within}
+use Rattle.sets.specs.Members.{width, mem, those, isEmpty, within}
 use Rattle.sets.specs.Answers.{isDone}
 use Rattle.sets.specs.declared.set.Set.{Set}
 use Rattle.sets.specs.declared.answer.Answer.{Answer}
@@ -17,7 +17,8 @@ use Rattle.engine.specs.declared.marking.State.{State}
 use Rattle.engine.specs.declared.marking.Marking.{Marking}
 use Rattle.engine.specs.Markings.{markingOf}
 use Rattle.engine.specs.Relations.{Relations}
-use Rattle.engine.specs.Steps.{waits, blocker, enabled}
+use Rattle.engine.specs.Steps.{blocking, waits, blocker, enabled}
+use Rattle.engine.proofs.Stepping.{none-pass}
 use Rattle.engine.specs.Enabled.{enabledSet, marked, isTrue}
 
 module _ (events : Set) (r : Relations) (s : State) where
@@ -33,29 +34,25 @@ module _ (events : Set) (r : Relations) (s : State) where
       by true true false = refl
       by true true true = refl
 
-  -- an event that is enabled is among those that are asked
-  asked-once : (a : ℕ) → (mem events a and mem (s .included) a and isDone (enabled events r s a)) ≡ isDone (enabled events r s a)
-  asked-once a =
-      T-ext (mem events a and mem (s .included) a and isDone (enabled events r s a)) (isDone (enabled events r s a)) (λ t. and-r _ _ t)
-      (λ t. and-i _ _ (and-l _ _ (T-eq (done-parts a) t)) t)
-
-  -- so all of them are had, once every event that is included was asked
-  pub gathered : (asked out : Set) (i : ℕ) → Gathered asked (λ a. isDone (enabled events r s a)) out i → width ≤ i
-      → asked ≡ those (λ a. mem events a and mem (s .included) a) → out ≡ enabledSet events r s
+  -- so all of them are had, once every event that is included was asked whether it waits
+  pub gathered : (asked out : Set) → asked ≡ those (λ a. mem events a and mem (s .included) a)
+      → out ≡ those (λ a. mem asked a and non (waits r s a)) → out ≡ enabledSet events r s
   unfolding enabledSet
-  gathered asked out i inv l ha =
-      gather-end asked (λ a. isDone (enabled events r s a)) i out inv l
-      ∙ those-of asked (λ a. mem events a and mem (s .included) a) (λ a t. t and isDone (enabled events r s a)) ha
-      ∙ those-ext (λ a. mem events a and mem (s .included) a and isDone (enabled events r s a)) (λ a. isDone (enabled events r s a))
-      (λ a la. asked-once a)
+  gathered asked out ha ho =
+      ho ∙ those-of asked (λ a. mem events a and mem (s .included) a) (λ a t. t and non (waits r s a)) ha
+      ∙ those-ext (λ a. mem events a and mem (s .included) a and non (waits r s a)) (λ a. isDone (enabled events r s a)) (λ a la. sym (done-parts a))
 
--- what the code makes: the set with one more where a test holds, and the marking of a state
-pub joined-if : (events : Set) (r : Relations) (s : State) (out one u : Set) (a : Answer) (e : ℕ) (t : Bool) → a ≡ enabled events r s e
-    → t ≡ isDone a → one ≡ those (λ b. t and eqb b e) → u ≡ those (λ b. mem out b or mem one b)
-    → u ≡ those (λ b. mem out b or isDone (enabled events r s e) and eqb b e)
-joined-if events r s out one u a e t ha ht ho hu =
+pub all-free : (asked : Set) (r : Relations) (s : State) (out : Set) (i : ℕ) → Gathered asked (λ e. non (waits r s e)) out i → width ≤ i
+    → out ≡ those (λ a. mem asked a and non (waits r s a))
+all-free asked r s out i inv l = gather-end asked (λ e. non (waits r s e)) i out inv l
+
+-- what the code makes: the set with one more where nothing blocks it, and the marking of a state
+pub joined-free : (r : Relations) (s : State) (out left one u : Set) (e : ℕ) (t : Bool) → left ≡ those (blocking r s e) → t ≡ isEmpty left
+    → one ≡ those (λ b. t and eqb b e) → u ≡ those (λ b. mem out b or mem one b) → u ≡ those (λ b. mem out b or non (waits r s e) and eqb b e)
+unfolding waits
+joined-free r s out left one u e t hl ht ho hu =
     hu ∙ those-of one (λ b. t and eqb b e) (λ b y. mem out b or y) ho
-    ∙ ap (λ (y : Bool). those (λ b. mem out b or y and eqb b e)) (ht ∙ ap isDone ha)
+    ∙ ap (λ (y : Bool). those (λ b. mem out b or y and eqb b e)) (ht ∙ none-pass left (blocking r s e) hl)
 
 pub marked-by : (events : Set) (r : Relations) (s : State) (u : Set) → u ≡ enabledSet events r s → markingOf s u ≡ marked events r s
 marked-by events r s u h j = markingOf s (h j)

@@ -1,7 +1,7 @@
 -- The answers of the public functions, and a replay one event further. Assumes nothing.
 use mathlib.Core.Path.{_≡_, refl, sym, ap, ap₂, _∙_}
 use mathlib.Core.Bool.{Bool, true, false, not}
-use mathlib.Core.List.{List}
+use mathlib.Core.List.{List, [], _∷_}
 use Prim.Native.Nat.{ℕ, suc, _+_, _≤_, _<_}
 use native.Mathlib.Numerals.{add-one}
 use lib.ListN.{length, getD, drop, drop-of-length-le}
@@ -16,11 +16,12 @@ use Rattle.engine.specs.declared.marking.Marking.{Marking}
 use Rattle.engine.specs.declared.step.Stepped.{Stepped}
 use Rattle.engine.specs.declared.step.Verdict.{Verdict}
 use Rattle.engine.specs.declared.replay.Replayed.{Replayed}
+use Rattle.engine.specs.declared.replay.Walked.{Walked}
 use Rattle.engine.specs.Markings.{emptyMarking}
 use Rattle.engine.specs.Relations.{Relations}
 use Rattle.engine.specs.Steps.{enabled, after, accepting}
 use Rattle.engine.specs.Enabled.{marked}
-use Rattle.engine.specs.Replay.{ending, replayFrom}
+use Rattle.engine.specs.Replay.{ending, walkedOf, replayFrom}
 use Rattle.sets.proofs.Ways.{failed, held, taken, passed-by, stops-l, goes}
 
 -- what an answer's test tells of the answer that the definition has
@@ -83,8 +84,42 @@ module _ (events : Set) (q : Relations) (s : State) (n : ℕ) (trace : List ℕ)
         ∙ passed-by (isDone (enabled events q s (getD trace n 0))) _ _ _ (undone _ a t ha ht z) refl
         ∙ opened l inv
 
+    pub walk-stop : not t ≡ true → replayFrom events q s n (drop n trace) ≡ R → walkedOf (ending a n (marked events q s) false) ≡ walkedOf R
+    walk-stop z inv = ap walkedOf (run-stop (marked events q s) refl z inv)
+
   pub run-end : (m : Marking) (y : Bool) → length trace ≤ n → m ≡ marked events q s → y ≡ accepting s
       → replayFrom events q s n (drop n trace) ≡ R → ending Done n m y ≡ R
   unfolding replayFrom
   run-end m y l hm h inv =
       ap₂ (λ (k : Marking) (b : Bool). ending Done n k b) hm h ∙ ap (replayFrom events q s n) (sym (drop-of-length-le trace l)) ∙ inv
+
+  pub walk-end : (y : Bool) → length trace ≤ n → y ≡ accepting s → replayFrom events q s n (drop n trace) ≡ R
+      → walkedOf (ending Done n (marked events q s) y) ≡ walkedOf R
+  walk-end y l h inv = ap walkedOf (run-end (marked events q s) y l refl h inv)
+
+-- the marking that a replay gives back is its state's
+pub ran-marked : (events : Set) (q : Relations) (s : State) (i : ℕ) (σ : List ℕ)
+    → marked events q (replayFrom events q s i σ .marking .state) ≡ replayFrom events q s i σ .marking
+unfolding replayFrom
+ran-marked events q s i [] = refl
+ran-marked events q s i (e ∷ σ) = by (isDone (enabled events q s e)) (ran-marked events q (after q s e) (i + 1) σ)
+  where
+    by : (t : Bool)
+        → marked events q (replayFrom events q (after q s e) (i + 1) σ .marking .state) ≡ replayFrom events q (after q s e) (i + 1) σ .marking
+        → marked events q
+        ((when t then replayFrom events q (after q s e) (i + 1) σ else ending (enabled events q s e) i (marked events q s) false) .marking .state)
+        ≡ (when t then replayFrom events q (after q s e) (i + 1) σ else ending (enabled events q s e) i (marked events q s) false) .marking
+    by true rest = rest
+    by false rest = refl
+
+-- so what was walked is replayed once the set is worked out
+pub walked-run : (events : Set) (q : Relations) (s : State) (σ : List ℕ) (w : Walked) (m : Marking) → w ≡ walkedOf (replayFrom events q s 0 σ)
+    → m ≡ marked events q (w .state)
+    → _≡_ {A = Replayed} (record { answer = w .answer; place = w .place; marking = m; accepting = w .accepting }) (replayFrom events q s 0 σ)
+walked-run events q s σ w m hw hm i =
+    record {
+      answer = hw i .answer;
+      place = hw i .place;
+      marking = (hm ∙ ap (λ (x : Walked). marked events q (x .state)) hw ∙ ran-marked events q s 0 σ) i;
+      accepting = hw i .accepting;
+    }

@@ -19,7 +19,7 @@ use Rattle.engine.specs.Relations.{inTables}
 use Rattle.engine.specs.Steps.{blocking, waits, blocker, after, accepting}
 
 -- a set of members that pass is empty where none passes
-none-pass : (u : Set) (p : ℕ → Bool) → u ≡ those p → isEmpty u ≡ non (someBelow width p)
+pub none-pass : (u : Set) (p : ℕ → Bool) → u ≡ those p → isEmpty u ≡ non (someBelow width p)
 none-pass u p e = empty-none u ∙ ap non (some-of u p (λ a t. t) e)
 
 pub changed-by : (s lost gained u v : Set) → u ≡ those (λ a. mem s a and non (mem lost a)) → v ≡ those (λ a. mem u a or mem gained a)

@@ -14,6 +14,7 @@ use Rattle.engine.specs.declared.graph.Graph.{Graph}
 use Rattle.engine.specs.declared.step.Stepped.{Stepped}
 use Rattle.engine.specs.declared.step.Verdict.{Verdict}
 use Rattle.engine.specs.declared.replay.Replayed.{Replayed}
+use Rattle.engine.specs.declared.replay.Walked.{Walked}
 use Rattle.engine.specs.Markings.{emptyMarking}
 use Rattle.engine.specs.Relations.{Relations, relationsOf}
 use Rattle.engine.specs.Steps.{enabled, after, accepting}
@@ -43,6 +44,10 @@ acceptingOf g m = record { answer = judgedWith g m; accepting = isDone (judgedWi
 -- the result of a replay
 abbrev pub ending : Answer → ℕ → Marking → Bool → Replayed
 ending a i m accepts = record { answer = a; place = record { 0 = i }; marking = m; accepting = accepts }
+
+-- the same with the state in the marking's place
+abbrev pub walkedOf : Replayed → Walked
+walkedOf r = record { answer = r .answer; place = r .place; state = r .marking .state; accepting = r .accepting }
 
 -- the rest of a trace, from the state s at place i: it stops at the first refusal, with the marking before it. The set of enabled activities
 -- is that of the marking given back; none is kept on the way

@@ -1,11 +1,10 @@
 // The set of enabled activities that a marking keeps (02, 6/12): worked out here alone, and a marking handed over is held to it.
 ghost use mathlib.Core.Path.{_≡_};
 ghost use lib.Dec.{eqb};
-ghost use Rattle.sets.specs.Tests.{_and_, _or_};
+ghost use Rattle.sets.specs.Tests.{_and_, _or_, non};
 ghost use Rattle.sets.specs.Members.{mem, those};
-ghost use Rattle.sets.specs.Answers.{isDone};
 ghost use Rattle.engine.specs.Relations.{inTables};
-ghost use Rattle.engine.specs.Steps.{enabled};
+ghost use Rattle.engine.specs.Steps.{waits};
 ghost use Rattle.engine.specs.Enabled as rules;
 use crate::graph::Relations;
 use crate::marking::Marking;
@@ -14,12 +13,25 @@ use crate::step;
 use sets::Activity;
 use sets::Set;
 
-// The set with the activity, where that is enabled.
-fn with_enabled(events: Set, relations: &Relations, s: State, a: Activity, out: Set) -> Set
-    ensures { λ r. ⌜ r ≡ those (λ b. mem out b or isDone (enabled events (inTables (now (relations .entry))) s (a .0)) and eqb b (a .0)) ⌝ }
+// The set with the activity, where that waits for nothing.
+fn with_free(relations: &Relations, s: State, a: Activity, out: Set) -> Set
+    ensures { λ r. ⌜ r ≡ those (λ b. mem out b or non (waits (inTables (now (relations .entry))) s (a .0)) and eqb b (a .0)) ⌝ }
 {
-    let one = Set::one_if(step::ask(events, relations, s, a).is_done(), a);
+    let one = Set::one_if(step::blocking(relations, s, a).is_empty(), a);
     out.union(one)
+}
+
+// Of a set those that wait for nothing.
+fn free_of(asked: Set, relations: &Relations, s: State) -> Set
+    ensures { λ r. ⌜ r ≡ those (λ a. mem asked a and non (waits (inTables (now (relations .entry))) s a)) ⌝ }
+{
+    let mut out = Set::EMPTY;
+    let mut a = asked.least();
+    while a.0 < Activity::LIMIT {
+        out = with_free(relations, s, a, out);
+        a = asked.next(a);
+    }
+    out
 }
 
 // Only events that are included need be asked.
@@ -27,13 +39,7 @@ pub fn enabled_set(events: Set, relations: &Relations, s: State) -> Set
     ensures { λ r. ⌜ r ≡ rules.enabledSet events (inTables (now (relations .entry))) s ⌝ }
 {
     let asked = events.intersection(s.included);
-    let mut out = Set::EMPTY;
-    let mut a = asked.least();
-    while a.0 < Activity::LIMIT {
-        out = with_enabled(events, relations, s, a, out);
-        a = asked.next(a);
-    }
-    out
+    free_of(asked, relations, s)
 }
 
 // The marking of a state.

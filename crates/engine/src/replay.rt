@@ -1,17 +1,19 @@
 // The replay of a trace (01, "A step").
 ghost use mathlib.Core.Path.{_≡_};
 ghost use Rattle.engine.specs.Relations.{inTables};
-ghost use Rattle.engine.specs.Replay.{replayFrom, replayOf};
+ghost use Rattle.engine.specs.Replay.{walkedOf, replayFrom, replayOf};
 use crate::enabled;
 use crate::graph::Graph;
 use crate::graph::Head;
 use crate::graph::Relations;
 use crate::judge;
 use crate::marking::Marking;
+use crate::marking::State;
 use crate::step;
 use sets::Activity;
 use sets::Answer;
 use sets::Place;
+use sets::Set;
 
 // Where a replay ends: its answer, the place of the event refused (the length where all are done), the marking then, and
 // whether it is accepting.
@@ -22,32 +24,57 @@ pub struct Replayed {
     pub accepting: bool,
 }
 
-// A whole trace on lent relations, from the opening marking: for callers that have judged the graph. The set of enabled activities is worked
-// out once, for the marking that is given back (02, 6/12).
-pub fn run(head: Head, relations: &Relations, trace: &[u8]) -> Replayed
-    ensures { λ r. ⌜ r ≡ replayFrom (head .events) (inTables (now (relations .entry))) (head .opening .state) 0 (now (trace .entry)) ⌝ }
+// The same with the state in the marking's place: for callers that hand no marking on, since working the set of enabled activities out
+// takes as long as some hundred events.
+pub struct Walked {
+    pub answer: Answer,
+    pub place: Place,
+    pub state: State,
+    pub accepting: bool,
+}
+
+// A whole trace on lent relations, from a state: for callers that have judged the graph.
+pub fn walk<'a>(events: Set, relations: &'a Relations, opening: State, trace: &'a [u8]) -> Walked
+    ensures { λ r. ⌜ r ≡ walkedOf (replayFrom events (inTables (now (relations .entry))) opening 0 (now (trace .entry))) ⌝ }
 {
-    let mut s = head.opening.state;
+    let mut s = opening;
     let mut i: usize = 0;
     while i < trace.len() {
         let a = Activity(trace[i]);
-        let answer = step::ask(head.events, relations, s, a);
+        let answer = step::ask(events, relations, s, a);
         if !answer.is_done() {
-            return Replayed {
+            return Walked {
                 answer,
                 place: Place(i),
-                marking: enabled::marked(head.events, relations, s),
+                state: s,
                 accepting: false,
             };
         }
         s = step::next(relations, s, a);
         i += 1;
     }
-    Replayed {
+    Walked {
         answer: Answer::Done,
         place: Place(i),
-        marking: enabled::marked(head.events, relations, s),
+        state: s,
         accepting: step::is_accepting(s),
+    }
+}
+
+// The same, with the marking. Its set of enabled activities is worked out once, at the end (02, 6/12).
+pub fn run<'a>(head: Head, relations: &'a Relations, trace: &'a [u8]) -> Replayed
+    ensures { λ r. ⌜ r ≡ replayFrom (head .events) (inTables (now (relations .entry))) (head .opening .state) 0 (now (trace .entry)) ⌝ }
+{
+    let opening = head.opening.state;
+    let walked = walk(head.events, relations, opening, trace);
+    let answer = walked.answer;
+    let place = walked.place;
+    let state = walked.state;
+    Replayed {
+        answer,
+        place,
+        marking: enabled::marked(head.events, relations, state),
+        accepting: walked.accepting,
     }
 }
 

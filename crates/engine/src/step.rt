@@ -34,7 +34,7 @@ pub struct Verdict {
 }
 
 // The condition sources that are included and not executed.
-fn blocking(relations: &Relations, s: State, a: Activity) -> Set
+pub(crate) fn blocking(relations: &Relations, s: State, a: Activity) -> Set
     ensures { λ r. ⌜ r ≡ those (rules.blocking (inTables (now (relations .entry))) s (a .0)) ⌝ }
 {
     let sources = tables::row(relations, CONDITIONS, a);

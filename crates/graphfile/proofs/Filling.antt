@@ -16,14 +16,16 @@ use Rattle.sets.specs.declared.answer.Answer.{Answer}
 use Rattle.sets.specs.declared.answer.Answer.the-variants.{Done}
 use Rattle.sets.proofs.Asking.{done-is, refused, passed, gone-on, never-done}
 use Rattle.sets.proofs.Order.{turns-begin, turn-passed, turn-refused, turns-end, turns}
-use Rattle.engine.specs.Markings.{emptyMarking}
+use Rattle.engine.specs.declared.marking.State.{State}
+use Rattle.engine.specs.Markings.{emptyState, emptyMarking}
 use Rattle.engine.specs.Relations.{relationCount, headOf, graphOf, emptyGraph}
 use Rattle.engine.specs.declared.graph.Head.{Head}
 use Rattle.engine.specs.declared.graph.Graph.{Graph}
 use Rattle.graphfile.specs.declared.reader.Reading.{Reading}
-use Rattle.graphfile.specs.Layout.{headLength, eventsIn, headIn, countIn, earlierRows, keyIn, rowIn}
+use Rattle.graphfile.specs.declared.reader.Bare.{Bare}
+use Rattle.graphfile.specs.Layout.{headLength, eventsIn, stateIn, headIn, countIn, earlierRows, keyIn, rowIn}
 use Rattle.graphfile.specs.Refusals.{rises, rowAnswer, judgedRow, judgedBeforeRows, judgedRelation, judgedFile}
-use Rattle.graphfile.specs.Held.{filled, withRelation, relationsIn, graphIn, readOf}
+use Rattle.graphfile.specs.Held.{filled, withRelation, relationsIn, graphIn, readOf, bareOf}
 use Rattle.graphfile.proofs.Judging.{row-judged}
 use Rattle.graphfile.proofs.Accepted.{accepted}
 
@@ -131,6 +133,9 @@ module _ (bytes : List ℕ) (a : Answer) (d : Bool) (e : a ≡ judgedFile bytes)
   pub read-long : d ≡ true → headLength ≤ length bytes
   read-long y = accepted bytes (sym e ∙ done-is a (sym t ∙ y)) .long
 
+  pub read-events : d ≡ true → 4 + 8 ≤ length bytes
+  read-events y = omega (arith, read-long y)
+
   pub read-refused : (tables : List ℕ) → d ≡ false → tables ≡ noTables relationCount
       → _≡_ {A = Reading} (record { answer = a; graph = graphOf (headOf 0 noSet emptyMarking) tables }) (readOf bytes)
   read-refused tables n h = reading false _ n (ap (graphOf (headOf 0 noSet emptyMarking)) h)
@@ -139,3 +144,27 @@ module _ (bytes : List ℕ) (a : Answer) (d : Bool) (e : a ≡ judgedFile bytes)
       → _≡_ {A = Reading} (record { answer = a; graph = graphOf head tables }) (readOf bytes)
   unfolding graphIn
   read-taken head tables y hh ht = let done = done-is a (sym t ∙ y) in reading true _ y ((λ k. graphOf (hh k) tables) ∙ λ k. graphOf (headIn bytes (ht done k)) (ht done k))
+
+  -- the same without the set
+  bare : (b : Bool) (events : Set) (s : State) (tables : List ℕ) → d ≡ b → events ≡ (when b then eventsIn bytes else noSet)
+      → s ≡ (when b then stateIn bytes else emptyState) → tables ≡ (when b then relationsIn bytes relationCount else noTables relationCount)
+      → _≡_ {A = Bare} (record { answer = a; events = events; state = s; relations = tables }) (bareOf bytes)
+  unfolding bareOf
+  bare b events s tables q he hs ht =
+      let said : isDone (judgedFile bytes) ≡ b = ap isDone (sym e) ∙ sym t ∙ q in
+      λ i.
+      record {
+        answer = e i;
+        events = (he ∙ ap (λ (y : Bool). when y then eventsIn bytes else noSet) (sym said)) i;
+        state = (hs ∙ ap (λ (y : Bool). when y then stateIn bytes else emptyState) (sym said)) i;
+        relations = (ht ∙ ap (λ (y : Bool). when y then relationsIn bytes relationCount else noTables relationCount) (sym said)) i;
+      }
+
+  pub bare-refused : (tables : List ℕ) → d ≡ false → tables ≡ noTables relationCount
+      → _≡_ {A = Bare} (record { answer = a; events = noSet; state = emptyState; relations = tables }) (bareOf bytes)
+  bare-refused tables n h = bare false noSet emptyState tables n refl refl h
+
+  pub bare-taken : (events : Set) (s : State) (tables : List ℕ) → d ≡ true → events ≡ eventsIn bytes → s ≡ stateIn bytes
+      → (a ≡ Done → tables ≡ relationsIn bytes relationCount)
+      → _≡_ {A = Bare} (record { answer = a; events = events; state = s; relations = tables }) (bareOf bytes)
+  bare-taken events s tables y he hs ht = bare true events s tables y he hs (ht (done-is a (sym t ∙ y)))

@@ -8,6 +8,9 @@ use Rattle.engine.specs.Relations.{relationCount, emptyGraph}
 use Rattle.engine.specs.Enabled.{graphAt}
 use Rattle.engine.specs.declared.graph.Graph.{Graph}
 use Rattle.graphfile.specs.declared.reader.Reading.{Reading}
+use Rattle.graphfile.specs.declared.reader.Bare.{Bare}
+use Rattle.engine.specs.Markings.{emptyState}
+use Rattle.sets.specs.Members.{noSet}
 use Rattle.graphfile.specs.Layout.{activitiesIn, eventsIn, stateIn, countIn, earlierRows, keyIn, rowIn}
 use Rattle.graphfile.specs.Refusals.{judgedFile}
 
@@ -28,6 +31,16 @@ relationsIn bytes (suc r) = withRelation bytes (relationsIn bytes r) r
 -- the graph of an accepted file, whose enabled activities follow from the rest (02, 6/12: "The graph file doesn't store it")
 unfoldable pub graphIn : List ℕ → Graph
 graphIn bytes = graphAt (activitiesIn bytes) (eventsIn bytes) (stateIn bytes) (relationsIn bytes relationCount)
+
+-- a read without the set: the file's answer, and what it holds; nothing where refused
+unfoldable pub bareOf : List ℕ → Bare
+bareOf bytes =
+    record {
+      answer = judgedFile bytes;
+      events = when isDone (judgedFile bytes) then eventsIn bytes else noSet;
+      state = when isDone (judgedFile bytes) then stateIn bytes else emptyState;
+      relations = when isDone (judgedFile bytes) then relationsIn bytes relationCount else noTables relationCount;
+    }
 
 -- a read: the file's answer, and its graph; the empty graph where refused (01, "Nothing else")
 unfoldable pub readOf : List ℕ → Reading

@@ -7,7 +7,9 @@ pub mod reader;
 mod refusal;
 pub mod writer;
 
+pub use reader::Bare;
 pub use reader::Reading;
 pub use reader::read;
+pub use reader::read_bare;
 pub use writer::Written;
 pub use writer::write;

@@ -18,10 +18,11 @@ use Rattle.sets.proofs.RowLaws.{length-listFrom}
 use Rattle.sets.proofs.Asking.{both}
 use Rattle.engine.specs.Relations.{inTables}
 use Rattle.engine.specs.Judged.{judged}
-use Rattle.engine.specs.Replay.{replayFrom, replayOf}
+use Rattle.engine.specs.Replay.{walkedOf, replayFrom, replayOf}
 use Rattle.engine.specs.declared.graph.Head.{Head}
 use Rattle.engine.specs.declared.graph.Graph.{Graph}
 use Rattle.engine.specs.declared.replay.Replayed.{Replayed}
+use Rattle.engine.specs.declared.replay.Walked.{Walked}
 use Rattle.engine.proofs.Acceptable.{replay-judged}
 use Rattle.calllog.specs.Logs.{logOf, partOf, judgedOf}
 use Rattle.calllog.specs.declared.judge.Judged.{Judged}
@@ -34,37 +35,38 @@ use Rattle.marks.proofs.Asking.{replays-refused, replays-small, replays
 
 -- ---- one trace
 
-pub part-ended : (head : Head) (tables log : List ℕ) (k : ℕ) (p : Part) (r : Replayed) → p ≡ partOf log k
-    → r ≡ replayFrom (head .events) (inTables tables) (head .opening .state) 0 (take (p .start + p .length - p .start) (drop (p .start) log))
-    → r ≡ partReplay head tables log k
+pub part-ended : (head : Head) (tables log : List ℕ) (k : ℕ) (p : Part) (r : Walked) → p ≡ partOf log k
+    → r ≡ walkedOf (replayFrom (head .events) (inTables tables) (head .opening .state) 0 (take (p .start + p .length - p .start) (drop (p .start) log)))
+    → r ≡ walkedOf (partReplay head tables log k)
 part-ended head tables log k p r e h =
     let same : p .start + p .length - p .start ≡ p .length = omega arith in
-    let run = replayFrom (head .events) (inTables tables) (head .opening .state) 0 in
+    let run : List ℕ → Walked = λ σ. walkedOf (replayFrom (head .events) (inTables tables) (head .opening .state) 0 σ) in
     h ∙ ap (λ (m : ℕ). run (take m (drop (p .start) log))) same ∙ ap (λ (q : Part). run (take (q .length) (drop (q .start) log))) e
 
-module _ (r : Replayed) (d : Bool) (hd : d ≡ isDone (r .answer)) where
-  pub no-yes : not d ≡ true → false ≡ isYes r
-  unfolding isYes _and_
+module _ (r : Walked) (d : Bool) (hd : d ≡ isDone (r .answer)) where
+  pub no-yes : not d ≡ true → false ≡ (isDone (r .answer) and r .accepting)
+  unfolding _and_
   no-yes n = sym (ap (λ (b : Bool). b and r .accepting) (sym hd ∙ not-true d n))
 
-  pub then-accepting : not d ≡ false → r .accepting ≡ isYes r
-  unfolding isYes _and_
+  pub then-accepting : not d ≡ false → r .accepting ≡ (isDone (r .answer) and r .accepting)
+  unfolding _and_
   then-accepting n = sym (ap (λ (b : Bool). b and r .accepting) (sym hd ∙ not-false d n))
 
-pub verdict-is : (r q : Replayed) (b : Bool) → r ≡ q → b ≡ isYes r → b ≡ isYes q
-verdict-is r q b e h = h ∙ ap isYes e
+module _ (r : Walked) (q : Replayed) (b : Bool) (e : r ≡ walkedOf q) (h : b ≡ (isDone (r .answer) and r .accepting)) where
+  pub verdict-is : b ≡ isYes q
+  unfolding isYes
+  verdict-is = h ∙ ap (λ (x : Walked). isDone (x .answer) and x .accepting) e
 
-module _ (r q : Replayed) (b : Bool) (e : r ≡ q) (h : b ≡ isYes r) where
   pub byte-yes : b ≡ true → 128 ≡ replayByte q
   unfolding replayByte
-  byte-yes t = sym (ap (λ (x : Bool). when x then 128 else numberOf (q .answer)) (ap isYes (sym e) ∙ sym h ∙ t))
+  byte-yes t = sym (ap (λ (x : Bool). when x then 128 else numberOf (q .answer)) (sym verdict-is ∙ t))
 
   pub byte-other : (n : ℕ) → b ≡ false → n ≡ numberOf (r .answer) → n ≡ replayByte q
   unfolding replayByte
   byte-other n t hn =
       hn
-      ∙ ap (λ (x : Replayed). numberOf (x .answer)) e
-      ∙ sym (ap (λ (x : Bool). when x then 128 else numberOf (q .answer)) (ap isYes (sym e) ∙ sym h ∙ t))
+      ∙ ap (λ (x : Walked). numberOf (x .answer)) e
+      ∙ sym (ap (λ (x : Bool). when x then 128 else numberOf (q .answer)) (sym verdict-is ∙ t))
 
 pub ruleset judging-one = (part-ended, no-yes, then-accepting, verdict-is, byte-yes, byte-other)
 

@@ -8,10 +8,13 @@ ghost use Rattle.sets.specs.Answers.{thenAsk};
 ghost use Rattle.engine.specs.Relations.{graphOf};
 ghost use Rattle.engine.specs.Judged.{judged};
 ghost use Rattle.marks.specs.Marks.{isYes};
+ghost use Rattle.sets.specs.Tests.{_and_};
+ghost use Rattle.sets.specs.Answers.{isDone};
+ghost use Rattle.engine.specs.Replay.{walkedOf};
 ghost use Rattle.marks.specs.Replays.{replayByte, partReplay, replaysOf, replaysAfter};
 use engine::Head;
 use engine::Relations;
-use engine::Replayed;
+use engine::Walked;
 use engine::replay;
 use sets::Answer;
 
@@ -35,18 +38,18 @@ pub(crate) fn judge_after(first: Answer, head: Head, relations: &Relations) -> A
 }
 
 // Where the replay of part k of a log ends. The caller has judged log and graph.
-fn replay_part<'a>(head: Head, relations: &'a Relations, log: &'a [u8], k: usize) -> Replayed
-    ensures { λ r. ⌜ r ≡ partReplay head (now (relations .entry)) (now (log .entry)) k ⌝ }
+fn replay_part<'a>(head: Head, relations: &'a Relations, log: &'a [u8], k: usize) -> Walked
+    ensures { λ r. ⌜ r ≡ walkedOf (partReplay head (now (relations .entry)) (now (log .entry)) k) ⌝ }
 {
     let p = calllog::trace::trace_part(log, k);
     let start = p.start;
     let end = start + p.length;
-    replay::run(head, relations, &log[start..end])
+    replay::walk(head.events, relations, head.opening.state, &log[start..end])
 }
 
 // Yes where it is done and accepting.
-fn is_yes(r: Replayed) -> bool
-    ensures { λ b. ⌜ b ≡ isYes r ⌝ }
+fn is_yes(r: Walked) -> bool
+    ensures { λ b. ⌜ b ≡ (isDone (r .answer) and r .accepting) ⌝ }
 {
     let answer = r.answer;
     if !answer.is_done() {

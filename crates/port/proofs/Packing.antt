@@ -13,20 +13,26 @@ use Rattle.sets.specs.declared.answer.Answer.{Answer}
 use Rattle.sets.specs.declared.answer.Answer.the-variants.{Done, AboveLimit, BufferTooSmall, WrongArgument}
 use Rattle.sets.specs.Sizes.{longestTrace}
 use Rattle.sets.proofs.Asking.{gone-on, done-is, ask-stop}
-use Rattle.engine.specs.Relations.{relationsOf, emptyGraph}
+use Rattle.sets.specs.Members.{noSet}
+use Rattle.sets.specs.Tables.{noTables}
+use Rattle.engine.specs.Markings.{emptyState}
+use Rattle.engine.specs.Relations.{relationCount, inTables, emptyGraph}
 use Rattle.engine.specs.Judged.{judged}
-use Rattle.engine.specs.Replay.{replayFrom, replayOf, steppedOf}
+use Rattle.engine.specs.Replay.{walkedOf, replayFrom, replayOf, steppedOf}
 use Rattle.engine.proofs.Acceptable.{replay-judged, replay-long}
 use Rattle.engine.specs.declared.marking.Marking.{Marking}
 use Rattle.engine.specs.declared.step.Stepped.{Stepped}
 use Rattle.engine.specs.declared.graph.Graph.{Graph}
 use Rattle.engine.specs.declared.replay.Replayed.{Replayed}
+use Rattle.engine.specs.declared.replay.Walked.{Walked}
 use Rattle.graphfile.specs.Refusals.{judgedFile}
-use Rattle.graphfile.specs.Held.{graphIn, readOf}
+use Rattle.graphfile.specs.Held.{relationsIn, graphIn, bareOf, readOf}
+use Rattle.graphfile.specs.Layout.{eventsIn, stateIn}
 use Rattle.graphfile.proofs.Codec.{Bytes}
 use Rattle.graphfile.proofs.RoundTrips.{file-graph}
 use Rattle.graphfile.specs.Writing.{writtenOf, fileAfter}
 use Rattle.graphfile.specs.declared.reader.Reading.{Reading}
+use Rattle.graphfile.specs.declared.reader.Bare.{Bare}
 use Rattle.graphfile.specs.declared.writer.Written.{Written}
 use Rattle.graphfile.specs.Markings.{markingLength, markingFrom, markingInto}
 use Rattle.rules.specs.declared.Profile.{Profile}
@@ -146,9 +152,10 @@ read-judged file r d small hr hd n =
     ∙ ap (λ (a : Answer). judged (when isDone a then graphIn file else emptyGraph)) ok
     ∙ file-graph file small ok
 
-module _ (file trace : List ℕ) (r : Reading) (hr : r ≡ readOf file) (d : Bool) (hd : d ≡ isDone (r .answer)) where
+module _ (file trace : List ℕ) (r : Bare) (hr : r ≡ bareOf file) (d : Bool) (hd : d ≡ isDone (r .answer)) where
   file-done : (t : Bool) → d ≡ t → isDone (readOf file .answer) ≡ t
-  file-done t h = sym (ap (λ (x : Reading). isDone (x .answer)) hr) ∙ sym hd ∙ h
+  unfolding readOf bareOf
+  file-done t h = sym (ap (λ (x : Bare). isDone (x .answer)) hr) ∙ sym hd ∙ h
 
   abbrev shown : Bool → ℕ
   shown t =
@@ -158,27 +165,39 @@ module _ (file trace : List ℕ) (r : Reading) (hr : r ≡ readOf file) (d : Boo
       else blockedOf (readOf file .answer) 0 false
 
   pub replay-refused : (n : ℕ) → not d ≡ true → n ≡ blockedOf (r .answer) 0 false → n ≡ replayNumber file trace
-  unfolding replayNumber
-  replay-refused n h e = e ∙ ap (λ (x : Reading). blockedOf (x .answer) 0 false) hr ∙ sym (ap shown (file-done false (not-true d h)))
+  unfolding replayNumber readOf bareOf
+  replay-refused n h e = e ∙ ap (λ (x : Bare). blockedOf (x .answer) 0 false) hr ∙ sym (ap shown (file-done false (not-true d h)))
 
-  abbrev said : Replayed → ℕ
+  abbrev said : Walked → ℕ
   said x = blockedOf (x .answer) (x .place .0) (x .accepting)
 
   pub replay-too-long : (n : ℕ) → not d ≡ false → longestTrace < length trace → n ≡ blockedOf AboveLimit 0 false → n ≡ replayNumber file trace
   unfolding replayNumber
   replay-too-long n h l e =
       e
-      ∙ ap said (sym (replay-long (readOf file .graph) trace l))
+      ∙ ap (λ (x : Replayed). said (walkedOf x)) (sym (replay-long (readOf file .graph) trace l))
       ∙ sym (ap shown (file-done true (not-false d h)))
 
-  pub replay-run : (n : ℕ) → not d ≡ false → Bytes file → length trace ≤ longestTrace → (p : Replayed)
-      → p ≡ replayFrom (r .graph .head .events) (relationsOf (r .graph)) (r .graph .head .opening .state) 0 trace
-      → n ≡ said p → n ≡ replayNumber file trace
-  unfolding replayNumber
+  -- the walk on what was read
+  abbrev walkOn : Bare → Walked
+  walkOn x = walkedOf (replayFrom (x .events) (inTables (x .relations)) (x .state) 0 trace)
+
+  pub replay-run : (n : ℕ) → not d ≡ false → Bytes file → length trace ≤ longestTrace → (p : Walked) → p ≡ walkOn r → n ≡ said p
+      → n ≡ replayNumber file trace
+  unfolding replayNumber readOf bareOf graphIn
   replay-run n h small l p hp e =
+      let ok : judgedFile file ≡ Done = gone-on (r .answer) (judgedFile file) d (ap (λ (x : Bare). x .answer) hr) hd h in
       e
-      ∙ ap said (hp ∙ sym (replay-judged (r .graph) (read-judged file r d small hr hd h) trace l))
-      ∙ ap (λ (x : Reading). said (replayOf (x .graph) trace)) hr
+      ∙ ap said
+      (hp ∙ ap walkOn hr
+      ∙ ap (λ (a : Answer).
+      walkedOf
+      (replayFrom (when isDone a then eventsIn file else noSet)
+      (inTables (when isDone a then relationsIn file relationCount else noTables relationCount))
+      (when isDone a then stateIn file else emptyState) 0 trace))
+      ok
+      ∙ ap walkedOf (sym (replay-judged (graphIn file) (file-graph file small ok) trace l)))
+      ∙ ap (λ (a : Answer). said (walkedOf (replayOf (when isDone a then graphIn file else emptyGraph) trace))) (sym ok)
       ∙ sym (ap shown (file-done true (not-false d h)))
 
 pub ruleset replaying = (replay-refused, replay-too-long)

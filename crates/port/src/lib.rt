@@ -164,12 +164,12 @@ pub extern "C" fn skelfora_rewrite(file: &[u8], out: &mut [u8]) -> u64
 }
 
 // Replays a trace on the graph of a file: the number, the place, 2^32 where it ends accepting, and the blocker. Reading has judged the graph, so
-// only the trace's length is left to judge; and nothing copies the rows.
+// only the trace's length is left to judge; no set of enabled activities is worked out, and nothing copies the rows.
 #[no_mangle]
 pub extern "C" fn skelfora_replay(file: &[u8], trace: &[u8]) -> u64
     ensures { λ r. ⌜ r ≡ replayNumber (now (file .entry)) (now (trace .entry)) ⌝ }
 {
-    let r = graphfile::read(file);
+    let r = graphfile::read_bare(file);
     let answer = r.answer;
     if !answer.is_done() {
         return packed_blocker(answer, 0, false);
@@ -177,8 +177,7 @@ pub extern "C" fn skelfora_replay(file: &[u8], trace: &[u8]) -> u64
     if Place::LIMIT < trace.len() {
         return packed_blocker(Answer::AboveLimit, 0, false);
     }
-    let head = r.graph.head;
-    let p = engine::replay::run(head, &r.graph.relations, trace);
+    let p = engine::replay::walk(r.events, &r.relations, r.state, trace);
     let a = p.answer;
     let place = p.place.0;
     packed_blocker(a, place, p.accepting)

@@ -53,6 +53,7 @@ use Rattle.engine.proofs.step.ask_judged.Reads as ask-judged
 use Rattle.engine.proofs.step.enabled.Reads as enabled
 use Rattle.engine.proofs.step.step.Reads as step
 use Rattle.engine.proofs.step.accepting.Reads as accepting
+use Rattle.engine.proofs.replay.walk.Reads as walk
 use Rattle.engine.proofs.replay.run.Reads as run
 use Rattle.engine.proofs.replay.replay.Reads as replay
 use Rattle.engine.proofs.judge.head_within.Reads as head-within
@@ -72,6 +73,7 @@ use Rattle.calllog.proofs.trace.trace_part.Reads as trace-part
 use Rattle.calllog.proofs.trace.find_trace.Reads as find-trace
 use Rattle.calllog.proofs.trace.ask.Reads as log-ask
 use Rattle.graphfile.proofs.reader.read.Reads as read
+use Rattle.graphfile.proofs.reader.read_bare.Reads as read-bare
 use Rattle.graphfile.proofs.writer.write.Reads as write
 use Rattle.graphfile.proofs.head.read_head.Reads as read-head
 use Rattle.graphfile.proofs.marking.read_marking_at.Reads as read-marking-at
@@ -308,6 +310,9 @@ execute-once κ a r r′ s s′ h h′ = (h .0 ∙ sym (h′ .0), h .1 ∙ sym (
 pub executed-once : Once executed-Post
 executed-once κ a r r′ s s′ h h′ = h ∙ sym h′
 
+pub walk-once : Once walk.Post
+walk-once κ a r r′ s s′ h h′ = h ∙ sym h′
+
 pub run-once : Once run.Post
 run-once κ a r r′ s s′ h h′ = h ∙ sym h′
 
@@ -387,6 +392,9 @@ read-next-once κ a r r′ s s′ h h′ = h ∙ sym h′
 
 pub read-once : Once read.Post
 read-once κ a r r′ s s′ h h′ = h ∙ sym h′
+
+pub read-bare-once : Once read-bare.Post
+read-bare-once κ a r r′ s s′ h h′ = h ∙ sym h′
 
 pub write-once : OnceLent write.Post (λ κ s. now (s .1 .0))
 write-once κ a r r′ s s′ h h′ = (h .0 ∙ sym (h′ .0), h .1 ∙ sym (h′ .1))

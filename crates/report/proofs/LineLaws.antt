@@ -12,6 +12,8 @@ use Rattle.sets.specs.Rows.{rowAt, inRow}
 use Rattle.sets.specs.declared.set.Set.{Set}
 use Rattle.sets.specs.Answers.{numberOf}
 use Rattle.engine.specs.declared.replay.Replayed.{Replayed}
+use Rattle.engine.specs.declared.replay.Walked.{Walked}
+use Rattle.engine.specs.Replay.{walkedOf}
 use Rattle.report.specs.Lines.{space, lineEnd, decimal, line, T}
 use Rattle.report.specs.Pairs.{Pair, passing, withEach, pairsFrom}
 use Rattle.report.specs.Listing.{pairLine, pairLines, traceLine}
@@ -126,13 +128,19 @@ module _ (o : List ℕ) (a c r i e c′ r′ i′ e′ : ℕ) (hc : c ≡ c′) 
   counted-put o₁ a₁ p = put-as (sym counted) p
 
 -- the line of a trace, by what its replay gave
-module _ (o : List ℕ) (a k n number accepting : ℕ) (d end : Replayed) (he : d ≡ end) (hn : number
+module _ (o : List ℕ) (a k n number accepting : ℕ) (d : Walked) (end : Replayed) (he : d ≡ walkedOf end) (hn : number
     ≡ numberOf (d .answer)) (ha : accepting ≡ digit (d .accepting)) where
   trace-text : traceLine k n end ≡ traceText k n number accepting
   unfolding traceLine line named four
   trace-text =
-      ap (traceLine k n) (sym he)
-      ∙ (λ j. line (T ∷ decimal k ∷ decimal n ∷ decimal (sym hn j) ∷ decimal (sym ha j) ∷ []))
+      (λ j.
+      line
+      (T
+      ∷ decimal k
+      ∷ decimal n
+      ∷ decimal ((ap (λ (x : Walked). numberOf (x .answer)) (sym he) ∙ sym hn) j)
+      ∷ decimal ((ap (λ (x : Walked). digit (x .accepting)) (sym he) ∙ sym ha) j)
+      ∷ []))
       ∙ simp append-assoc
 
   pub trace-room : a + length (traceLine k n end) ≤ length o → a + length (traceText k n number accepting) ≤ length o

@@ -54,7 +54,7 @@ fn put_trace<'a>(
     requires { ⌜ at + length (traceLine k (length (now trace)) (replayFrom (head .events) (inTables (now relations)) (head .opening .state) 0 (now trace))) ≤ length (now out) ⌝ }
     ensures { λ r. ⌜ Put (now (out .entry)) at (traceLine k (length (now (trace .entry))) (replayFrom (head .events) (inTables (now (relations .entry))) (head .opening .state) 0 (now (trace .entry)))) (now (out .exit)) r ⌝ }
 {
-    let ended = replay::run(head, relations, trace);
+    let ended = replay::walk(head.events, relations, head.opening.state, trace);
     let answer = ended.answer;
     let number = answer.number();
     let accepting = one_if(ended.accepting);

@@ -1,43 +1,10 @@
-use Prim.Native.Nat.{_-_, _≤_}
-use mathlib.Core.Path.{_≡_}
 use borrow.Author.Needs.{needs}
-use lib.ListN.{length, drop}
-use Rattle.engine.specs.Relations.{inTables}
-use Rattle.engine.specs.Replay.{replayFrom}
-use Rattle.engine.proofs.Running.{run-next, run-stop, run-end}
+use Rattle.engine.proofs.Running.{walked-run}
 use Rattle.engine.proofs.replay.run.Statement.{statement}
 use Rattle.engine.proofs.replay.run.Tie as tie
 
-abbrev Inv-loop : tie.InvT-loop
-Inv-loop head relations trace s₀ i₀ s i =
-    (i ≤ length trace)
-    × (replayFrom (head .events) (inTables relations) s i (drop i trace) ≡ replayFrom (head .events) (inTables relations) s₀ 0 trace)
-
-abbrev μ-loop : tie.MeasureT-loop
-μ-loop head relations trace s₀ i₀ s i = length trace - i
-
-loop-holds : tie.Need-loop-holds Inv-loop μ-loop
-loop-holds c = search needs
-
-returns : tie.Need-returns Inv-loop μ-loop
-returns c = search (run-stop, needs)
+returns : tie.Need-returns
+returns c = search (walked-run, needs)
 
 pub run-spec : {M : Type 1} → statement M
-run-spec =
-    tie.close
-    (tie.spec
-    Inv-loop
-    μ-loop
-    loop-holds
-    (λ c. search needs)
-    (λ c κs. search needs)
-    (λ c κs. search needs)
-    (λ c κs. search needs)
-    returns
-    (λ c κs. search needs)
-    (λ c. search needs)
-    (λ c. search needs)
-    (λ c. search (run-next, needs))
-    (λ c κs. search needs)
-    (λ c κs. search needs)
-    (λ c. search (run-end, needs)))
+run-spec = tie.close (tie.spec (λ c κs. search needs) (λ c κs. search needs) returns)
