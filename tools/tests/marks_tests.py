@@ -27,6 +27,19 @@ def marks_of_g(folder):
         same((gave.status, gave.out, gave.err), (0, MARKS, ""), f"labels {labels!r}")
 
 
+@test("./marks: labels spaced widely are read to the last, and a file too long for labels is refused in one line")
+def marks_of_long_labels(folder):
+    folder.put("calls.log", CALLS)
+    folder.put("wide.labels", b"".join(b"%d" % label + 5000 * b" " for label in LABELS))
+    folder.put("more.labels", b"101011" + 20000 * b" " + b"1")
+    folder.put("endless.labels", 2**20 * b"\1" + b"\1")
+    gave = folder.run("./marks", G, "calls.log", "wide.labels")
+    same((gave.status, gave.out, gave.err), (0, MARKS, ""), "5,000 spaces after each")
+    same(folder.run("./marks", G, "calls.log", "more.labels").out, b"refused 18\n", "a seventh label after 20,000 spaces")
+    gave = folder.run("./marks", G, "calls.log", "endless.labels")
+    same((gave.status, gave.out, gave.err.count("\n")), (3, b"", 1), "more bytes than labels can have")
+
+
 @test("./marks --guesses: guesses in place of the verdicts, and none where there is nothing to divide by")
 def marks_of_guesses(folder):
     folder.put("labels", LABELS)
