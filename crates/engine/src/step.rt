@@ -87,13 +87,7 @@ pub fn is_accepting(s: State) -> bool
 }
 
 // Rules 8, 9, 10 where what was judged before them is done.
-fn ask_after(
-    judged: Answer,
-    events: Set,
-    relations: &Relations,
-    s: State,
-    a: Activity,
-) -> Answer
+fn ask_after(judged: Answer, events: Set, relations: &Relations, s: State, a: Activity) -> Answer
     ensures { λ r. ⌜ r ≡ thenAsk judged (rules.enabled events (inTables (now (relations .entry))) s (a .0)) ⌝ }
 {
     if !judged.is_done() {
@@ -127,13 +121,7 @@ pub fn enabled(g: Graph, m: Marking, a: Activity) -> Answer
 }
 
 // What a step gives that is answered so.
-fn taken(
-    answer: Answer,
-    events: Set,
-    relations: &Relations,
-    m: Marking,
-    a: Activity,
-) -> Stepped
+fn taken(answer: Answer, events: Set, relations: &Relations, m: Marking, a: Activity) -> Stepped
     ensures { λ r. ⌜ r ≡ steppedBy answer events (inTables (now (relations .entry))) m (a .0) ⌝ }
 {
     if !answer.is_done() {
