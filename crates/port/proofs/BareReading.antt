@@ -8,11 +8,12 @@ use Rattle.sets.specs.Tests.{when_then_else_}
 use Rattle.sets.specs.Members.{noSet}
 use Rattle.sets.specs.Tables.{noTables}
 use Rattle.sets.specs.Answers.{isDone}
+use Rattle.sets.specs.declared.set.Set.{Set}
 use Rattle.sets.specs.declared.answer.Answer.{Answer}
 use Rattle.sets.specs.declared.answer.Answer.the-variants.{Done}
 use Rattle.sets.proofs.Asking.{gone-on}
 use Rattle.engine.specs.Markings.{emptyState}
-use Rattle.engine.specs.Relations.{relationCount, inTables, relationsOf, emptyGraph}
+use Rattle.engine.specs.Relations.{Relations, relationCount, inTables, relationsOf, emptyGraph}
 use Rattle.engine.specs.Judged.{judged}
 use Rattle.graphfile.specs.Refusals.{judgedFile}
 use Rattle.graphfile.specs.Layout.{eventsIn, stateIn}
@@ -61,6 +62,11 @@ module _ (file : List ℕ) (r : Bare) (hr : r ≡ bareOf file) where
           ap (λ (x : Bare). x .relations) hr
           ∙ ap (λ (a : Answer). when isDone a then relationsIn file relationCount else noTables relationCount) accepted
           ∙ sym (ap (λ (a : Answer). graphBy a .relations) accepted)
+
+      -- so what is said of the events and relations read is said of the graph's
+      pub bare-graph : {A : Type 0} (F : Set → Relations → A)
+          → F (r .events) (inTables (r .relations)) ≡ F (readOf file .graph .head .events) (relationsOf (readOf file .graph))
+      bare-graph F j = F (bare-events j) (inTables (bare-relations j))
 
       pub read-judged : Bytes file → judged (readOf file .graph) ≡ Done
       unfolding readOf

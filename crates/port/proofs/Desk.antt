@@ -8,12 +8,11 @@ use lib.Dec.{ltb}
 use lib.ListN.{length}
 use Rattle.sets.specs.Tests.{when_then_else_}
 use Rattle.sets.specs.Answers.{isDone, thenAsk}
-use Rattle.sets.specs.declared.set.Set.{Set}
 use Rattle.sets.specs.declared.answer.Answer.{Answer}
 use Rattle.sets.specs.declared.answer.Answer.the-variants.{Done, BufferTooSmall}
 use Rattle.sets.proofs.Asking.{ask-on, ask-stop, done-is}
 use Rattle.sets.proofs.Ways.{taken, passed-by}
-use Rattle.engine.specs.Relations.{Relations, inTables, relationsOf}
+use Rattle.engine.specs.Relations.{inTables}
 use Rattle.engine.specs.Judged.{judged}
 use Rattle.graphfile.specs.Held.{bareOf, readOf}
 use Rattle.graphfile.specs.declared.reader.Reading.{Reading}
@@ -27,7 +26,7 @@ use Rattle.desk.specs.declared.requests.Opened.{Opened}
 use Rattle.port.specs.Port.{packedOf, blockedOf}
 use Rattle.port.specs.Desk.{beforeOpen, beforePlace, refusedOpen, deskOpenedOf, deskOpenNumber, deskOpenTable}
 use Rattle.port.specs.Desk.{deskStepNumber, deskStepTable, deskCloseNumber, deskCloseTable}
-use Rattle.port.proofs.BareReading.{bare-answer, bare-events, bare-relations, read-judged}
+use Rattle.port.proofs.BareReading.{bare-answer, bare-graph, read-judged}
 
 -- ---- x is what is asked before there is a graph: refused with a, or done
 
@@ -187,53 +186,50 @@ module _ (file table : List ℕ) (p : ℕ) where
         pub close-no-file-table : table ≡ deskCloseTable file table p
         close-no-file-table = close-refused-table (r .answer) its-answer no-file
 
-      -- reading has judged the graph
-      module _ (u : not f ≡ false) (small : Bytes file) where
-        there : isDone (beforePlace file table p) ≡ true
-        there = asked t (r .answer) f (bare-answer file r hr) hf u
+-- the graph of a file that was read, and judged by reading it
+module _ (file : List ℕ) (small : Bytes file) (table : List ℕ) (p : ℕ) (b : Answer) (d : Bool) (hb : b ≡ placeAnswer table p) (hd : d ≡ isDone b)
+    (t : not d ≡ false) (r : Bare) (f : Bool) (hr : r ≡ bareOf file) (hf : f ≡ isDone (r .answer)) (u : not f ≡ false) where
+  there : isDone (beforePlace file table p) ≡ true
+  there = asked file table p b d hb hd t (r .answer) f (bare-answer file r hr) hf u
 
-        on : (y : Answer) → thenAsk (beforePlace file table p) y ≡ y
-        on y = ask-on (beforePlace file table p) y (done-is (beforePlace file table p) there)
+  on : (y : Answer) → thenAsk (beforePlace file table p) y ≡ y
+  on y = ask-on (beforePlace file table p) y (done-is (beforePlace file table p) there)
 
-        accepted : judged (readOf file .graph) ≡ Done
-        accepted = read-judged file r hr f hf u small
+  accepted : judged (readOf file .graph) ≡ Done
+  accepted = read-judged file r hr f hf u small
 
-        -- what is said of events and relations, of those that were read
-        of-file : {A : Type 0} (F : Set → Relations → A) → F (r .events) (inTables (r .relations)) ≡ F (readOf file .graph .head .events) (relationsOf (readOf file .graph))
-        of-file F j = F (bare-events file r hr f hf u j) (inTables (bare-relations file r hr f hf u j))
+  pub step-served : (e n : ℕ) (x : Answer) → x ≡ stepAnswerOn (r .events) (inTables (r .relations)) table p e → n ≡ blockedOf x 0 false
+      → n ≡ deskStepNumber file table p e
+  unfolding deskStepNumber
+  step-served e n x q h =
+      h
+      ∙ ap (λ (y : Answer). blockedOf y 0 false)
+      (q ∙ bare-graph file r hr f hf u (λ E R. stepAnswerOn E R table p e) ∙ sym (step-answer-on (readOf file .graph) accepted table p e)
+      ∙ sym (on (stepAnswer (readOf file .graph) table p e)))
 
-        pub step-served : (e n : ℕ) (x : Answer) → x ≡ stepAnswerOn (r .events) (inTables (r .relations)) table p e → n ≡ blockedOf x 0 false
-            → n ≡ deskStepNumber file table p e
-        unfolding deskStepNumber
-        step-served e n x q h =
-            h
-            ∙ ap (λ (y : Answer). blockedOf y 0 false)
-            (q ∙ of-file (λ E R. stepAnswerOn E R table p e) ∙ sym (step-answer-on (readOf file .graph) accepted table p e)
-            ∙ sym (on (stepAnswer (readOf file .graph) table p e)))
+  pub step-served-table : (e : ℕ) (table′ : List ℕ) → table′ ≡ tableSteppedOn (r .events) (inTables (r .relations)) table p e
+      → table′ ≡ deskStepTable file table p e
+  unfolding deskStepTable
+  step-served-table e table′ q =
+      served (beforePlace file table p) there (tableStepped (readOf file .graph) table p e) table table′
+      (q ∙ bare-graph file r hr f hf u (λ E R. tableSteppedOn E R table p e) ∙ sym (step-table-on (readOf file .graph) accepted table p e))
 
-        pub step-served-table : (e : ℕ) (table′ : List ℕ) → table′ ≡ tableSteppedOn (r .events) (inTables (r .relations)) table p e
-            → table′ ≡ deskStepTable file table p e
-        unfolding deskStepTable
-        step-served-table e table′ q =
-            served (beforePlace file table p) there (tableStepped (readOf file .graph) table p e) table table′
-            (q ∙ of-file (λ E R. tableSteppedOn E R table p e) ∙ sym (step-table-on (readOf file .graph) accepted table p e))
+  pub close-served : (n : ℕ) (x : Answer) → x ≡ closeAnswerOn (r .events) (inTables (r .relations)) table p → n ≡ packedOf x 0
+      → n ≡ deskCloseNumber file table p
+  unfolding deskCloseNumber
+  close-served n x q h =
+      h
+      ∙ ap (λ (y : Answer). packedOf y 0)
+      (q ∙ bare-graph file r hr f hf u (λ E R. closeAnswerOn E R table p) ∙ sym (close-answer-on (readOf file .graph) accepted table p)
+      ∙ sym (on (closeAnswer (readOf file .graph) table p)))
 
-        pub close-served : (n : ℕ) (x : Answer) → x ≡ closeAnswerOn (r .events) (inTables (r .relations)) table p → n ≡ packedOf x 0
-            → n ≡ deskCloseNumber file table p
-        unfolding deskCloseNumber
-        close-served n x q h =
-            h
-            ∙ ap (λ (y : Answer). packedOf y 0)
-            (q ∙ of-file (λ E R. closeAnswerOn E R table p) ∙ sym (close-answer-on (readOf file .graph) accepted table p)
-            ∙ sym (on (closeAnswer (readOf file .graph) table p)))
+  pub close-served-table : (table′ : List ℕ) → table′ ≡ tableClosedOn (r .events) (inTables (r .relations)) table p
+      → table′ ≡ deskCloseTable file table p
+  unfolding deskCloseTable
+  close-served-table table′ q =
+      served (beforePlace file table p) there (tableClosed (readOf file .graph) table p) table table′
+      (q ∙ bare-graph file r hr f hf u (λ E R. tableClosedOn E R table p) ∙ sym (close-table-on (readOf file .graph) accepted table p))
 
-        pub close-served-table : (table′ : List ℕ) → table′ ≡ tableClosedOn (r .events) (inTables (r .relations)) table p
-            → table′ ≡ deskCloseTable file table p
-        unfolding deskCloseTable
-        close-served-table table′ q =
-            served (beforePlace file table p) there (tableClosed (readOf file .graph) table p) table table′
-            (q ∙ of-file (λ E R. tableClosedOn E R table p) ∙ sym (close-table-on (readOf file .graph) accepted table p))
+pub ruleset stepping-there = (step-no-place, step-no-place-table, step-no-file, step-no-file-table)
 
-pub ruleset stepping-there = (step-no-place, step-no-place-table, step-no-file, step-no-file-table, step-served, step-served-table)
-
-pub ruleset closing-there = (close-no-place, close-no-place-table, close-no-file, close-no-file-table, close-served, close-served-table)
+pub ruleset closing-there = (close-no-place, close-no-place-table, close-no-file, close-no-file-table)

@@ -34,7 +34,7 @@ use Rattle.miner.specs.declared.mining.Mined.{Mined}
 use Rattle.report.specs.declared.writer.Listed.{Listed}
 use Rattle.port.specs.Port.{packedOf, verdictOf, blockedOf, stepNumber, storedOf, putNumber, putBuffer, profileOf, inProfile, inProfileBuffer}
 use Rattle.port.specs.Port.{replayNumber, refusedStep, stepOf, openingAnswer, openingBytes}
-use Rattle.port.proofs.BareReading.{bare-answer, file-done, bare-events, bare-state, bare-relations, read-judged}
+use Rattle.port.proofs.BareReading.{bare-answer, file-done, bare-events, bare-state, bare-relations, bare-graph, read-judged}
 
 pub packed-is : (a : Answer) (n low : ℕ) → low ≡ numberOf a → low + 256 * (n % 16777216) ≡ packedOf a n
 unfolding packedOf
@@ -198,15 +198,17 @@ module _ (file bytes : List ℕ) (a : ℕ) where
     unfolding non
     step-short n l = choice true true (not-false d n) (lt-ltb (length bytes) markingLength l)
 
-    -- reading has judged the graph
-    pub step-taken : (m : Marking) (s : Stepped) (n : not d ≡ false) → Bytes file → markingLength ≤ length bytes → m ≡ markingFrom bytes
-        → s ≡ steppedOn (r .events) (inTables (r .relations)) m a → s ≡ stepOf file bytes a
-    unfolding non
-    step-taken m s n small l hm hs =
-        hs
-        ∙ (λ j. steppedOn (bare-events file r hr d hd n j) (inTables (bare-relations file r hr d hd n j)) (hm j) a)
-        ∙ sym (stepped-on (readOf file .graph) (read-judged file r hr d hd n small) (markingFrom bytes) a)
-        ∙ choice true false (not-false d n) (le-ltb (length bytes) markingLength l)
+-- reading has judged the graph
+pub step-taken : (file : List ℕ) → Bytes file → (bytes : List ℕ) (a : ℕ) (r : Bare) (d : Bool) → r ≡ bareOf file → d ≡ isDone (r .answer)
+    → (m : Marking) (s : Stepped) → not d ≡ false → markingLength ≤ length bytes → m ≡ markingFrom bytes
+    → s ≡ steppedOn (r .events) (inTables (r .relations)) m a → s ≡ stepOf file bytes a
+unfolding non
+step-taken file small bytes a r d hr hd m s n l hm hs =
+    hs
+    ∙ ap (λ (x : Marking). steppedOn (r .events) (inTables (r .relations)) x a) hm
+    ∙ bare-graph file r hr d hd n (λ E R. steppedOn E R (markingFrom bytes) a)
+    ∙ sym (stepped-on (readOf file .graph) (read-judged file r hr d hd n small) (markingFrom bytes) a)
+    ∙ choice file bytes a r d hr hd true false (not-false d n) (le-ltb (length bytes) markingLength l)
 
 -- of any step that gives s
 module _ (s x : Stepped) (hs : s ≡ x) where
