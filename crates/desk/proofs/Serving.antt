@@ -67,7 +67,8 @@ module _ (table : List ℕ) (p : ℕ) where
   unfolding placeAnswer
   asks x = by (ltb (length table) tableLength) (non (isOpen table p))
     where
-      by : (short free : Bool) → thenAsk (when short then BufferTooSmall else when free then NotOpen else Done) x ≡ (when short then BufferTooSmall else when free then NotOpen else x)
+      by : (short free : Bool) → thenAsk (when short then BufferTooSmall else when free then NotOpen else Done) x
+          ≡ (when short then BufferTooSmall else when free then NotOpen else x)
       by true free = refl
       by false true = refl
       by false false = refl

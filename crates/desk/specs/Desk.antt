@@ -73,9 +73,12 @@ tableStepped g table p a =
 unfoldable pub stepAnswerOn : Set → Relations → List ℕ → ℕ → ℕ → Answer
 stepAnswerOn events r table p a = atPlace table p (enabledOn events r (markingAtPlace table p) a)
 
+-- the marking after the step, at its place
+abbrev pub steppedAt : Set → Relations → List ℕ → ℕ → ℕ → List ℕ
+steppedAt events r table p a = withMarking table p (marked events r (after r (markingAtPlace table p .state) a))
+
 unfoldable pub tableSteppedOn : Set → Relations → List ℕ → ℕ → ℕ → List ℕ
-tableSteppedOn events r table p a =
-    when isDone (stepAnswerOn events r table p a) then withMarking table p (marked events r (after r (markingAtPlace table p .state) a)) else table
+tableSteppedOn events r table p a = when isDone (stepAnswerOn events r table p a) then steppedAt events r table p a else table
 
 -- ---- close: 14, then at the place's own marking 3, 5, 16, and 15 where it is not accepting
 

@@ -3,10 +3,8 @@ ghost use mathlib.Core.Path.{_≡_};
 ghost use Prim.Native.Nat.{_≤_, _<_};
 ghost use lib.ListN.{length};
 ghost use Rattle.engine.specs.Relations.{graphOf, inTables};
-ghost use Rattle.engine.specs.Steps.{after};
-ghost use Rattle.engine.specs.Enabled.{marked};
-ghost use Rattle.desk.specs.Places.{placeCount, tableLength, markingAtPlace, withMarking};
-ghost use Rattle.desk.specs.Desk.{openAnswer, openedOf, tableOpened, placeAnswer, closingAfter};
+ghost use Rattle.desk.specs.Places.{placeCount, tableLength};
+ghost use Rattle.desk.specs.Desk.{openAnswer, openedOf, tableOpened, placeAnswer, steppedAt, closingAfter};
 ghost use Rattle.desk.specs.Desk.{stepAnswer, tableStepped, closeAnswer, tableClosed, stepAnswerOn, tableSteppedOn, closeAnswerOn, tableClosedOn};
 use crate::table;
 use engine::Head;
@@ -114,7 +112,7 @@ fn judge_step_on<'a>(
 // The marking after a step, at its place.
 fn put_step(events: Set, relations: &Relations, table: &mut [u8], place: usize, a: Activity)
     requires { ⌜ (tableLength ≤ length (now table)) × (place < placeCount) ⌝ }
-    ensures { λ _. ⌜ now (table .exit) ≡ withMarking (now (table .entry)) place (marked events (inTables (now (relations .entry))) (after (inTables (now (relations .entry))) (markingAtPlace (now (table .entry)) place .state) (a .0))) ⌝ }
+    ensures { λ _. ⌜ now (table .exit) ≡ steppedAt events (inTables (now (relations .entry))) (now (table .entry)) place (a .0) ⌝ }
 {
     let m = table::marking_at(table, place);
     let after = rules::next(relations, m.state, a);

@@ -107,7 +107,9 @@ module _ (file table : List ℕ) (p room : ℕ) where
 
     module _ (t : not d ≡ false) (r : Reading) (f : Bool) (hr : r ≡ readOf file) (hf : f ≡ isDone (r .answer)) where
       pub no-graph-there : not f ≡ true → finishedBy (r .answer) [] ≡ deskFinishIn file table p room
-      no-graph-there u = refused-there (r .answer) (the-file-then file table p b d hb hd t (r .answer) f (ap (λ (x : Reading). x .answer) hr) hf) (sym hf ∙ not-true f u)
+      no-graph-there u =
+          refused-there (r .answer) (the-file-then file table p b d hb hd t (r .answer) f (ap (λ (x : Reading). x .answer) hr) hf)
+          (sym hf ∙ not-true f u)
 
       module _ (u : not f ≡ false) where
         before : isDone (beforePlace file table p) ≡ true
