@@ -6,9 +6,9 @@
 //! back an empty graph then, so `net judge` leaves out what the refusal of no bytes costs. Lent buffers are not cleared between calls. The implementations take turns,
 //! a tenth of a millisecond each, and the best turn counts: other work on the machine then
 //! disturbs both alike, and the best turns hardly at all.
-use compare::door::{Door, FULL, GRAPH_ROOM, LIGHT, MARKING, TABLE_ROOM};
-use compare::seeds::finish;
+use compare::door::{Door, FULL, GRAPH_ROOM, LIGHT, LISTING_ROOM, MARKING, TABLE_ROOM};
 use compare::seeds::shapes::{of_size, small, SHAPES, SIZES};
+use compare::seeds::{finish, log_file, Prng};
 use compare::{judge, port, yardstick};
 use std::hint::black_box;
 use std::time::Instant;
@@ -225,6 +225,33 @@ fn step_figures(doors: &[Door], file: &[u8], trace: &[u8]) -> [Vec<f64>; 5] {
     ]
 }
 
+/// Whole listings: so many calls, steps a call and activities, any activity at each place. In
+/// microseconds a listing.
+const LISTED: [(usize, usize, usize); 4] =
+    [(40, 12, 40), (300, 100, 64), (1024, 32, 64), (64, 500, 64)];
+
+fn listings(doors: &[Door]) {
+    println!("a listing, microseconds: calls, steps a call, activities");
+    for (calls, steps, activities) in LISTED {
+        let mut prng = Prng::new(11);
+        let mut call = || (0..steps).map(|_| prng.below(activities) as u8).collect();
+        let traces: Vec<Vec<u8>> = (0..calls).map(|_| call()).collect();
+        let log = log_file(activities as u8, &traces);
+        let mut out = vec![0; LISTING_ROOM];
+        let ns = best(doors, |door| {
+            black_box((door.listing)(black_box(&log), FULL, &mut out));
+        });
+        let mut line = format!(
+            "{calls:>6}{steps:>6}{activities:>6}{:>12.1}",
+            ns[0] / 1000.0
+        );
+        for theirs in &ns[1..] {
+            line += &format!("{:>12.1}{:>7.2}", theirs / 1000.0, theirs / ns[0]);
+        }
+        println!("{line}");
+    }
+}
+
 /// Half-done calls: the hard graphs, and the graph of the small log after half of a call. In
 /// microseconds a search, the graph file read in each.
 fn ways(doors: &[Door]) {
@@ -299,6 +326,9 @@ fn main() {
     }
     if asked("--steps") {
         return steps(&doors);
+    }
+    if asked("--listings") {
+        return listings(&doors);
     }
     if asked("--replays") {
         return replays(&doors);

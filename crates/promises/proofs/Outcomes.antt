@@ -46,12 +46,15 @@ use Rattle.engine.proofs.judge.state_within.Reads as state-within
 use Rattle.engine.proofs.judge.rows_within.Reads as rows-within
 use Rattle.engine.proofs.judge.judge_for.Reads as judge-for
 use Rattle.engine.proofs.judge.judge_beside.Reads as judge-beside
+use Rattle.engine.proofs.judge.judge_marking.Reads as judge-marking
 use Rattle.engine.proofs.step.ask.Reads as ask
 use Rattle.engine.proofs.step.next.Reads as next
 use Rattle.engine.proofs.step.is_accepting.Reads as is-accepting
 use Rattle.engine.proofs.step.ask_judged.Reads as ask-judged
+use Rattle.engine.proofs.step.ask_on.Reads as ask-on
 use Rattle.engine.proofs.step.enabled.Reads as enabled
 use Rattle.engine.proofs.step.step.Reads as step
+use Rattle.engine.proofs.step.step_on.Reads as step-on
 use Rattle.engine.proofs.step.accepting.Reads as accepting
 use Rattle.engine.proofs.replay.walk.Reads as walk
 use Rattle.engine.proofs.replay.run.Reads as run
@@ -80,9 +83,12 @@ use Rattle.graphfile.proofs.marking.read_marking_at.Reads as read-marking-at
 use Rattle.graphfile.proofs.marking.write_marking_at.Reads as write-marking-at
 use Rattle.graphfile.proofs.marking.read_marking.Reads as read-marking
 use Rattle.graphfile.proofs.marking.write_marking.Reads as write-marking
+use Rattle.desk.proofs.requests.judge_place.Reads as desk-judge-place
 use Rattle.desk.proofs.requests.open.Reads as desk-open
 use Rattle.desk.proofs.requests.step.Reads as desk-step
+use Rattle.desk.proofs.requests.step_on.Reads as desk-step-on
 use Rattle.desk.proofs.requests.close.Reads as desk-close
+use Rattle.desk.proofs.requests.close_on.Reads as desk-close-on
 use Rattle.desk.proofs.way.finish.Reads as desk-finish
 use Rattle.steps.proofs.relations.unbroken.Reads as unbroken
 use Rattle.steps.proofs.relations.excluded_by.Reads as excluded-by
@@ -280,6 +286,9 @@ head-within-once κ a r r′ s s′ h h′ = h ∙ sym h′
 pub judge-for-once : Once judge-for.Post
 judge-for-once κ a r r′ s s′ h h′ = h ∙ sym h′
 
+pub judge-marking-once : Once judge-marking.Post
+judge-marking-once κ a r r′ s s′ h h′ = h ∙ sym h′
+
 pub judge-beside-once : Once judge-beside.Post
 judge-beside-once κ a r r′ s s′ h h′ = h ∙ sym h′
 
@@ -295,11 +304,17 @@ is-accepting-once κ a r r′ s s′ h h′ = h ∙ sym h′
 pub ask-judged-once : Once ask-judged.Post
 ask-judged-once κ a r r′ s s′ h h′ = h ∙ sym h′
 
+pub ask-on-once : Once ask-on.Post
+ask-on-once κ a r r′ s s′ h h′ = h ∙ sym h′
+
 pub enabled-once : Once enabled.Post
 enabled-once κ a r r′ s s′ h h′ = h ∙ sym h′
 
 pub step-once : Once step.Post
 step-once κ a r r′ s s′ h h′ = h ∙ sym h′
+
+pub step-on-once : Once step-on.Post
+step-on-once κ a r r′ s s′ h h′ = h ∙ sym h′
 
 pub accepting-once : Once accepting.Post
 accepting-once κ a r r′ s s′ h h′ = h ∙ sym h′
@@ -416,6 +431,9 @@ write-marking-once κ a r r′ s s′ h h′ = h ∙ sym h′
 
 -- ---- desk
 
+pub desk-judge-place-once : Once desk-judge-place.Post
+desk-judge-place-once κ a r r′ s s′ h h′ = h ∙ sym h′
+
 pub desk-open-once : OnceLent desk-open.Post (λ κ s. now (s .1 .1 .0))
 desk-open-once κ a r r′ s s′ h h′ = (h .0 ∙ sym (h′ .0), h .1 ∙ sym (h′ .1))
 
@@ -424,6 +442,12 @@ desk-step-once κ a r r′ s s′ h h′ = (h .0 ∙ sym (h′ .0), h .1 ∙ sym
 
 pub desk-close-once : OnceLent desk-close.Post (λ κ s. now (s .1 .1 .0))
 desk-close-once κ a r r′ s s′ h h′ = (h .0 ∙ sym (h′ .0), h .1 ∙ sym (h′ .1))
+
+pub desk-step-on-once : OnceLent desk-step-on.Post (λ κ s. now (s .1 .1 .0))
+desk-step-on-once κ a r r′ s s′ h h′ = (h .0 ∙ sym (h′ .0), h .1 ∙ sym (h′ .1))
+
+pub desk-close-on-once : OnceLent desk-close-on.Post (λ κ s. now (s .1 .1 .0))
+desk-close-on-once κ a r r′ s s′ h h′ = (h .0 ∙ sym (h′ .0), h .1 ∙ sym (h′ .1))
 
 pub desk-finish-once : Once desk-finish.Post
 desk-finish-once κ a r r′ s s′ h h′ = h ∙ sym h′
