@@ -1,42 +1,25 @@
 -- Sets in bytes: what is put is read again at its place, and does not show elsewhere; what is read, put down again, is what was there. Assumes nothing.
 use mathlib.Core.Path.{_≡_, refl, sym, ap, _∙_, subst}
 use mathlib.Core.Bool.{Bool, true, false, not}
-use mathlib.Core.Logic.{_⊎_}
 use mathlib.Core.List.{List}
-use Prim.Native.Nat.{ℕ, _+_, _-_, _^_, _≤_, _<_}
+use Prim.Native.Nat.{ℕ, _+_, _≤_, _<_}
 use native.Mathlib.Omega.{arith}
-use borrow.Author.Tests.{lt-ltb, le-ltb, ltb-true, ltb-false, not-true, not-false}
-use lib.Dec.{T, ltb}
-use lib.ListN.{length, getD, take, drop, length-drop}
+use borrow.Author.Tests.{lt-ltb, le-ltb, not-true, not-false}
+use lib.Dec.{ltb}
+use lib.ListN.{length, getD}
 use lib.Seq.{sets, length-sets}
 use Rattle.sets.specs.Tests.{when_then_else_}
 use Rattle.sets.specs.Members.{noSet}
 use Rattle.sets.specs.Files.{littleEndian, valueOf, numberAt}
 use Rattle.sets.specs.declared.set.Set.{Set}
-use Rattle.sets.proofs.Tests.{split, either, T→true, F→false}
 use Rattle.sets.proofs.Members.{Whole, whole-fits, those-mem}
 use Rattle.bytes.specs.Sets.{setLength, setBytes, setAt, setPut}
-use Rattle.bytes.proofs.Codec.{Bytes, bytes-drop, bytes-take, length-number, value-number, number-value, value-below}
-use Rattle.bytes.proofs.Parts.{part, length-part, part-room, Apart, part-apart, getD-apart, part-stored}
+use Rattle.bytes.proofs.Codec.{Bytes, length-number}
+use Rattle.bytes.proofs.Parts.{part, part-room, Apart, part-apart, getD-apart, part-stored}
+use Rattle.bytes.proofs.Rooms.{ways}
+use Rattle.bytes.proofs.NumberLaws.{number-read, part-number, number-below}
 
 -- ---- ways through the code
-
-pub few-whole : (length at n : ℕ) → length < n → true ≡ ltb length (at + n)
-few-whole length at n h = sym (lt-ltb length (at + n) (omega arith))
-
-pub few-rest : (length at n : ℕ) → n ≤ length → ltb (length - n) at ≡ ltb length (at + n)
-few-rest length at n h = by (ltb (length - n) at) refl
-  where
-    by : (t : Bool) → ltb (length - n) at ≡ t → t ≡ ltb length (at + n)
-    by true e = let l = ltb-true (length - n) at e in sym (lt-ltb length (at + n) (omega arith))
-    by false e = let l = ltb-false (length - n) at e in sym (le-ltb length (at + n) (omega arith))
-
-module _ (bytes : List ℕ) (at n : ℕ) (few : Bool) (e : few ≡ ltb (length bytes) (at + n)) where
-  pub room : few ≡ false → at + n ≤ length bytes
-  room h = ltb-false (length bytes) (at + n) (sym e ∙ h)
-
-  pub room-not : not few ≡ true → at + n ≤ length bytes
-  room-not h = room (not-true few h)
 
 module _ (bytes : List ℕ) (at : ℕ) (few : Bool) (e : few ≡ ltb (length bytes) (at + setLength)) where
   pub at-none : few ≡ true → noSet ≡ setAt bytes at
@@ -57,8 +40,6 @@ module _ (bytes : List ℕ) (at : ℕ) (few : Bool) (e : few ≡ ltb (length byt
   unfolding setPut setBytes
   put-some s bytes′ h k = k ∙ ap (λ (t : Bool). when t then bytes else sets bytes at (setBytes s)) (sym (not-true few h) ∙ e)
 
-pub ruleset rooms = (few-whole, few-rest, room, room-not)
-
 pub ruleset storing = (at-none, at-some, put-nothing, put-some)
 
 -- ---- where there is room, and where there is none
@@ -77,13 +58,6 @@ module _ (bytes : List ℕ) (at : ℕ) where
   pub put-missing : (s : Set) → length bytes < at + setLength → setPut bytes at s ≡ bytes
   put-missing s h = sym (put-nothing bytes at true (sym (lt-ltb (length bytes) (at + setLength) h)) s refl)
 
--- either way
-ways : (P : Type 0) (bytes : List ℕ) (at : ℕ) → (at + setLength ≤ length bytes → P) → (length bytes < at + setLength → P) → P
-ways P bytes at there missing =
-    either (split (ltb (length bytes) (at + setLength)))
-    (λ t. missing (ltb-true (length bytes) (at + setLength) (T→true _ t)))
-    (λ f. there (ltb-false (length bytes) (at + setLength) (F→false _ f)))
-
 -- ---- how long
 
 pub length-set : (s : Set) → length (setBytes s) ≡ setLength
@@ -92,15 +66,15 @@ length-set s = length-number setLength (s .bits)
 
 pub length-put : (bytes : List ℕ) (at : ℕ) (s : Set) → length (setPut bytes at s) ≡ length bytes
 length-put bytes at s =
-    ways _ bytes at (λ h. ap length (put-there bytes at s h) ∙ length-sets bytes at (setBytes s)) (λ h. ap length (put-missing bytes at s h))
+    ways _ bytes at setLength (λ h. ap length (put-there bytes at s h) ∙ length-sets bytes at (setBytes s)) (λ h. ap length (put-missing bytes at s h))
 
 -- ---- what was put, read again
 
 -- a set stands where its bytes stand
 pub set-read : (l : List ℕ) (at : ℕ) (s : Set) → part l at setLength ≡ setBytes s → Whole s → setAt l at ≡ s
-unfolding setBytes numberAt
+unfolding setBytes
 set-read l at s e w =
-    at-there l at room ∙ ap (λ (n : ℕ). record { bits = n }) (ap valueOf e ∙ value-number setLength (s .bits) (whole-fits s w))
+    at-there l at room ∙ ap (λ (n : ℕ). record { bits = n }) (number-read l setLength at (s .bits) e (whole-fits s w))
   where
     room : at + setLength ≤ length l
     room = part-room l at setLength (ap length e ∙ length-set s) (omega arith)
@@ -121,38 +95,26 @@ set-apart l at i vs a k =
 module _ (bytes : List ℕ) (i : ℕ) (s : Set) where
   pub put-apart : (at : ℕ) → Apart at setLength i setLength → setAt (setPut bytes i s) at ≡ setAt bytes at
   put-apart at a =
-      ways _ bytes i
+      ways _ bytes i setLength
       (λ h. ap (λ (l : List ℕ). setAt l at) (put-there bytes i s h) ∙ set-apart bytes at i (setBytes s) (subst (Apart at setLength i) (sym (length-set s)) a))
       (λ h. ap (λ (l : List ℕ). setAt l at) (put-missing bytes i s h))
 
   pub byte-apart : (k : ℕ) → Apart k 1 i setLength → getD (setPut bytes i s) k 0 ≡ getD bytes k 0
   byte-apart k a =
-      ways _ bytes i
+      ways _ bytes i setLength
       (λ h. ap (λ (l : List ℕ). getD l k 0) (put-there bytes i s h) ∙ getD-apart bytes k i (setBytes s) (subst (Apart k 1 i) (sym (length-set s)) a))
       (λ h. ap (λ (l : List ℕ). getD l k 0) (put-missing bytes i s h))
 
 -- ---- what was read, put down again
 
 module _ (l : List ℕ) (bytes : Bytes l) (at : ℕ) where
-  pub part-number : (n : ℕ) → at + n ≤ length l → littleEndian n (numberAt n l at) ≡ part l at n
-  unfolding numberAt
-  part-number n h =
-      ap (λ (k : ℕ). littleEndian k (valueOf (part l at n))) (sym (length-part l at n h))
-      ∙ number-value (part l at n) (bytes-take (drop at l) n (bytes-drop l at bytes))
-
-  pub number-below : (n : ℕ) → at + n ≤ length l → numberAt n l at < 256 ^ n
-  unfolding numberAt
-  number-below n h =
-      subst (λ (k : ℕ). valueOf (part l at n) < 256 ^ k) (length-part l at n h)
-      (value-below (part l at n) (bytes-take (drop at l) n (bytes-drop l at bytes)))
-
   -- the bytes of a set that was read are those that stand there
   pub set-part : at + setLength ≤ length l → setBytes (setAt l at) ≡ part l at setLength
   unfolding setBytes
-  set-part h = ap setBytes (at-there l at h) ∙ part-number setLength h
+  set-part h = ap setBytes (at-there l at h) ∙ part-number l bytes at setLength h
 
   -- a set that was read is one of the code's
   pub set-whole : Whole (setAt l at)
   set-whole =
-      ways _ l at (λ h. subst Whole (sym (at-there l at h)) (those-mem (record { bits = numberAt setLength l at }) (number-below setLength h)))
+      ways _ l at setLength (λ h. subst Whole (sym (at-there l at h)) (those-mem (record { bits = numberAt setLength l at }) (number-below l bytes at setLength h)))
       (λ h. subst Whole (sym (at-missing l at h)) (those-mem noSet (omega arith)))

@@ -1,7 +1,10 @@
 // What the files of this house share: numbers and sets as bytes, in a lent slice of them (01, "Sizes").
-mod number;
+pub mod number;
 pub mod room;
 pub mod set;
 
+pub use number::byte_at;
+pub use number::number_at;
+pub use number::put_number;
 pub use set::put_set;
 pub use set::set_at;

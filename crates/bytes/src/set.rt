@@ -1,8 +1,8 @@
 // A set as bytes: activity a is bit a % 8 of byte a / 8. Nobody else knows how many bytes a set has, nor what a set is made of.
 ghost use mathlib.Core.Path.{_≡_};
 ghost use Rattle.bytes.specs.Sets.{setAt, setPut};
-use crate::number::number_at;
-use crate::number::put_number;
+use crate::number::put_value;
+use crate::number::value_at;
 use crate::room;
 use sets::Set;
 use sets::activity::WIDTH;
@@ -18,7 +18,7 @@ pub fn set_at(bytes: &[u8], at: usize) -> Set
         return Set::EMPTY;
     }
     Set {
-        bits: number_at(bytes, at, LENGTH),
+        bits: value_at(bytes, at, LENGTH),
     }
 }
 
@@ -27,6 +27,6 @@ pub fn put_set(out: &mut [u8], at: usize, s: Set)
     ensures { λ _. ⌜ now (out .exit) ≡ setPut (now (out .entry)) at s ⌝ }
 {
     if !room::too_few(out.len(), at, LENGTH) {
-        put_number(out, at, LENGTH, s.bits);
+        put_value(out, at, LENGTH, s.bits);
     }
 }

@@ -1,21 +1,14 @@
-use lib.Seq.{sets}
-use Rattle.sets.specs.Files.{littleEndian}
-use Rattle.bytes.proofs.Codec.{writing}
-use Prim.Native.Nat.{_+_, _-_, _≤_}
-use mathlib.Core.Path.{_≡_}
-use lib.ListN.{length}
 use borrow.Author.Needs.{needs}
+use Rattle.bytes.proofs.Rooms.{rooms}
+use Rattle.bytes.proofs.NumberLaws.{numbering}
 use Rattle.bytes.proofs.number.put_number.Statement.{statement}
 use Rattle.bytes.proofs.number.put_number.Tie as tie
 
-abbrev Inv-loop : tie.InvT-loop
-Inv-loop out₀ at n x i₀ rest₀ out i rest = (i ≤ n) × (length out ≡ length out₀) × (sets out (at + i) (littleEndian (n - i) rest) ≡ sets out₀ at (littleEndian n x))
+returns : tie.Need-returns
+returns c = search (numbering, needs)
 
-abbrev μ-loop : tie.MeasureT-loop
-μ-loop out₀ at n x i₀ rest₀ out i rest = n - i
+returns-2 : tie.Need-returns-2
+returns-2 c = search (numbering, needs)
 
 pub put-number-spec : {M : Type 1} → statement M
-put-number-spec =
-    tie.close
-    (tie.spec Inv-loop μ-loop (λ c. search (writing, needs)) (λ c. search needs) (λ c. search needs) (λ c. search needs) (λ c. search needs)
-    (λ c. search needs) (λ c. search (writing, needs)) (λ c. search needs) (λ c. search (writing, needs)))
+put-number-spec = tie.close (tie.spec (λ c κs. search needs) (λ c κs. search (rooms, needs)) (λ c. search needs) returns returns-2)

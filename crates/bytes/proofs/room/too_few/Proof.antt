@@ -1,5 +1,5 @@
 use borrow.Author.Needs.{needs}
-use Rattle.bytes.proofs.SetLaws.{rooms}
+use Rattle.bytes.proofs.Rooms.{rooms}
 use Rattle.bytes.proofs.room.too_few.Statement.{statement}
 use Rattle.bytes.proofs.room.too_few.Tie as tie
 

@@ -1,5 +1,6 @@
 use borrow.Author.Needs.{needs}
-use Rattle.bytes.proofs.SetLaws.{rooms, storing}
+use Rattle.bytes.proofs.Rooms.{rooms}
+use Rattle.bytes.proofs.SetLaws.{storing}
 use Rattle.bytes.proofs.set.set_at.Statement.{statement}
 use Rattle.bytes.proofs.set.set_at.Tie as tie
 
