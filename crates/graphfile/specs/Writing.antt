@@ -18,10 +18,9 @@ use Rattle.engine.specs.Relations.{relationCount}
 use Rattle.engine.specs.Judged.{judged}
 use Rattle.graphfile.specs.declared.writer.Written.{Written}
 use Rattle.sets.specs.Files.{littleEndian}
-use Rattle.graphfile.specs.Layout.{letters, rowLength, sumOf}
-
-abbrev pub setBytes : Set → List ℕ
-setBytes s = littleEndian 8 (s .bits)
+use Rattle.bytes.specs.Numbers.{numberLength}
+use Rattle.bytes.specs.Sets.{setBytes}
+use Rattle.graphfile.specs.Layout.{mark, rowLength, sumOf}
 
 -- the row of an activity: a key and a set; nothing where the set is empty
 unfoldable pub rowOf : ℕ → Set → List ℕ
@@ -50,9 +49,9 @@ rowCount rows = countFrom rows width 0
 abbrev pub rowsBefore : List ℕ → ℕ → ℕ
 rowsBefore tables r = sumOf (λ k. rowCount (tableAt tables k)) r
 
--- an entry: 9 times the earlier rows, and the number of rows
+-- an entry: the bytes of the earlier rows, and the number of rows
 abbrev pub entryBytes : ℕ → ℕ → List ℕ
-entryBytes earlier count = littleEndian 2 (rowLength * earlier) ++ littleEndian 2 count
+entryBytes earlier count = littleEndian numberLength (rowLength * earlier) ++ littleEndian numberLength count
 
 -- the entries of the relations before r
 unfoldable pub entriesBytes : List ℕ → ℕ → List ℕ
@@ -70,7 +69,7 @@ stateBytes s = setBytes (s .executed) ++ setBytes (s .pending) ++ setBytes (s .i
 
 -- the letters, the edition, A and the four sets
 unfoldable pub headBytes : Head → List ℕ
-headBytes h = letters ++ (h .activities ∷ []) ++ setBytes (h .events) ++ stateBytes (h .opening .state)
+headBytes h = mark ++ (h .activities ∷ []) ++ setBytes (h .events) ++ stateBytes (h .opening .state)
 
 -- the whole file
 unfoldable pub bytesOf : Graph → List ℕ

@@ -2,7 +2,6 @@
 pub mod head;
 mod layout;
 pub mod marking;
-mod number;
 pub mod reader;
 mod refusal;
 pub mod writer;
