@@ -8,7 +8,7 @@ use Prim.Native.Nat.{ℕ, _+_, _*_, _≤_}
 use native.Mathlib.Omega.{arith}
 use borrow.Author.Tests.{le-ltb, not-true, not-false}
 use lib.Dec.{ltb}
-use lib.ListN.{length, take, drop}
+use lib.ListN.{length, take, drop, length-append}
 use lib.Seq.{sets, length-sets, drop-drop}
 use Rattle.sets.specs.Tests.{when_then_else_}
 use Rattle.sets.specs.Files.{littleEndian}
@@ -45,6 +45,10 @@ module _ (bytes : List ℕ) (at : ℕ) (few : Bool) (e : few ≡ ltb (length byt
   put-some m bytes′ h k = k ∙ ap (λ (t : Bool). when t then bytes else sets bytes at (markingBytes m)) (sym (not-true few h) ∙ e)
 
 pub ruleset lone = (room, room-not, held-none, held-some, put-nothing, put-some)
+
+pub length-marking : (m : Marking) → length (markingBytes m) ≡ markingLength
+unfolding markingBytes
+length-marking m = simp length-append (omega (arith, length-state (m .state), length-set (m .enabled)))
 
 -- what a file holds of a marking, then the set
 pub marking-stored : (o o₁ o₂ : List ℕ) (m : Marking) (at : ℕ) → at + markingLength ≤ length o → o₁ ≡ sets o at (stateBytes (m .state))

@@ -12,3 +12,4 @@ pub use reader::read;
 pub use reader::read_bare;
 pub use writer::Written;
 pub use writer::write;
+pub use writer::write_unjudged;

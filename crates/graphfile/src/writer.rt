@@ -9,7 +9,7 @@ ghost use Rattle.sets.specs.Tables.{tableAt};
 ghost use Rattle.engine.specs.Relations.{relationCount, graphOf};
 ghost use Rattle.graphfile.specs.Layout.{mark, eventsPlace, entriesPlace, stateLength, entryLength, headLength, rowLength};
 ghost use Rattle.graphfile.specs.Writing.{rowsFor, rowOf, rowCount, rowsBefore, relationBytes};
-ghost use Rattle.graphfile.specs.Writing.{entryBytes, entriesBytes, stateBytes, headBytes, relationsBytes, bytesOf, writtenOf, fileAfter};
+ghost use Rattle.graphfile.specs.Writing.{entryBytes, entriesBytes, stateBytes, headBytes, relationsBytes, bytesOf, writtenOf, fileAfter, unjudgedOf, unjudgedAfter};
 use crate::layout;
 use bytes::number::LENGTH as NUMBER;
 use bytes::put_number;
@@ -184,6 +184,26 @@ fn put_file(out: &mut [u8], head: Head, relations: &Relations)
     put_relations(out, relations);
 }
 
+// Writes the file of a graph that nobody judges here, for callers that have it from a reader or a miner. Of a graph that is refused when it is
+// judged, the bytes are no graph file.
+pub fn write_unjudged(head: Head, relations: &Relations, out: &mut [u8]) -> Written
+    ensures { λ r. ⌜ r ≡ unjudgedOf (graphOf head (now (relations .entry))) (length (now (out .entry))) ⌝ }
+    ensures { λ _. ⌜ now (out .exit) ≡ unjudgedAfter (graphOf head (now (relations .entry))) (now (out .entry)) ⌝ }
+{
+    let length = layout::HEAD + layout::ROW * row_total(relations);
+    if out.len() < length {
+        return Written {
+            answer: Answer::BufferTooSmall,
+            length: 0,
+        };
+    }
+    put_file(out, head, relations);
+    Written {
+        answer: Answer::Done,
+        length,
+    }
+}
+
 // Writes the file of a graph into the first bytes of a buffer.
 pub fn write(g: Graph, out: &mut [u8]) -> Written
     ensures { λ r. ⌜ r ≡ writtenOf g (length (now (out .entry))) ⌝ }
@@ -194,13 +214,5 @@ pub fn write(g: Graph, out: &mut [u8]) -> Written
     if !answer.is_done() {
         return Written { answer, length: 0 };
     }
-    let length = layout::HEAD + layout::ROW * row_total(&g.relations);
-    if out.len() < length {
-        return Written {
-            answer: Answer::BufferTooSmall,
-            length: 0,
-        };
-    }
-    put_file(out, head, &g.relations);
-    Written { answer, length }
+    write_unjudged(head, &g.relations, out)
 }
