@@ -54,7 +54,7 @@ fn judge_head(bytes: &[u8]) -> Answer
     if bytes.len() < layout::HEAD_SIZE {
         return Answer::TooShort;
     }
-    if !opening::opens_with(&layout::LETTERS, bytes) {
+    if !opening::opens_with(&layout::MARK, bytes) {
         return Answer::WrongLetters;
     }
     if layout::MOST_ACTIVITIES < layout::activities(bytes) {
