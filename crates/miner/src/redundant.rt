@@ -93,10 +93,8 @@ fn reopen_log<'a>(
         if none_doubted(doubts, members, k) {
             return;
         }
-        let p = calllog::trace::trace_part(log, k);
-        let start = p.start;
-        let end = start + p.length;
-        reopen_trace(&log[start..end], u, held, doubts);
+        let trace = calllog::trace::trace_at(log, k);
+        reopen_trace(trace, u, held, doubts);
         k += 1;
     }
 }
