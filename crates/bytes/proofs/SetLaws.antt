@@ -10,7 +10,7 @@ use lib.ListN.{length, getD}
 use lib.Seq.{sets, length-sets}
 use Rattle.sets.specs.Tests.{when_then_else_}
 use Rattle.sets.specs.Members.{noSet}
-use Rattle.sets.specs.Files.{littleEndian, valueOf, numberAt}
+use Rattle.bytes.specs.Numbers.{littleEndian, valueOf, numberAt}
 use Rattle.sets.specs.declared.set.Set.{Set}
 use Rattle.sets.proofs.Members.{Whole, whole-fits, those-mem}
 use Rattle.bytes.specs.Sets.{setLength, setBytes, setAt, setPut}

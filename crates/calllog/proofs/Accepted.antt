@@ -10,7 +10,7 @@ use lib.Dec.{ltb, ltb→lt, lt→ltb}
 use lib.ListN.{length, drop}
 use Rattle.sets.specs.declared.answer.Answer.the-variants.{Done, TooShort, WrongLetters, AboveLimit, WrongOffset, Outside}
 use Rattle.sets.proofs.Tests.{non-false, split, either, T→true}
-use Rattle.sets.specs.Files.{opensWith}
+use Rattle.bytes.specs.Opens.{opensWith}
 use Rattle.calllog.specs.Layout.{mark, headSize, longestLog, activitiesIn, tracesIn, offsetAt, lengthAt, bodiesStart, eventsBefore}
 use Rattle.sets.specs.Sizes.{mostActivities, mostTraces, longestTrace, mostEvents}
 use Rattle.sets.specs.Answers.{isDone, firstRefusal}

@@ -10,9 +10,8 @@ use lib.ListN.{length, getD, drop, drop-of-length-le}
 use lib.Seq.{drop-cons}
 use Rattle.sets.specs.Tests.{_and_}
 use Rattle.sets.proofs.Tests.{true-and, and-true}
-use Rattle.sets.specs.Files.{numberAt}
-use Rattle.sets.proofs.Files.{two-bytes}
-use Rattle.bytes.specs.Numbers.{numberLength}
+use Rattle.bytes.specs.Numbers.{numberAt, numberLength}
+use Rattle.bytes.proofs.NumberLaws.{two-bytes}
 use Rattle.calllog.specs.Judged.{allBelow}
 
 -- ---- two bytes

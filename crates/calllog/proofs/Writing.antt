@@ -9,8 +9,9 @@ use lib.ListN.{length, getD, take, drop, length-append, take-append-drop}
 use lib.Seq.{take-suc, take-length, drop-drop, drop-at, getD-append-add, ext-getD}
 use Rattle.sets.specs.Tests.{_and_}
 use Rattle.sets.specs.declared.answer.Answer.the-variants.{Done}
-use Rattle.sets.specs.Files.{numberAt, opensWith}
-use Rattle.sets.proofs.Files.{two-bytes}
+use Rattle.bytes.specs.Numbers.{numberAt}
+use Rattle.bytes.specs.Opens.{opensWith}
+use Rattle.bytes.proofs.NumberLaws.{two-bytes}
 use Rattle.calllog.specs.Layout.{mark, headSize, entrySize, activitiesIn, tracesIn, offsetAt, lengthAt, bodiesStart, eventsBefore}
 use Rattle.calllog.specs.Judged.{judgedLog, allBelow}
 use Rattle.calllog.specs.Logs.{Log, traceAt, tracesFrom, logOf}

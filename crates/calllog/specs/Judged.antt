@@ -8,7 +8,7 @@ use Rattle.sets.specs.Tests.{_and_, non, when_then_else_}
 use Rattle.sets.specs.Answers.{thenAsk, firstRefusal}
 use Rattle.sets.specs.declared.answer.Answer.{Answer}
 use Rattle.sets.specs.declared.answer.Answer.the-variants.{Done, TooShort, WrongLetters, AboveLimit, WrongOffset, Outside}
-use Rattle.sets.specs.Files.{opensWith}
+use Rattle.bytes.specs.Opens.{opensWith}
 use Rattle.calllog.specs.Layout.{mark, headSize, activitiesIn, tracesIn, offsetAt, lengthAt, bodiesStart, eventsBefore}
 use Rattle.sets.specs.Sizes.{mostActivities, mostTraces, longestTrace, mostEvents}
 

@@ -3,8 +3,7 @@ use mathlib.Core.List.{List, [], _∷_, _++_}
 use Prim.Native.Nat.{ℕ, zero, suc, _+_, _*_}
 use Rattle.sets.specs.Sizes.{mostTraces, mostEvents}
 use lib.ListN.{getD}
-use Rattle.sets.specs.Files.{numberAt}
-use Rattle.bytes.specs.Numbers.{numberLength}
+use Rattle.bytes.specs.Numbers.{numberAt, numberLength}
 
 -- the two letters, B and L, and the edition
 abbrev pub letters : List ℕ

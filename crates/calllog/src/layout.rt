@@ -2,8 +2,7 @@
 ghost use mathlib.Core.Path.{_≡_};
 ghost use Prim.Native.Nat.{_+_, _≤_, _<_};
 ghost use lib.ListN.{length, getD};
-ghost use Rattle.sets.specs.Files.{numberAt};
-ghost use Rattle.bytes.specs.Numbers.{numberLength};
+ghost use Rattle.bytes.specs.Numbers.{numberAt, numberLength};
 ghost use Rattle.calllog.specs.Layout.{activitiesIn, tracesIn, offsetAt, lengthAt, bodiesStart};
 use bytes::byte_at;
 use bytes::number::LENGTH as NUMBER;

@@ -13,7 +13,7 @@ use Rattle.engine.specs.Judged.{stateWithin}
 use Rattle.engine.specs.Relations.{relationCount}
 use Rattle.sets.specs.Answers.{thenAsk, firstRefusal}
 use Rattle.sets.specs.Sizes.{mostActivities}
-use Rattle.sets.specs.Files.{opensWith}
+use Rattle.bytes.specs.Opens.{opensWith}
 use Rattle.graphfile.specs.Layout.{mark, headLength, rowLength, activitiesIn, eventsIn, stateIn, offsetIn, countIn, earlierRows, keyIn, rowIn, endOf}
 
 -- the limit on a relation's rows, whatever A is: 64
