@@ -1,21 +1,17 @@
 -- What `mine` gives: the log's answer, and a graph that is never refused. Assumes nothing.
-use mathlib.Core.Path.{_≡_, refl, ap, _∙_}
+use mathlib.Core.Path.{_≡_, ap, _∙_}
 use mathlib.Core.Bool.{Bool, false}
 use mathlib.Core.List.{List}
 use Prim.Native.Nat.{ℕ}
-use Rattle.sets.specs.Tests.{_and_, _or_, non, when_then_else_}
-use Rattle.sets.specs.Members.{bit, bitsOf, everyBelow, isEmpty, within, mem, those}
-use Rattle.sets.specs.Rows.{rowAt}
-use Rattle.sets.specs.Tables.{tableAt}
+use Rattle.sets.specs.Tests.{when_then_else_}
 use Rattle.sets.specs.Answers.{isDone}
 use Rattle.sets.specs.declared.answer.Answer.{Answer}
 use Rattle.sets.specs.declared.answer.Answer.the-variants.{Done}
 use Rattle.sets.proofs.Tests.{T→true, F→false, split, either}
 use Rattle.sets.proofs.Asking.{done-is}
 use Rattle.engine.specs.Relations.{emptyGraph}
-use Rattle.engine.specs.Steps.{enabled}
-use Rattle.engine.specs.Judged.{stateWithin, rowWithin, rowsWithin, relationsWithin, graphWithin, found, judgedFor, judged}
-use Rattle.engine.specs.Enabled.{enabledSet, isTrue}
+use Rattle.engine.specs.Judged.{judged}
+use Rattle.engine.proofs.Acceptable.{empty-judged}
 use Rattle.calllog.specs.Judged.{judgedLog}
 use Rattle.calllog.specs.Logs.{logOf}
 use Rattle.calllog.proofs.Given.{log-answer}
@@ -39,13 +35,7 @@ module _ (bytes : List ℕ) (p : Profile) where
   mined-nothing n =
       ap (λ (t : Bool). when t then minedGraph (logOf bytes .activities) (logOf bytes .traces) p else emptyGraph) (ap isDone (log-answer bytes) ∙ n)
 
--- the empty graph is no reason to refuse
-pub empty-judged : judged emptyGraph ≡ Done
-unfolding judgedFor found isTrue enabledSet enabled graphWithin relationsWithin rowsWithin rowWithin stateWithin within isEmpty everyBelow bitsOf bit mem those
-    _and_ _or_ non rowAt tableAt
-empty-judged = refl
-
--- nor is any graph that the miner gives
+-- no graph that the miner gives is refused
 pub mined-judged : (bytes : List ℕ) (p : Profile) → judged (minedOf bytes p .graph) ≡ Done
 mined-judged bytes p =
     either (split (isDone (judgedLog bytes)))

@@ -39,6 +39,7 @@ use Rattle.rules.specs.declared.Profile.{Profile}
 use Rattle.rules.proofs.Demand3.{Through}
 use Rattle.rules.proofs.FromFile.{file-accepted, demand3-file}
 use Rattle.miner.specs.Mine.{minedOf}
+use Rattle.miner.proofs.Given.{mined-answer, mined-graph, mined-nothing}
 use Rattle.miner.specs.declared.mining.Mined.{Mined}
 use Rattle.promises.specs.Promised.{traceOf, ownReplay, OwnReplayed}
 
