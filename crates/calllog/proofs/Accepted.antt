@@ -10,8 +10,8 @@ use lib.Dec.{ltb, ltb→lt, lt→ltb}
 use lib.ListN.{length, drop}
 use Rattle.sets.specs.declared.answer.Answer.the-variants.{Done, TooShort, WrongLetters, AboveLimit, WrongOffset, Outside}
 use Rattle.sets.proofs.Tests.{non-false, split, either, T→true}
-use Rattle.sets.specs.Files.{opensWith}
-use Rattle.calllog.specs.Layout.{letters, headSize, longestLog, activitiesIn, tracesIn, offsetAt, lengthAt, bodiesStart, eventsBefore}
+use Rattle.bytes.specs.Opens.{opensWith}
+use Rattle.calllog.specs.Layout.{mark, headSize, longestLog, activitiesIn, tracesIn, offsetAt, lengthAt, bodiesStart, eventsBefore}
 use Rattle.sets.specs.Sizes.{mostActivities, mostTraces, longestTrace, mostEvents}
 use Rattle.sets.specs.Answers.{isDone, firstRefusal}
 use Rattle.sets.specs.declared.answer.Answer.{Answer}
@@ -23,7 +23,7 @@ use Rattle.calllog.proofs.Contents.{entry-good}
 
 pub record Accepted (bytes : List ℕ) : Type 0 where
   pub long : headSize ≤ length bytes
-  pub named : opensWith letters bytes ≡ true
+  pub named : opensWith mark bytes ≡ true
   pub activities : activitiesIn bytes ≤ mostActivities
   pub traces : tracesIn bytes ≤ mostTraces
   pub lengths : (k : ℕ) → k < tracesIn bytes → lengthAt bytes k ≤ longestTrace
@@ -34,7 +34,7 @@ pub record Accepted (bytes : List ℕ) : Type 0 where
 
 module _ (bytes : List ℕ) where
   pub head-good : judgedHead bytes ≡ Done
-      → (headSize ≤ length bytes) × (opensWith letters bytes ≡ true) × (activitiesIn bytes ≤ mostActivities) × (tracesIn bytes ≤ mostTraces) × (bodiesStart bytes ≤ length bytes)
+      → (headSize ≤ length bytes) × (opensWith mark bytes ≡ true) × (activitiesIn bytes ≤ mostActivities) × (tracesIn bytes ≤ mostTraces) × (bodiesStart bytes ≤ length bytes)
   unfolding judgedHead
   head-good d =
       let p = went _ TooShort _ refl d in

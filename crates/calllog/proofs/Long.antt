@@ -13,9 +13,10 @@ use Rattle.sets.specs.Tests.{_and_, non, when_then_else_}
 use Rattle.sets.specs.Answers.{isDone, thenAsk, firstRefusal}
 use Rattle.sets.specs.declared.answer.Answer.{Answer}
 use Rattle.sets.specs.declared.answer.Answer.the-variants.{Done, TooShort, WrongLetters, AboveLimit}
-use Rattle.sets.specs.Files.{numberAt, opensWith}
-use Rattle.sets.proofs.Files.{two-bytes}
-use Rattle.calllog.specs.Layout.{letters, headSize, longestLog, activitiesIn, tracesIn, offsetAt, lengthAt, bodiesStart, eventsBefore}
+use Rattle.bytes.specs.Numbers.{numberAt}
+use Rattle.bytes.specs.Opens.{opensWith}
+use Rattle.bytes.proofs.NumberLaws.{two-bytes}
+use Rattle.calllog.specs.Layout.{mark, headSize, longestLog, activitiesIn, tracesIn, offsetAt, lengthAt, bodiesStart, eventsBefore}
 use Rattle.sets.specs.Sizes.{mostActivities, mostTraces}
 use Rattle.calllog.specs.Judged.{judgedHead, judgedEntry, entryOf, judgedBodies, judgedContents, judgedLog}
 use Rattle.sets.proofs.Order.{none-refuses, refusals-same}
@@ -42,7 +43,7 @@ tests o a t s =
 
 head-tests : (bytes : List ℕ) → headSize ≤ length bytes
     → judgedHead bytes
-    ≡ tests (opensWith letters bytes) (ltb mostActivities (activitiesIn bytes)) (ltb mostTraces (tracesIn bytes)) (ltb (length bytes) (bodiesStart bytes))
+    ≡ tests (opensWith mark bytes) (ltb mostActivities (activitiesIn bytes)) (ltb mostTraces (tracesIn bytes)) (ltb (length bytes) (bodiesStart bytes))
 unfolding judgedHead tests
 head-tests bytes l = rw (le-ltb (length bytes) headSize l)
 
@@ -78,19 +79,19 @@ module _ (bytes : List ℕ) (long : longestLog < length bytes) where
       let f = ltb (length first) (bodiesStart first) in
       let b = ltb (length bytes) (bodiesStart bytes) in
       head-tests first (omega arith)
-      ∙ (λ i. tests (opens-same letters bytes (longestLog + 1) (omega arith) i) (ltb mostActivities (activities-same i)) (ltb mostTraces (traces-same i)) f)
+      ∙ (λ i. tests (opens-same mark bytes (longestLog + 1) (omega arith) i) (ltb mostActivities (activities-same i)) (ltb mostTraces (traces-same i)) f)
       ∙ go (ltb mostTraces (tracesIn bytes)) refl
       ∙ sym (head-tests bytes (omega arith))
     where
       go : (t : Bool) → ltb mostTraces (tracesIn bytes) ≡ t
-          → tests (opensWith letters bytes) (ltb mostActivities (activitiesIn bytes)) t (ltb (length first) (bodiesStart first))
-          ≡ tests (opensWith letters bytes) (ltb mostActivities (activitiesIn bytes)) t (ltb (length bytes) (bodiesStart bytes))
+          → tests (opensWith mark bytes) (ltb mostActivities (activitiesIn bytes)) t (ltb (length first) (bodiesStart first))
+          ≡ tests (opensWith mark bytes) (ltb mostActivities (activitiesIn bytes)) t (ltb (length bytes) (bodiesStart bytes))
       go true e = refl
       go false e =
           let l = ltb-false mostTraces (tracesIn bytes) e in
           let n = first-length in
           let m = traces-same in
-          ap (tests (opensWith letters bytes) (ltb mostActivities (activitiesIn bytes)) false)
+          ap (tests (opensWith mark bytes) (ltb mostActivities (activitiesIn bytes)) false)
           (le-ltb (length first) (bodiesStart first) (omega arith) ∙ sym (le-ltb (length bytes) (bodiesStart bytes) (omega arith)))
 
   -- ---- the entries, where there are no more than there may be

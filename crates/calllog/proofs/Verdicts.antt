@@ -7,8 +7,8 @@ use borrow.Author.Tests.{lt-ltb, le-ltb, eq-eqb, ne-eqb, not-true, not-false}
 use lib.ListN.{length, drop}
 use Rattle.sets.specs.Tests.{non}
 use Rattle.sets.specs.declared.answer.Answer.the-variants.{Done, TooShort, WrongLetters, AboveLimit, WrongOffset, Outside}
-use Rattle.sets.specs.Files.{opensWith}
-use Rattle.calllog.specs.Layout.{letters, headSize, activitiesIn, tracesIn, bodiesStart}
+use Rattle.bytes.specs.Opens.{opensWith}
+use Rattle.calllog.specs.Layout.{mark, headSize, activitiesIn, tracesIn, bodiesStart}
 use Rattle.sets.specs.Sizes.{mostActivities, mostTraces, longestTrace, mostEvents}
 use Rattle.calllog.specs.Judged.{allBelow, judgedHead, judgedEntry, judgedBodies}
 
@@ -19,7 +19,7 @@ module _ (bytes : List ℕ) where
   unfolding judgedHead
   head-short h = rw (lt-ltb (length bytes) headSize h)
 
-  module _ (o : Bool) (eo : o ≡ opensWith letters bytes) (h : headSize ≤ length bytes) where
+  module _ (o : Bool) (eo : o ≡ opensWith mark bytes) (h : headSize ≤ length bytes) where
     pub head-letters : not o ≡ true → WrongLetters ≡ judgedHead bytes
     unfolding judgedHead non
     head-letters f = rw (le-ltb (length bytes) headSize h, ← eo, not-true o f)

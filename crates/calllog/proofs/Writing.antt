@@ -9,9 +9,10 @@ use lib.ListN.{length, getD, take, drop, length-append, take-append-drop}
 use lib.Seq.{take-suc, take-length, drop-drop, drop-at, getD-append-add, ext-getD}
 use Rattle.sets.specs.Tests.{_and_}
 use Rattle.sets.specs.declared.answer.Answer.the-variants.{Done}
-use Rattle.sets.specs.Files.{numberAt, opensWith}
-use Rattle.sets.proofs.Files.{two-bytes}
-use Rattle.calllog.specs.Layout.{letters, headSize, entrySize, activitiesIn, tracesIn, offsetAt, lengthAt, bodiesStart, eventsBefore}
+use Rattle.bytes.specs.Numbers.{numberAt}
+use Rattle.bytes.specs.Opens.{opensWith}
+use Rattle.bytes.proofs.NumberLaws.{two-bytes}
+use Rattle.calllog.specs.Layout.{mark, headSize, entrySize, activitiesIn, tracesIn, offsetAt, lengthAt, bodiesStart, eventsBefore}
 use Rattle.calllog.specs.Judged.{judgedLog, allBelow}
 use Rattle.calllog.specs.Logs.{Log, traceAt, tracesFrom, logOf}
 use Rattle.calllog.specs.Written.{twoBytes, entriesOf, endToEnd, logBytes, WithinLimits}
@@ -85,13 +86,13 @@ module _ (a : ℕ) (ts : List (List ℕ)) where
   unfolding tracesIn logBytes
   says-traces = two-bytes (logBytes a ts) 4 ∙ two-back (length ts)
 
-  says-named : opensWith letters (logBytes a ts) ≡ true
+  says-named : opensWith mark (logBytes a ts) ≡ true
   unfolding opensWith _and_ logBytes
   says-named = refl
 
   number-in : (i : ℕ) → numberAt 2 (logBytes a ts) (headSize + i) ≡ numberAt 2 behind i
   unfolding logBytes
-  number-in i = number-behind (letters ++ (a ∷ []) ++ twoBytes (length ts)) behind i
+  number-in i = number-behind (mark ++ (a ∷ []) ++ twoBytes (length ts)) behind i
 
   says-offset : (k : ℕ) → k < length ts → offsetAt (logBytes a ts) k ≡ before ts k
   unfolding offsetAt

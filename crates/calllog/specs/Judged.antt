@@ -8,8 +8,8 @@ use Rattle.sets.specs.Tests.{_and_, non, when_then_else_}
 use Rattle.sets.specs.Answers.{thenAsk, firstRefusal}
 use Rattle.sets.specs.declared.answer.Answer.{Answer}
 use Rattle.sets.specs.declared.answer.Answer.the-variants.{Done, TooShort, WrongLetters, AboveLimit, WrongOffset, Outside}
-use Rattle.sets.specs.Files.{opensWith}
-use Rattle.calllog.specs.Layout.{letters, headSize, activitiesIn, tracesIn, offsetAt, lengthAt, bodiesStart, eventsBefore}
+use Rattle.bytes.specs.Opens.{opensWith}
+use Rattle.calllog.specs.Layout.{mark, headSize, activitiesIn, tracesIn, offsetAt, lengthAt, bodiesStart, eventsBefore}
 use Rattle.sets.specs.Sizes.{mostActivities, mostTraces, longestTrace, mostEvents}
 
 -- every one is below a
@@ -21,7 +21,7 @@ allBelow a (x ∷ xs) = ltb x a and allBelow a xs
 unfoldable pub judgedHead : List ℕ → Answer
 judgedHead bytes =
     when ltb (length bytes) headSize then TooShort
-    else when non (opensWith letters bytes) then WrongLetters
+    else when non (opensWith mark bytes) then WrongLetters
     else when ltb mostActivities (activitiesIn bytes) then AboveLimit
     else when ltb mostTraces (tracesIn bytes) then AboveLimit
     else when ltb (length bytes) (bodiesStart bytes) then TooShort

@@ -19,7 +19,7 @@ use Rattle.graphfile.specs.Refusals.{judgedFile}
 use Rattle.graphfile.specs.Layout.{eventsIn, stateIn}
 use Rattle.graphfile.specs.Held.{relationsIn, graphIn, bareOf, readOf}
 use Rattle.graphfile.specs.declared.reader.Bare.{Bare}
-use Rattle.graphfile.proofs.Codec.{Bytes}
+use Rattle.bytes.proofs.Codec.{Bytes}
 use Rattle.graphfile.proofs.RoundTrips.{file-graph}
 use Rattle.engine.specs.declared.graph.Graph.{Graph}
 

@@ -17,7 +17,7 @@ use Rattle.engine.specs.Judged.{judged}
 use Rattle.graphfile.specs.Held.{bareOf, readOf}
 use Rattle.graphfile.specs.declared.reader.Reading.{Reading}
 use Rattle.graphfile.specs.declared.reader.Bare.{Bare}
-use Rattle.graphfile.proofs.Codec.{Bytes}
+use Rattle.bytes.proofs.Codec.{Bytes}
 use Rattle.desk.specs.Places.{tableLength}
 use Rattle.desk.specs.Desk.{placeAnswer, noPlace, openedOf, tableOpened, stepAnswer, tableStepped, closeAnswer, tableClosed}
 use Rattle.desk.specs.Desk.{stepAnswerOn, tableSteppedOn, closeAnswerOn, tableClosedOn}

@@ -5,7 +5,7 @@ use mathlib.Core.List.{List}
 use Prim.Native.Nat.{ℕ, _+_, _*_, _%_, _^_, _≤_, _<_}
 use native.Mathlib.Omega.{arith}
 use borrow.Author.Tests.{not-true, not-false, eq-eqb, ne-eqb, lt-ltb, le-ltb}
-use lib.Dec.{eqb, ltb}
+use lib.Dec.{ltb}
 use lib.ListN.{length}
 use Rattle.sets.specs.Tests.{non, when_then_else_}
 use Rattle.sets.specs.Answers.{numberOf, blockerOf, isDone, thenAsk}
@@ -13,24 +13,30 @@ use Rattle.sets.specs.declared.answer.Answer.{Answer}
 use Rattle.sets.specs.declared.answer.Answer.the-variants.{Done, AboveLimit, BufferTooSmall, WrongArgument}
 use Rattle.sets.specs.Sizes.{longestTrace}
 use Rattle.sets.proofs.Asking.{done-is, ask-stop}
-use Rattle.engine.specs.Relations.{inTables}
+use Rattle.engine.specs.Relations.{inTables, emptyGraph}
 use Rattle.engine.specs.Replay.{walkedOf, replayFrom, replayOf, steppedOf, steppedOn}
-use Rattle.engine.proofs.Acceptable.{stepped-on, replay-judged, replay-long}
+use Rattle.engine.proofs.Acceptable.{stepped-on, replay-judged, replay-long, empty-judged}
+use Rattle.engine.specs.Judged.{judged}
 use Rattle.engine.specs.declared.marking.Marking.{Marking}
 use Rattle.engine.specs.declared.step.Stepped.{Stepped}
 use Rattle.engine.specs.declared.graph.Graph.{Graph}
 use Rattle.engine.specs.declared.replay.Replayed.{Replayed}
 use Rattle.engine.specs.declared.replay.Walked.{Walked}
-use Rattle.graphfile.specs.Held.{bareOf, readOf}
-use Rattle.graphfile.proofs.Codec.{Bytes}
-use Rattle.graphfile.specs.Writing.{writtenOf, fileAfter}
+use Rattle.graphfile.specs.Held.{bareOf, readOf, graphIn}
+use Rattle.bytes.proofs.Codec.{Bytes}
+use Rattle.graphfile.specs.Writing.{writtenOf, fileAfter, unjudgedOf, unjudgedAfter}
+use Rattle.graphfile.specs.Refusals.{judgedFile}
+use Rattle.graphfile.proofs.RoundTrips.{file-graph}
+use Rattle.graphfile.proofs.Writes.{unjudged-written, unjudged-after}
 use Rattle.graphfile.specs.declared.reader.Reading.{Reading}
 use Rattle.graphfile.specs.declared.reader.Bare.{Bare}
 use Rattle.graphfile.specs.declared.writer.Written.{Written}
 use Rattle.graphfile.specs.Markings.{markingLength, markingFrom, markingInto}
 use Rattle.rules.specs.declared.Profile.{Profile}
 use Rattle.rules.specs.declared.Profile.the-variants.{Full, Light}
+use Rattle.miner.specs.Mine.{minedOf}
 use Rattle.miner.specs.declared.mining.Mined.{Mined}
+use Rattle.miner.proofs.Given.{mined-judged}
 use Rattle.report.specs.declared.writer.Listed.{Listed}
 use Rattle.port.specs.Port.{packedOf, verdictOf, blockedOf, stepNumber, storedOf, putNumber, putBuffer, profileOf, inProfile, inProfileBuffer}
 use Rattle.port.specs.Port.{replayNumber, refusedStep, stepOf, openingAnswer, openingBytes}
@@ -70,16 +76,17 @@ module _ (a : Answer) (g : Graph) (out : List ℕ) (r : Bool) (hr : r ≡ isDone
   unfolding putBuffer
   put-kept h = sym (ap (λ (t : Bool). when t then fileAfter g out else out) (sym hr ∙ not-true r h))
 
-  pub put-done : (n : ℕ) (w : Written) → not r ≡ false → w ≡ writtenOf g (length out) → n ≡ packedOf (w .answer) (w .length) → n ≡ putNumber a g (length out)
+  pub put-done : (n : ℕ) (w : Written) → judged g ≡ Done → not r ≡ false → w ≡ unjudgedOf g (length out) → n ≡ packedOf (w .answer) (w .length)
+      → n ≡ putNumber a g (length out)
   unfolding putNumber
-  put-done n w h hw e =
+  put-done n w ok h hw e =
       e
-      ∙ ap (λ (x : Written). packedOf (x .answer) (x .length)) hw
+      ∙ ap (λ (x : Written). packedOf (x .answer) (x .length)) (hw ∙ unjudged-written g out ok)
       ∙ sym (ap (λ (t : Bool). when t then packedOf (writtenOf g (length out) .answer) (writtenOf g (length out) .length) else packedOf a 0) (sym hr ∙ not-false r h))
 
-  pub put-filled : (out′ : List ℕ) → not r ≡ false → out′ ≡ fileAfter g out → out′ ≡ putBuffer a g out
+  pub put-filled : (out′ : List ℕ) → judged g ≡ Done → not r ≡ false → out′ ≡ unjudgedAfter g out → out′ ≡ putBuffer a g out
   unfolding putBuffer
-  put-filled out′ h e = e ∙ sym (ap (λ (t : Bool). when t then fileAfter g out else out) (sym hr ∙ not-false r h))
+  put-filled out′ ok h e = e ∙ unjudged-after g out ok ∙ sym (ap (λ (t : Bool). when t then fileAfter g out else out) (sym hr ∙ not-false r h))
 
 pub ruleset putting = (put-refused, put-kept, put-done, put-filled)
 
@@ -98,6 +105,18 @@ module _ (r r′ : Reading) (e : r ≡ r′) where
 
   pub read-buffer : (out out′ : List ℕ) → out′ ≡ putBuffer (r .answer) (r .graph) out → out′ ≡ putBuffer (r′ .answer) (r′ .graph) out
   read-buffer out out′ h = h ∙ ap (λ (x : Reading). putBuffer (x .answer) (x .graph) out) e
+
+-- neither graph is one that a judge would refuse
+pub mined-ok : (log : List ℕ) (p : Profile) (m : Mined) → m ≡ minedOf log p → judged (m .graph) ≡ Done
+mined-ok log p m e = ap (λ (x : Mined). judged (x .graph)) e ∙ mined-judged log p
+
+pub read-ok : (file : List ℕ) (r : Reading) → Bytes file → r ≡ readOf file → judged (r .graph) ≡ Done
+unfolding readOf
+read-ok file r small e = ap (λ (x : Reading). judged (x .graph)) e ∙ by (isDone (judgedFile file)) refl
+  where
+    by : (b : Bool) → isDone (judgedFile file) ≡ b → judged (when b then graphIn file else emptyGraph) ≡ Done
+    by true h = file-graph file small (done-is (judgedFile file) h)
+    by false h = empty-judged
 
 pub ruleset carrying = (mined-number, mined-buffer, read-number, read-buffer)
 
