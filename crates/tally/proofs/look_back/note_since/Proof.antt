@@ -1,0 +1,37 @@
+use mathlib.Core.Path.{_≡_, sym, subst, _∙_}
+use mathlib.Core.Bool.{Bool, true}
+use Prim.Native.Nat.{ℕ, _<_}
+use borrow.Author.Needs.{needs}
+use lib.Dec.{T}
+use Rattle.sets.specs.Members.{width, mem, those}
+use Rattle.sets.specs.declared.set.Set.{Set}
+use Rattle.sets.proofs.Tests.{true→T}
+use Rattle.sets.proofs.Members.{those-e, those-mem}
+use Rattle.tally.proofs.Alternate.{note-repeat, note-first}
+use Rattle.tally.proofs.look_back.note_since.Statement.{statement}
+use Rattle.tally.proofs.look_back.note_since.Tie as tie
+
+-- what is in a set is below the width
+member-low : (s : Set) (e : ℕ) (r : Bool) → those (mem s) ≡ s → r ≡ mem s e → r ≡ true → e < width
+member-low s e r hs hr ht = those-e (mem s) e (subst (λ (u : Set). T (mem u e)) (sym hs) (true→T (sym hr ∙ ht))) .0
+
+unmet-by-requires : tie.Need-unmet-by-requires
+unmet-by-requires c κs = (search needs, member-low _ _ _ (those-mem _ (search needs)) (c .before .before .before .before .before .has .ensures) (search needs))
+
+returns : tie.Need-returns
+returns c =
+    let row = c .before .before .before .before in
+    note-repeat _ _ _ _ _ _ (row .before .before .before .before .has .ensures) _ _ _ _ (row .before .before .before .if1 .taken)
+    (row .row .ensures) (c .before .before .before .complement .ensures) (c .before .before .unmet-by .ensures)
+    (c .join .ensures)
+
+returns-2 : tie.Need-returns-2
+returns-2 c =
+    let else = c .before .before .before in
+    note-first _ _ _ _ _ _ (else .before .has .ensures) _ _ (else .if1 .left) (c .before .complement2 .ensures) (c .join2 .ensures)
+
+pub note-since-spec : {M : Type 1} → statement M
+note-since-spec =
+    tie.close
+    (tie.spec (λ c κs. search needs) (λ c κs. search needs) (λ c κs. search needs) unmet-by-requires (λ c κs. search needs)
+    (λ c κs. search needs) (λ c κs. search needs) returns returns-2)
