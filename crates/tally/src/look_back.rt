@@ -95,14 +95,18 @@ fn unmet_by<'a>(past: &'a [u8], blocks: &'a Rows, e: Activity, wanted: Set) -> S
     unmet(&past[0..end], e, at.left)
 }
 
-// One place: what does not stand since the last e. At the first e of a trace that is what was not seen.
+// One place: what does not stand since the last e. At the first e of a trace that is what was not seen. A row that has all can gain
+// nothing, and that is the first question, since the answer is mostly the same.
 pub fn note_since<'a>(past: &'a [u8], blocks: &'a Rows, e: Activity, seen: Set, tally: &mut Tally)
     requires { ⌜ now blocks ≡ rowsOf (inBlock (now past)) ⌝ }
     ensures { λ _. ⌜ now (tally .exit) ≡ notedIn (now (tally .entry)) unalternatedTable (e .0)
         (λ x. when mem seen (e .0) then notSince (e .0) (reverseAux (now (past .entry)) []) [] x else non (mem seen x)) ⌝ }
 {
+    let wanted = tables::row(tally, UNALTERNATED, e).complement();
+    if wanted.is_empty() {
+        return;
+    }
     if seen.has(e) {
-        let wanted = tables::row(tally, UNALTERNATED, e).complement();
         let left = unmet_by(past, blocks, e, wanted);
         tables::join(tally, UNALTERNATED, e, left);
     } else {
