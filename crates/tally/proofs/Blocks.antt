@@ -3,21 +3,19 @@
 use mathlib.Core.Path.{_≡_, refl, sym, ap, ap₂, subst, _∙_}
 use mathlib.Core.Bool.{Bool, true, false, not}
 use mathlib.Core.Logic.{_⊎_, inl, inr}
-use mathlib.Core.List.{List, [], _∷_, reverseAux}
+use mathlib.Core.List.{List, []}
 use Prim.Native.Nat.{ℕ, zero, suc, _+_, _*_, _/_, _-_, _≤_, _<_}
 use native.Mathlib.Omega.{arith}
-use native.Mathlib.Numerals.{add-one}
-use borrow.Author.Tests.{eq-eqb, ne-eqb, eqb-true, lt-ltb, ltb-true, ltb-false}
-use lib.Dec.{T, eqb, ltb, eqb→eq, eqb-refl}
+use borrow.Author.Tests.{eq-eqb, ne-eqb, eqb-false}
+use lib.Dec.{T, eqb, eqb→eq}
 use lib.ListN.{length, getD, take, drop}
 use lib.Seq.{getD-take, length-take-le}
 use Rattle.sets.specs.Tests.{_and_, _or_, non}
-use Rattle.sets.specs.Members.{width, mem, those, isEmpty, someBelow, noSet}
+use Rattle.sets.specs.Members.{width, mem, those, isEmpty, someBelow}
 use Rattle.sets.specs.Rows.{Relation, rowAt, withRow, noRows, rowsOf}
 use Rattle.sets.specs.Sizes.{longestTrace}
 use Rattle.sets.specs.declared.set.Set.{Set}
-use Rattle.sets.proofs.Tests.{and-i, and-l, and-r, and-true, or-e, or-l, or-r, or-false, non-i, non-e, T-ext, T-eq, true→T, T→true, false→F, F→false, split, either}
-use Rattle.sets.proofs.Tautologies.{by3}
+use Rattle.sets.proofs.Tests.{and-i, and-l, and-r, and-true, or-e, or-l, or-r, or-false, non-e, T-ext, T-eq, true→T, F→false, split, either}
 use Rattle.sets.proofs.Below.{some-i, some-e}
 use Rattle.sets.proofs.Members.{those-ext, those-of, mem-those}
 use Rattle.sets.proofs.MadeSets.{is-those}
@@ -25,7 +23,7 @@ use Rattle.sets.proofs.RowLaws.{row-rowsOf, gain-rowsOf, rowsOf-ext, empty-rows
 use Rattle.rules.specs.Traces.{_has_}
 use Rattle.tally.specs.Passes.{notSince, inBlock, PassedTo}
 use Rattle.tally.proofs.Turns.{pastAt}
-use Rattle.tally.proofs.Since.{since, since-near, wantedOf, Looked, look-start, look-next, look-empty}
+use Rattle.tally.proofs.Since.{since, since-near, regroup, Looked, look-start, look-next}
 
 -- ---- whether a block is passed
 
@@ -55,11 +53,7 @@ between-i past low zero x p l h t = absurd (omega (arith, l, h))
 between-i past low (suc n) x p l h t =
     either (split (eqb p (low + n)))
     (λ q. or-l _ _ (subst (λ (k : ℕ). T (eqb x (getD past k 0))) (eqb→eq p (low + n) q) t))
-    (λ q. or-r _ _ (between-i past low n x p l (less (λ e. q (true→T (eq-eqb p (low + n) e)))) t))
-  where
-    less : (p ≡ low + n → ⊥) → p < low + n
-    less ne = either (split (ltb p (low + n))) (λ b. ltb-true p (low + n) (T→true _ b))
-        (λ b. absurd (ne (let g = ltb-false p (low + n) (F→false _ b) in omega (arith, g, h))))
+    (λ q. let apart = eqb-false p (low + n) (F→false _ q) in or-r _ _ (between-i past low n x p l (omega (arith, apart, h)) t))
 
 between-e : (past : List ℕ) (low n x : ℕ) → T (between past low n x) → (p : ℕ) × (low ≤ p) × (p < low + n) × T (eqb x (getD past p 0))
 unfolding between
@@ -71,10 +65,6 @@ between-e past low (suc n) x t = go (or-e _ _ t) (between-e past low n x)
         → (p : ℕ) × (low ≤ p) × (p < low + suc n) × T (eqb x (getD past p 0))
     go (inl h) ih = (low + n, omega arith, omega arith, h)
     go (inr h) ih = let r = ih h in (r .0, r .1, omega (arith, r .2), r .3)
-
-apart : (a b c : Bool) → (a and non (b or c)) ≡ ((a and non b) and non c)
-unfolding _and_ _or_ non
-apart = by3 (λ a b c. a and non (b or c)) (λ a b c. (a and non b) and non c) tt
 
 -- n places without an e are passed
 look-places : (past : List ℕ) (e : ℕ) (wanted : Set) (low n : ℕ) (left left′ : Set) → Looked past e wanted left (low + n)
@@ -89,7 +79,7 @@ look-places past e wanted low (suc n) left left′ inv free h =
     (h ∙ those-ext (λ a. mem left a and non (eqb a (getD past (low + n) 0) or between past low n a))
     (λ a. mem rest a and non (between past low n a))
     (λ a l.
-    apart (mem left a) (eqb a (getD past (low + n) 0)) (between past low n a)
+    sym (regroup (mem left a) (eqb a (getD past (low + n) 0)) (between past low n a))
     ∙ ap (λ (t : Bool). t and non (between past low n a))
     (sym (mem-those (λ b. mem left b and non (mem one b)) a l
     ∙ ap (λ (t : Bool). mem left a and non t) (mem-those (λ b. eqb b (getD past (low + n) 0)) a l)))))
@@ -221,7 +211,8 @@ blocks-next σ i h =
     or-r _ _ (and-i _ _ (true→T (eq-eqb j (length (take i σ) / 8) (sym (eqb→eq (p .0 / 8) j (and-l _ _ (p .2))) ∙ ap (λ (n : ℕ). n / 8) (same ∙ sym short))))
     (subst (λ (n : ℕ). T (eqb x (getD σ n 0))) same here)))
     (λ q.
-    let before : p .0 < i = less (p .0) near (λ s. q (true→T (eq-eqb (p .0) i s))) in
+    let apart = eqb-false (p .0) i (F→false _ q) in
+    let before : p .0 < i = omega (arith, apart, near) in
     or-l _ _ (some-i (length (take i σ)) _ (p .0) (subst (λ (n : ℕ). p .0 < n) (sym short) before)
     (and-i _ _ (and-l _ _ (p .2)) (subst (λ (n : ℕ). T (eqb x n)) (sym (getD-take i σ (p .0) 0 before)) here))))))
   where
@@ -230,10 +221,6 @@ blocks-next σ i h =
 
     long : length (take (i + 1) σ) ≡ i + 1
     long = length-take-le (i + 1) σ (omega (arith, h))
-
-    less : (p : ℕ) → p < i + 1 → (p ≡ i → ⊥) → p < i
-    less p l ne = either (split (ltb p i)) (λ b. ltb-true p i (T→true _ b))
-        (λ b. absurd (ne (let g = ltb-false p i (F→false _ b) in omega (arith, g, l))))
 
     go : (j x : ℕ) → T (someBelow (length (take i σ)) (λ p. eqb (p / 8) j and eqb x (getD (take i σ) p 0)))
         ⊎ T (eqb j (length (take i σ) / 8) and eqb x (getD σ i 0))

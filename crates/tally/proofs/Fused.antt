@@ -5,10 +5,10 @@ use mathlib.Core.List.{List, [], _∷_}
 use Prim.Native.Nat.{ℕ, _+_, _*_, _<_}
 use native.Mathlib.Omega.{arith}
 use borrow.Author.Tests.{ltb-true, ltb-false}
-use lib.Dec.{T, ltb}
+use lib.Dec.{ltb}
 use lib.ListN.{set}
 use lib.Seq.{set-comm}
-use Rattle.sets.specs.Tests.{_or_, when_then_else_}
+use Rattle.sets.specs.Tests.{_or_}
 use Rattle.sets.specs.Members.{width, mem, those}
 use Rattle.sets.specs.Rows.{rowAt}
 use Rattle.sets.specs.Tables.{tableAt, withRowIn}

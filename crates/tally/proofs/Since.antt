@@ -92,7 +92,7 @@ look-start past e wanted h =
     }
 
 -- a set without its members of another is what it was, less those
-regroup : (a b c : Bool) → (a and non b and non c) ≡ (a and non (b or c))
+pub regroup : (a b c : Bool) → (a and non b and non c) ≡ (a and non (b or c))
 unfolding _and_ _or_ non
 regroup true true c = refl
 regroup true false c = refl
