@@ -1,4 +1,4 @@
-//! The benchmark: ns an event for judging, mining and replaying, on six shapes of log and
+//! The benchmark: ns an event for judging, mining and replaying, on ten shapes of log and
 //! at growing sizes; the yardstick, and beside it the proved code where it is linked.
 //!
 //! All calls go through the functions of `port`, so both do the same work from the
@@ -138,16 +138,29 @@ fn head(linked: bool) {
     println!("{line}");
 }
 
-fn row(doors: &[Door], sample: &Sample) {
+/// Prints the row; it gives, for each column, the ratio to the yardstick where there is one.
+fn row(doors: &[Door], sample: &Sample) -> [Option<f64>; 7] {
     let mut line = format!("{:<14}{:>7}", sample.name, sample.events);
     line += &format!("{:>7}", sample.traces.len());
-    for column in figures(doors, sample) {
+    let columns = figures(doors, sample);
+    for column in &columns {
         line += &format!("{:>12.2}", column[0]);
         for theirs in &column[1..] {
             line += &format!("{theirs:>9.2}{:>7.2}", theirs / column[0]);
         }
     }
     println!("{line}");
+    columns.map(|column| column.get(1).map(|theirs| theirs / column[0]))
+}
+
+/// Mean and worst ratio of mining, in both profiles, over all rows.
+fn ratios(rows: &[[Option<f64>; 7]]) {
+    for (k, name) in [(2, COLUMNS[2]), (3, COLUMNS[3])] {
+        let all: Vec<f64> = rows.iter().filter_map(|row| row[k]).collect();
+        let worst = all.iter().copied().fold(0.0, f64::max);
+        let mean = all.iter().sum::<f64>() / all.len() as f64;
+        println!("{name}, port by yardstick: mean {mean:.2}, worst {worst:.2}");
+    }
 }
 
 /// So many steps of a call are one turn's work.
@@ -334,11 +347,17 @@ fn main() {
         return replays(&doors);
     }
     head(doors.len() == 2);
-    row(&doors, &sample("small", small(3)));
+    let mut rows = vec![row(&doors, &sample("small", small(3)))];
     for (name, shape) in SHAPES {
         for size in SIZES {
-            row(&doors, &sample(name, of_size(shape, size, 11)));
+            rows.push(row(&doors, &sample(name, of_size(shape, size, 11))));
         }
+    }
+    if doors.len() > 1 {
+        ratios(&rows);
+    }
+    if asked("--rows") {
+        return;
     }
     steps(&doors);
     ways(&doors);

@@ -1,8 +1,8 @@
 use borrow.Author.Needs.{needs}
 use Rattle.sets.proofs.Members.{those-mem}
 use Rattle.tally.proofs.Since.{Looked, look-start, look-next, look-stop, look-empty, look-end, look-down}
-use Rattle.tally.proofs.passes.unmet.Statement.{statement}
-use Rattle.tally.proofs.passes.unmet.Tie as tie
+use Rattle.tally.proofs.look_back.unmet.Statement.{statement}
+use Rattle.tally.proofs.look_back.unmet.Tie as tie
 
 abbrev Inv-loop : tie.InvT-loop
 Inv-loop past e left₀ i₀ left i = Looked past (e .0) left₀ left i
