@@ -76,7 +76,7 @@ use Rattle.finish.proofs.search.finish.Reads as finish
 use Rattle.finish.proofs.shut.shut_by.Reads as shut-by
 use Rattle.calllog.proofs.judge.judge_log.Reads as judge-log
 use Rattle.calllog.proofs.judge.all_below.Reads as all-below
-use Rattle.calllog.proofs.traces.Reads as traces
+use Rattle.calllog.proofs.trace.trace_count.Reads as trace-count
 use Rattle.calllog.proofs.trace.trace_part.Reads as trace-part
 use Rattle.calllog.proofs.trace.trace_at.Reads as trace-at
 use Rattle.calllog.proofs.trace.find_trace.Reads as find-trace
@@ -400,8 +400,8 @@ judge-log-once κ a r r′ s s′ h h′ = h ∙ sym h′
 pub all-below-once : Once all-below.Post
 all-below-once κ a r r′ s s′ h h′ = h ∙ sym h′
 
-pub traces-once : Once traces.Post
-traces-once κ a r r′ s s′ h h′ = h ∙ sym h′
+pub trace-count-once : Once trace-count.Post
+trace-count-once κ a r r′ s s′ h h′ = h ∙ sym h′
 
 pub trace-part-once : Once trace-part.Post
 trace-part-once κ a r r′ s s′ h h′ = h ∙ sym h′
