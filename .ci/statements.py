@@ -129,8 +129,10 @@ def outcome_of(symbol, said, modules, theorem):
     params = said["function"]["params"]
     places = ["s" + " .1" * i + " .0" for i, param in enumerate(params) if param["ty"]["name"].endswith("RefMut")]
     lent = bool(places)
-    gives = said["function"]["result"]["name"] != "unit"
-    if kind != {(True, True): "OnceLent", (True, False): "OnceLeft"}.get((lent, gives), "Once"):
+    result = said["function"]["result"]["name"]
+    gives = result != "unit"
+    plain = "OnceSeen" if "Ref" in result else "Once"  # of a reference the contract says what it shows
+    if kind != {(True, True): "OnceLent", (True, False): "OnceLeft"}.get((lent, gives), plain):
         faults.append(f"{PROMISES}/Outcomes.antt: the theorem of {symbol} is not of all that it gives and leaves")
     for place in places:
         if f"now ({place})" not in left:

@@ -62,7 +62,7 @@ pub fn activities(bytes: &[u8]) -> u8
     byte_at(bytes, ACTIVITIES_AT)
 }
 
-// T, as the head has it: of an accepted log, how many traces it has.
+// T.
 pub fn traces(bytes: &[u8]) -> u16
     ensures { λ r. ⌜ r ≡ tracesIn (now (bytes .entry)) ⌝ }
 {

@@ -6,7 +6,6 @@ pub mod trace;
 
 pub use judge::Judged;
 pub use layout::MOST_TRACES;
-pub use layout::traces;
 pub use reader::LogReader;
 pub use trace::Asked;
 pub use trace::Found;

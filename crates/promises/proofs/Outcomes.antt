@@ -27,13 +27,20 @@ use Rattle.sets.proofs.rows.empty.Reads as empty
 use Rattle.sets.proofs.rows.row.Reads as row
 use Rattle.sets.proofs.rows.put.Reads as put
 use Rattle.sets.proofs.rows.join.Reads as join
+use Rattle.sets.proofs.rows.lose.Reads as lose
 use Rattle.sets.proofs.rows.turned.Reads as turned
 use Rattle.sets.proofs.tables.row.Reads as tables-row
 use Rattle.sets.proofs.tables.put.Reads as tables-put
 use Rattle.sets.proofs.tables.join.Reads as tables-join
 use Rattle.sets.proofs.tables.put_rows.Reads as tables-put-rows
 use Rattle.sets.proofs.tables.taken.Reads as tables-taken
-use Rattle.sets.proofs.opening.opens_with.Reads as opens-with
+use Rattle.bytes.proofs.room.too_few.Reads as too-few
+use Rattle.bytes.proofs.opening.opens_with.Reads as opens-with
+use Rattle.bytes.proofs.number.byte_at.Reads as byte-at
+use Rattle.bytes.proofs.number.number_at.Reads as number-at
+use Rattle.bytes.proofs.number.put_number.Reads as put-number
+use Rattle.bytes.proofs.set.set_at.Reads as set-at
+use Rattle.bytes.proofs.set.put_set.Reads as put-set
 use Rattle.engine.proofs.marking.State.of.Reads as State-of
 use Rattle.engine.proofs.marking.State.opening.Reads as State-opening
 use Rattle.engine.proofs.enabled.enabled_set.Reads as enabled-set
@@ -72,12 +79,15 @@ use Rattle.finish.proofs.search.finish.Reads as finish
 use Rattle.finish.proofs.shut.shut_by.Reads as shut-by
 use Rattle.calllog.proofs.judge.judge_log.Reads as judge-log
 use Rattle.calllog.proofs.judge.all_below.Reads as all-below
+use Rattle.calllog.proofs.trace.trace_count.Reads as trace-count
 use Rattle.calllog.proofs.trace.trace_part.Reads as trace-part
+use Rattle.calllog.proofs.trace.trace_at.Reads as trace-at
 use Rattle.calllog.proofs.trace.find_trace.Reads as find-trace
 use Rattle.calllog.proofs.trace.ask.Reads as log-ask
 use Rattle.graphfile.proofs.reader.read.Reads as read
 use Rattle.graphfile.proofs.reader.read_bare.Reads as read-bare
 use Rattle.graphfile.proofs.writer.write.Reads as write
+use Rattle.graphfile.proofs.writer.write_unjudged.Reads as write-unjudged
 use Rattle.graphfile.proofs.head.read_head.Reads as read-head
 use Rattle.graphfile.proofs.marking.read_marking_at.Reads as read-marking-at
 use Rattle.graphfile.proofs.marking.write_marking_at.Reads as write-marking-at
@@ -143,6 +153,11 @@ module _ {K : Type 0} {A : K → Type 0} {R : K → Type 0} {E : K → Type 0} (
   -- two calls with the same arguments give the same
   abbrev Once : Type 0
   Once = (κ : K) (a : A κ) (r r′ : R κ) (s s′ : E κ) → Post κ a r s → Post κ a r′ s′ → r ≡ r′
+
+  -- where what is given is a part of what was lent: it shows the same
+  module _ {X : Type 0} (shown : (κ : K) → R κ → X) where
+    abbrev OnceSeen : Type 0
+    OnceSeen = (κ : K) (a : A κ) (r r′ : R κ) (s s′ : E κ) → Post κ a r s → Post κ a r′ s′ → shown κ r ≡ shown κ r′
 
   module _ {X : Type 0} (left : (κ : K) → E κ → X) where
     -- where something is lent by `&mut` and nothing is given: they leave the same
@@ -223,6 +238,9 @@ put-once κ a r r′ s s′ h h′ = h ∙ sym h′
 pub join-once : OnceLeft join.Post (λ κ s. now (s .0))
 join-once κ a r r′ s s′ h h′ = h ∙ sym h′
 
+pub lose-once : OnceLeft lose.Post (λ κ s. now (s .0))
+lose-once κ a r r′ s s′ h h′ = h ∙ sym h′
+
 pub turned-once : Once turned.Post
 turned-once κ a r r′ s s′ h h′ = h ∙ sym h′
 
@@ -243,10 +261,28 @@ tables-put-rows-once κ a r r′ s s′ h h′ = h ∙ sym h′
 pub tables-taken-once : Once tables-taken.Post
 tables-taken-once κ a r r′ s s′ h h′ = h ∙ sym h′
 
--- ---- sets: what files open with
+-- ---- bytes
+
+pub too-few-once : Once too-few.Post
+too-few-once κ a r r′ s s′ h h′ = h ∙ sym h′
 
 pub opens-with-once : Once opens-with.Post
 opens-with-once κ a r r′ s s′ h h′ = h ∙ sym h′
+
+pub byte-at-once : Once byte-at.Post
+byte-at-once κ a r r′ s s′ h h′ = h ∙ sym h′
+
+pub number-at-once : Once number-at.Post
+number-at-once κ a r r′ s s′ h h′ = h ∙ sym h′
+
+pub put-number-once : OnceLeft put-number.Post (λ κ s. now (s .0))
+put-number-once κ a r r′ s s′ h h′ = h ∙ sym h′
+
+pub set-at-once : Once set-at.Post
+set-at-once κ a r r′ s s′ h h′ = h ∙ sym h′
+
+pub put-set-once : OnceLeft put-set.Post (λ κ s. now (s .0))
+put-set-once κ a r r′ s s′ h h′ = h ∙ sym h′
 
 -- ---- engine
 
@@ -379,8 +415,14 @@ judge-log-once κ a r r′ s s′ h h′ = h ∙ sym h′
 pub all-below-once : Once all-below.Post
 all-below-once κ a r r′ s s′ h h′ = h ∙ sym h′
 
+pub trace-count-once : Once trace-count.Post
+trace-count-once κ a r r′ s s′ h h′ = h ∙ sym h′
+
 pub trace-part-once : Once trace-part.Post
 trace-part-once κ a r r′ s s′ h h′ = h ∙ sym h′
+
+pub trace-at-once : OnceSeen trace-at.Post (λ κ r. now r)
+trace-at-once κ a r r′ s s′ h h′ = h ∙ sym h′
 
 pub find-trace-once : Once find-trace.Post
 find-trace-once κ a r r′ s s′ h h′ = h ∙ sym h′
@@ -413,6 +455,9 @@ read-bare-once κ a r r′ s s′ h h′ = h ∙ sym h′
 
 pub write-once : OnceLent write.Post (λ κ s. now (s .1 .0))
 write-once κ a r r′ s s′ h h′ = (h .0 ∙ sym (h′ .0), h .1 ∙ sym (h′ .1))
+
+pub write-unjudged-once : OnceLent write-unjudged.Post (λ κ s. now (s .1 .1 .0))
+write-unjudged-once κ a r r′ s s′ h h′ = (h .0 ∙ sym (h′ .0), h .1 ∙ sym (h′ .1))
 
 pub read-head-once : Once read-head.Post
 read-head-once κ a r r′ s s′ h h′ = h ∙ sym h′

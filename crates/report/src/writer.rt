@@ -61,7 +61,7 @@ fn put_graph(out: &mut [u8], log: &[u8], g: Graph) -> usize
     requires { ⌜ 0 + length (graphText g (now log)) ≤ length (now out) ⌝ }
     ensures { λ r. ⌜ Put (now (out .entry)) 0 (graphText g (now (log .entry))) (now (out .exit)) r ⌝ }
 {
-    let traces = calllog::traces(log) as usize;
+    let traces = calllog::trace::trace_count(log);
     put_lines(out, log, traces, g.head, &g.relations)
 }
 
