@@ -100,3 +100,11 @@ def nightly(folder):
     gave = folder.run("./nightly", "calls")
     wanted = b"a.log\n" + listing + one + b"b.log\n" + listing + two + b"c.log\n" + listing + b"refused 18\nd.log\nrefused 2\n"
     same((gave.status, gave.out, gave.err.count("\n")), (1, wanted, 2), "labels that do not fit, and no log")
+
+
+@test("./nightly prints what it printed when 9/12 had landed, byte for byte: each kind of log, of labels and of refusal (02, 11/12)")
+def nightly_as_before(folder):
+    gave = folder.run("./nightly", os.path.join(ROOT, "tools", "tests", "nightly"))
+    same((gave.status, gave.out), (1, read("tools", "tests", "nightly.printed")), "what ./nightly printed before light became the listing's default")
+    said = [line.split(": ")[1:3] for line in gave.err.splitlines()]
+    same(said, [["cut.log", "1"], ["few.log", "18"], ["two.log", "19"], ["no labels beside no-labels.log"]], "what it said beside")
