@@ -89,7 +89,7 @@ def nightly(folder):
     sample = read("data", "L.log")
     for name, data in (("b.log", sample), ("b.labels", b"11"), ("a.log", sample), ("a.labels", b"10"), ("c.log", sample), ("d.log", b"no log")):
         folder.put(os.path.join("calls", name), data)
-    listing = folder.run("./list", "data/L.log").out
+    listing = folder.run("./list", "full", "data/L.log").out
     one = b"TP 1\nFP 1\nFN 0\nTN 0\nprecision 1 2\nrecall 1 1\naccuracy 1 2\n"
     two = b"TP 2\nFP 0\nFN 0\nTN 0\nprecision 2 2\nrecall 2 2\naccuracy 2 2\n"
     gave = folder.run("./nightly", "calls")
