@@ -75,7 +75,7 @@ the-word-light r c = choose-said lightWord 1 r c
 -- ================ NOTHING ELSE MOVED
 
 -- what the arguments meant before, in the words of 3/12: full if there is none
-choiceBefore : ℕ → List ℕ → Choice
+unfoldable pub choiceBefore : ℕ → List ℕ → Choice
 choiceBefore count argument =
     when eqb count 0 then Listing Full
     else when ltb 1 count then Refused WrongArgument
@@ -148,9 +148,9 @@ module _ (log before : List ℕ) (r : Listed) (after : List ℕ) where
     written p h =
         let enough = le-ltb (length before) longestListing room in
         let given : r .length ≡ length (listingOf log p) =
-          ap (λ (x : Listed). x .length) (h .0) ∙ ap (λ (b : Bool). (when b then tooSmall else whole p) .length) enough in
+        ap (λ (x : Listed). x .length) (h .0) ∙ ap (λ (b : Bool). (when b then tooSmall else whole p) .length) enough in
         let held : after ≡ listingOf log p ++ drop (length (listingOf log p)) before =
-          h .1 ∙ ap (λ (b : Bool). when b then before else listingOf log p ++ drop (length (listingOf log p)) before) enough in
+        h .1 ∙ ap (λ (b : Bool). when b then before else listingOf log p ++ drop (length (listingOf log p)) before) enough in
         (λ i. take (given i) (held i)) ∙ take-append-seam (listingOf log p) (drop (length (listingOf log p)) before)
       where
         tooSmall : Listed
