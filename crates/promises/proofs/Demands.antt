@@ -62,6 +62,7 @@ use Rattle.graphfile.proofs.Codec.{Bytes}
 use Rattle.graphfile.proofs.GraphFile.{Machine}
 use Rattle.graphfile.proofs.RoundTrips.{written-then-read, read-then-written}
 use Rattle.rules.specs.declared.Profile.{Profile}
+use Rattle.rules.specs.Mined.{minedGraph}
 use Rattle.rules.proofs.FromFile.{file-accepted}
 use Rattle.miner.specs.Mine.{minedOf}
 use Rattle.miner.specs.declared.mining.Mined.{Mined}
@@ -257,12 +258,14 @@ module _ (g : Graph) where
 
 -- ---- the mined graph is, pair for pair, the one that the rules give, in either profile
 
-pub mine-pairs : (bytes : List ℕ) (p : Profile) (r : Mined) → mine-gives bytes p r → numberOf (r .answer) ≡ 0
-    → PairForPair (logOf bytes .activities) (logOf bytes .traces) p (r .graph)
-mine-pairs bytes p r c d =
-    subst (PairForPair (logOf bytes .activities) (logOf bytes .traces) p)
-    (sym (ap (λ (x : Mined). x .graph) (mine-said bytes p r c) ∙ mined-graph bytes p (sym (the-mined bytes p r c) ∙ done-by _ d)))
-    (pairs (logOf bytes .activities) (logOf bytes .traces) (file-accepted bytes) p)
+module _ (bytes : List ℕ) (p : Profile) (r : Mined) (c : mine-gives bytes p r) (d : numberOf (r .answer) ≡ 0) where
+  pub mine-graph : r .graph ≡ minedGraph (logOf bytes .activities) (logOf bytes .traces) p
+  mine-graph = ap (λ (x : Mined). x .graph) (mine-said bytes p r c) ∙ mined-graph bytes p (sym (the-mined bytes p r c) ∙ done-by _ d)
+
+  pub mine-pairs : PairForPair (logOf bytes .activities) (logOf bytes .traces) p (r .graph)
+  mine-pairs =
+      subst (PairForPair (logOf bytes .activities) (logOf bytes .traces) p) (sym mine-graph)
+      (pairs (logOf bytes .activities) (logOf bytes .traces) (file-accepted bytes) p)
 
 -- ---- the bit-set engine answers as the set rules do, for a graph and a marking that are not refused
 

@@ -20,3 +20,5 @@ pub mod FinishAtPlace
 pub mod ShutOut
 pub mod NotRedundant
 pub mod Marks
+pub mod Together
+pub mod SameTraces
