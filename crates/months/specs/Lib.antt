@@ -1,0 +1,4 @@
+pub mod Layout
+pub mod Tallies
+pub mod Readings
+pub mod Months

@@ -1,0 +1,2 @@
+// Months put together (02, 12/12): a log's tally in lent bytes, two tallies in one, and the relations after step 8 that a tally gives.
+pub mod reading;
