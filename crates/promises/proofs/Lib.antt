@@ -21,4 +21,5 @@ pub mod ShutOut
 pub mod NotRedundant
 pub mod Marks
 pub mod Together
+pub mod Joining
 pub mod SameTraces
