@@ -62,6 +62,7 @@ use Rattle.graphfile.proofs.Codec.{Bytes}
 use Rattle.graphfile.proofs.GraphFile.{Machine}
 use Rattle.graphfile.proofs.RoundTrips.{written-then-read, read-then-written}
 use Rattle.rules.specs.declared.Profile.{Profile}
+use Rattle.rules.specs.Mining.{mined}
 use Rattle.rules.specs.Mined.{minedGraph}
 use Rattle.rules.proofs.FromFile.{file-accepted}
 use Rattle.miner.specs.Mine.{minedOf}
@@ -262,9 +263,9 @@ module _ (bytes : List ℕ) (p : Profile) (r : Mined) (c : mine-gives bytes p r)
   pub mine-graph : r .graph ≡ minedGraph (logOf bytes .activities) (logOf bytes .traces) p
   mine-graph = ap (λ (x : Mined). x .graph) (mine-said bytes p r c) ∙ mined-graph bytes p (sym (the-mined bytes p r c) ∙ done-by _ d)
 
-  pub mine-pairs : PairForPair (logOf bytes .activities) (logOf bytes .traces) p (r .graph)
+  pub mine-pairs : PairForPair (logOf bytes .activities) (logOf bytes .traces) (mined (logOf bytes .traces) p) (r .graph)
   mine-pairs =
-      subst (PairForPair (logOf bytes .activities) (logOf bytes .traces) p) (sym mine-graph)
+      subst (PairForPair (logOf bytes .activities) (logOf bytes .traces) (mined (logOf bytes .traces) p)) (sym mine-graph)
       (pairs (logOf bytes .activities) (logOf bytes .traces) (file-accepted bytes) p)
 
 -- ---- the bit-set engine answers as the set rules do, for a graph and a marking that are not refused

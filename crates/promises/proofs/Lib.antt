@@ -22,4 +22,5 @@ pub mod NotRedundant
 pub mod Marks
 pub mod Together
 pub mod Joining
+pub mod TallyBuffers
 pub mod SameTraces

@@ -3,3 +3,4 @@ pub mod Demanded
 pub mod Counted
 pub mod Redundant
 pub mod SameTraces
+pub mod Months
