@@ -9,20 +9,20 @@ use native.Mathlib.Omega.{arith}
 use lib.Arith.{bin-ind}
 use lib.Bits.{bitOr, or-step, or-shr, or-mod, or-lt, or-self, or-comm}
 use lib.Dec.{ltb}
-use lib.ListN.{length, getD, set, length-append, length-set}
+use lib.ListN.{length, set, length-set}
 use lib.Seq.{getD-set-same, set-getD}
 use Rattle.sets.specs.Tests.{_or_, non, when_then_else_}
 use Rattle.sets.specs.Members.{width, bitsOf, those}
 use Rattle.sets.specs.Files.{littleEndian}
-use Rattle.sets.specs.declared.set.Set.{Set}
 use Rattle.sets.proofs.Bits.{bitsOf-lt, is-bitsOf, bit-or, bit-bitsOf}
 use Rattle.bytes.specs.Sets.{setLength, setBytes}
 use Rattle.bytes.proofs.SetLaws as set-laws
 use Rattle.rules.specs.Traces.{Traces}
 use Rattle.rules.specs.Mining.{event, before, precedes, answers, chained, alternates, followed, between}
-use Rattle.months.specs.Layout.{setCount, tallyLength, firstRow, rowsEnd, firstPair, setsFrom, activitiesIn}
+use Rattle.months.specs.Layout.{setCount, firstRow, rowsEnd, firstPair, setsFrom, activitiesIn}
 use Rattle.months.specs.Tallies.{asked, held, tallyOf}
 use Rattle.months.specs.Months.{bytesOr, joined}
+use Rattle.months.proofs.HeldSets.{sets-length}
 use Rattle.promises.proofs.Together.{some-together, broken-together}
 
 -- ---- any bytes
@@ -133,12 +133,6 @@ module _ (p q : ℕ → ℕ → Bool) where
       (set-laws.length-set (those (p w)) ∙ sym (set-laws.length-set (those (q w))))
       ∙ ap₂ _++_ (sets-or (p w) (q w)) (all-or n (suc w))
 
-sets-length : (n w : ℕ) (f : ℕ → Set) → length (setsFrom n w f) ≡ n * setLength
-unfolding setsFrom
-sets-length zero w f = refl
-sets-length (suc n) w f =
-    length-append (setBytes (f w)) (setsFrom n (suc w) f) ∙ omega (arith, set-laws.length-set (f w), sets-length n (suc w) f)
-
 -- ---- what a tally holds, of the traces of both
 
 module _ (L M : Traces) where
@@ -183,10 +177,6 @@ module _ (L M : Traces) where
 -- ---- tallies
 
 module _ (A : ℕ) (L : Traces) where
-  pub tally-length : length (tallyOf A L) ≡ tallyLength
-  unfolding tallyOf
-  tally-length = length-set (setsFrom setCount 0 _) 0 A ∙ sets-length setCount 0 _
-
   pub tally-activities : activitiesIn (tallyOf A L) ≡ A
   unfolding tallyOf
   tally-activities = getD-set-same (setsFrom setCount 0 _) 0 A 0 (omega (arith, sets-length setCount 0 (λ w. those (held L w))))

@@ -10,6 +10,9 @@ use borrow.Author.Tests.{le-ltb, ltb-false}
 use lib.ListN.{length, take, drop, take-append-drop}
 use lib.Seq.{length-take-le, getD-take, take-at, drop-at}
 use Rattle.sets.specs.Tests.{_or_, when_then_else_}
+use Rattle.sets.specs.Members.{noSet, those}
+use Rattle.sets.specs.Tables.{noTables}
+use Rattle.sets.specs.declared.set.Set.{Set}
 use Rattle.sets.specs.Answers.{isDone}
 use Rattle.sets.specs.Sizes.{mostActivities}
 use Rattle.sets.specs.declared.answer.Answer.{Answer}
@@ -17,16 +20,23 @@ use Rattle.sets.specs.declared.answer.Answer.the-variants.{Done, AboveLimit, Bu
 use Rattle.sets.proofs.Tests.{neither, nor, or-comm, T→true, F→false, split, either}
 use Rattle.sets.proofs.Asking.{done-is, went}
 use Rattle.bytes.proofs.Parts.{part-room}
+use Rattle.engine.specs.Relations.{relationCount, tablesFrom}
 use Rattle.calllog.specs.Logs.{logOf}
+use Rattle.rules.specs.declared.Profile.{Profile}
 use Rattle.rules.specs.Traces.{Traces}
+use Rattle.rules.specs.Mining.{event, afterEight}
 use Rattle.rules.specs.Replays.{Accepted}
 use Rattle.rules.proofs.FromFile.{file-accepted}
-use Rattle.months.specs.Layout.{tallyLength, activitiesIn}
+use Rattle.months.specs.Layout.{tallyLength, activitiesIn, setIn}
 use Rattle.months.specs.Tallies.{tallyOf}
-use Rattle.months.specs.Months.{room, tooFew, tooMany, fillAnswer, filledOf, joinAnswer, joined, joinedOf, knownAnswer}
+use Rattle.months.specs.Readings.{tablesIn, betweenIn, relationsFrom}
+use Rattle.months.specs.declared.reading.Known.{Known}
+use Rattle.months.specs.Months.{room, tooFew, tooMany, fillAnswer, filledOf, joinAnswer, joined, joinedOf, knownAnswer, knownOf}
+use Rattle.months.proofs.HeldSets.{tally-length, events-in, tables-in, between-in}
+use Rattle.months.proofs.EightRead.{eight-read}
 use Rattle.promises.specs.Months.{TallyOf}
 use Rattle.promises.proofs.Together.{of-either}
-use Rattle.promises.proofs.Joining.{joined-comm, joined-assoc, joined-self, joined-length, tally-length, tally-activities, tallies-joined}
+use Rattle.promises.proofs.Joining.{joined-comm, joined-assoc, joined-self, joined-length, tally-activities, tallies-joined}
 
 -- ---- a buffer with a tally
 
@@ -46,6 +56,32 @@ module _ {t : List ℕ} {A : ℕ} {L : Traces} (h : TallyOf t A L) where
   pub known-done : knownAnswer t ≡ Done
   unfolding knownAnswer
   known-done i = room (enough i) (not-above i)
+
+  -- ---- what is read from it
+
+  whole : t ≡ tallyOf A L ++ drop tallyLength t
+  whole = sym (take-append-drop tallyLength t) ∙ ap (λ (l : List ℕ). l ++ drop tallyLength t) (h .tally)
+
+  its-events : setIn t 1 ≡ those (event L)
+  its-events = ap (λ (l : List ℕ). setIn l 1) whole ∙ events-in A L (drop tallyLength t)
+
+  its-relations : (p : Profile) → relationsFrom (setIn t 1) (tablesIn t) (betweenIn t) p ≡ tablesFrom (afterEight L p)
+  its-relations p =
+      (λ i. relationsFrom (its-events i) ((ap tablesIn whole ∙ tables-in A L (drop tallyLength t)) i) (betweenIn t) p)
+      ∙ eight-read L (betweenIn t)
+      (λ u s lu ls. ap (λ (l : List ℕ). betweenIn l u s) whole ∙ between-in A L (drop tallyLength t) u s lu ls) p
+
+  -- THE THEOREM of reading: A, the events and the relations of steps 1 to 8
+  pub known-eight : (p : Profile)
+      → knownOf t p ≡ record { answer = Done; activities = A; events = those (event L); relations = tablesFrom (afterEight L p) }
+  unfolding knownOf
+  known-eight p =
+      ap (λ (a : Answer). when isDone a then known Done (activitiesIn t) (setIn t 1) (relationsFrom (setIn t 1) (tablesIn t) (betweenIn t) p)
+      else known a 0 noSet (noTables relationCount)) known-done
+      ∙ (λ i. known Done (its-activities i) (its-events i) (its-relations p i))
+    where
+      known : Answer → ℕ → Set → List ℕ → Known
+      known a n e r = record { answer = a; activities = n; events = e; relations = r }
 
 -- ---- joining, where it is done
 
