@@ -23,4 +23,5 @@ pub mod Marks
 pub mod Together
 pub mod Joining
 pub mod TallyBuffers
+pub mod AbsentSteps
 pub mod SameTraces
