@@ -24,15 +24,19 @@ tablesIn tally = tablesOf tableCount (λ k a x. mem (setIn tally (rowSet k a)) x
 abbrev pub betweenIn : List ℕ → ℕ → ℕ → Set
 betweenIn tally u s = setIn tally (pairSet u s)
 
--- row t: the events that include t after step 6: those of the chains, and what stands between a t and an earlier s that t never directly follows
+-- row t: what t never directly follows (step 6)
+abbrev pub unfollowing : Set → List ℕ → List ℕ
+unfollowing events tables = rowsOf (turned (neverOf events tables))
+
+-- row t: the events that include t after step 6: by its chains, and what stands between an s that t never directly follows and a later t
 unfoldable pub includers : Set → List ℕ → List ℕ → (ℕ → ℕ → Set) → Relation
 includers events chains never between t u =
-    mem events u and (inRow chains t u or someBelow width (λ s. inRow never s t and mem (between s t) u))
+    mem events u and (inRow chains t u or someBelow width (λ s. inRow never t s and mem (between s t) u))
 
 -- the includes after step 6, which the light profile skips
 abbrev pub includesIn : Profile → Set → List ℕ → (ℕ → ℕ → Set) → List ℕ
 includesIn Full events tables between =
-    rowsOf (turned (rowsFor events (includers events (chainsOf events tables) (neverOf events tables) between)))
+    rowsOf (turned (rowsFor events (includers events (chainsOf events tables) (unfollowing events tables) between)))
 includesIn Light events tables between = rowsOf (turned (chainsOf events tables))
 
 -- row s: the events that alternately precede s (step 7)
