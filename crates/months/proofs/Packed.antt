@@ -78,6 +78,7 @@ module _ (n k : ℕ) (f : ℕ → Set) (tail : List ℕ) (h : k < n) where
 stored-over : (p x y rest : List ℕ) (i n : ℕ) → length p ≡ i → length x ≡ n → length y ≡ n → sets (p ++ (x ++ rest)) i y ≡ p ++ (y ++ rest)
 stored-over p x y rest i n hp hx hy =
     sets-eq y (p ++ (x ++ rest)) i (omega (arith, length-append p (x ++ rest), length-append x rest))
+    ∙ append-assoc (take i (p ++ (x ++ rest))) y (drop (i + length y) (p ++ (x ++ rest)))
     ∙ ap₂ (λ (a b : List ℕ). a ++ (y ++ b)) (take-at p (x ++ rest) i hp)
     (ap (λ (m : ℕ). drop m (p ++ (x ++ rest))) (ap₂ _+_ (sym hp) hy) ∙ drop-append-add p (x ++ rest) n ∙ drop-at x rest n hx)
 
@@ -89,7 +90,7 @@ pub put-from : (n k : ℕ) (f : ℕ → Set) (tail : List ℕ) (s : Set) → k <
 put-from n k f tail s h =
     put-there (setsFrom n 0 f ++ tail) (setLength * k) s (room-for n k f tail h)
     ∙ ap (λ (l : List ℕ). sets l (setLength * k) (setBytes s)) (among n k f tail h)
-    ∙ stored-over (setsFrom k 0 f) (setBytes (f k)) (setBytes s) _ (setLength * k) setLength (place n k f tail h) (length-set (f k)) (length-set s)
+    ∙ stored-over (setsFrom k 0 f) (setBytes (f k)) (setBytes s) (setsFrom (n - suc k) (suc k) f ++ tail) (setLength * k) setLength (place n k f tail h) (length-set (f k)) (length-set s)
     ∙ (λ i. early i ++ (setBytes (here i) ++ (late i ++ tail)))
     ∙ sym (among n k (withSet f k s) tail h)
   where
@@ -100,7 +101,7 @@ put-from n k f tail s h =
     early = from-ext k 0 f (withSet f k s) (λ v a b. other v (λ e. omega arith))
 
     here : s ≡ withSet f k s k
-    here = ap (λ (t : Bool). when t then s else f k) (sym (T→true _ (eqb-refl k)))
+    here = ap (λ (t : Bool). when t then s else f k) (sym (T→true (eqb k k) (eqb-refl k)))
 
     late : setsFrom (n - suc k) (suc k) f ≡ setsFrom (n - suc k) (suc k) (withSet f k s)
     late = from-ext (n - suc k) (suc k) f (withSet f k s) (λ v a b. other v (λ e. omega arith))
@@ -148,6 +149,13 @@ module _ (base : ℕ → Set) (p : Pairs) where
       let b : (pairSet u s - firstPair) % width ≡ s = omega arith in
       over-high (pairSet u s) (omega arith) ∙ ap₂ (λ (x y : ℕ). those (p x y)) a b
 
+-- whose pair a set is
+abbrev first : ℕ → ℕ
+first w = (w - firstPair) / width
+
+abbrev second : ℕ → ℕ
+second w = (w - firstPair) % width
+
 by-low : (P : ℕ → Type 0) (w : ℕ) → (w < firstPair → P w) → (firstPair ≤ w → P w) → P w
 by-low P w low high =
     either (split (ltb w firstPair)) (λ t. low (ltb-true w firstPair (T→true _ t))) (λ f. high (ltb-false w firstPair (F→false _ f)))
@@ -169,7 +177,7 @@ module _ (base : ℕ → Set) (p : Pairs) (tail bytes : List ℕ) (h : bytes ≡
       (ap (λ (x : Set). those (mem x)) (over-pair base p u s ls) ∙ whole-those (p u s) ∙ sym (over-pair base p u s ls))
       ∙ over-pair base p u s ls
 
-  gaining : (ℕ → Bool) → Pairs
+  abbrev pub gaining : (ℕ → Bool) → Pairs
   gaining q x y v = p x y v or eqb x u and (eqb y s and q v)
 
   same-set : (q : ℕ → Bool) (w : ℕ) → w < setCount → withSet (over base p) (pairSet u s) (those (λ v. p u s v or q v)) w ≡ over base (gaining q) w
@@ -180,31 +188,25 @@ module _ (base : ℕ → Set) (p : Pairs) (tail bytes : List ℕ) (h : bytes ≡
       ∙ over-low base p w low ∙ sym (over-low base (gaining q) w low))
       (λ high. at high (eqb w (pairSet u s)) refl ∙ sym (over-high base (gaining q) w high))
     where
-      abbrev a : ℕ
-      a = (w - firstPair) / width
-
-      abbrev b : ℕ
-      b = (w - firstPair) % width
-
-      apart : firstPair ≤ w → (w ≡ pairSet u s → ⊥) → (v : ℕ) (t t′ : Bool) → eqb a u ≡ t → eqb b s ≡ t′ → (t and (t′ and q v)) ≡ false
+      apart : firstPair ≤ w → (w ≡ pairSet u s → ⊥) → (v : ℕ) (t t′ : Bool) → eqb (first w) u ≡ t → eqb (second w) s ≡ t′ → (t and (t′ and q v)) ≡ false
       apart high ne v false t′ e e′ = false-and (t′ and q v)
       apart high ne v true false e e′ = true-and (false and q v) ∙ false-and (q v)
-      apart high ne v true true e e′ = absurd (ne (omega (arith, eqb-true a u e, eqb-true b s e′)))
+      apart high ne v true true e e′ = absurd (ne (omega (arith, eqb-true (first w) u e, eqb-true (second w) s e′)))
 
       at : firstPair ≤ w → (t : Bool) → eqb w (pairSet u s) ≡ t
-          → (when t then those (λ v. p u s v or q v) else over base p w) ≡ those (gaining q a b)
+          → (when t then those (λ v. p u s v or q v) else over base p w) ≡ those (gaining q (first w) (second w))
       at high true e =
           let same : w ≡ pairSet u s = eqb-true w (pairSet u s) e in
-          let x : u ≡ a = omega arith in
-          let y : s ≡ b = omega arith in
+          let x : u ≡ first w = omega arith in
+          let y : s ≡ second w = omega arith in
           those-ext (λ v. p u s v or q v) (gaining q u s)
           (λ v l. ap (λ (t : Bool). p u s v or t) (sym (ap₂ (λ (c d : Bool). c and (d and q v)) (T→true _ (eqb-refl u)) (T→true _ (eqb-refl s))
           ∙ true-and (true and q v) ∙ true-and (q v))))
           ∙ ap₂ (λ (m n : ℕ). those (gaining q m n)) x y
       at high false e =
           over-high base p w high
-          ∙ those-ext (p a b) (gaining q a b)
-          (λ v l. sym (ap (λ (t : Bool). p a b v or t) (apart high (eqb-false w (pairSet u s) e) v (eqb a u) (eqb b s) refl refl) ∙ or-false (p a b v)))
+          ∙ those-ext (p (first w) (second w)) (gaining q (first w) (second w))
+          (λ v l. sym (ap (λ (t : Bool). p (first w) (second w) v or t) (apart high (eqb-false w (pairSet u s) e) v (eqb (first w) u) (eqb (second w) s) refl refl) ∙ or-false (p (first w) (second w) v)))
 
   pub gain-pair : (q : ℕ → Bool)
       → setPut bytes (setLength * pairSet u s) (those (λ v. mem (setIn bytes (pairSet u s)) v or q v)) ≡ packed base (gaining q) tail

@@ -28,7 +28,10 @@ pub const TABLES: u8 = 7;
 pub fn row(tally: &[u8], k: u8, a: Activity) -> Set
     ensures { λ r. ⌜ r ≡ setIn (now (tally .entry)) (rowSet k (a .0)) ⌝ }
 {
-    bytes::set_at(tally, set::LENGTH * (FIRST_ROW + WIDTH * k as usize + a.0 as usize))
+    bytes::set_at(
+        tally,
+        set::LENGTH * (FIRST_ROW + WIDTH * k as usize + a.0 as usize),
+    )
 }
 
 // Which set has what stands between a u and a later s.

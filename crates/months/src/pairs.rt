@@ -32,13 +32,11 @@ fn join_row(tally: &mut [u8], u: Activity, s: Activity, since: &Rows)
     bytes::put_set(tally, set::LENGTH * layout::pair_set(u, s), both);
 }
 
-// The same for every u that was seen; past the last activity there is no such set.
+// The same for every u that was seen.
 fn join_rows(tally: &mut [u8], seen: Set, s: Activity, since: &Rows)
+    requires { ⌜ s .0 < width ⌝ }
     ensures { λ _. ⌜ Gained (now (tally .entry)) (λ u x v. mem seen u and inRow (now (since .entry)) u v and eqb x (s .0)) (now (tally .exit)) ⌝ }
 {
-    if Activity::LIMIT <= s.0 {
-        return;
-    }
     let mut rest = seen;
     while !rest.is_empty() {
         join_row(tally, rest.least(), s, since);

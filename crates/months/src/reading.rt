@@ -1,6 +1,7 @@
 // The relations after step 8 that a tally gives (02, 12/12): by the miner's stages. What steps 6 and 7 would ask the traces, what stands between
 // two activities, they ask the sets of the pairs.
 ghost use mathlib.Core.Path.{_≡_};
+ghost use Rattle.sets.specs.Tests.{_and_};
 ghost use Rattle.sets.specs.Members.{width, mem, those, someBelow, noSet};
 ghost use Rattle.sets.specs.Rows.{rowsOf, rowsFor, turned};
 ghost use Rattle.sets.specs.Tables.{noTables};
