@@ -5,3 +5,5 @@ pub mod Gaining
 pub mod Bytewise
 pub mod Initial
 pub mod Extending
+pub mod Holding
+pub mod Answers
