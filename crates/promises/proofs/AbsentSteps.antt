@@ -11,7 +11,8 @@ use Rattle.sets.proofs.Tests.{and-l, and-r, or-e, or-l, or-r, imp-e, F→false,
 use Rattle.rules.specs.declared.Profile.{Profile}
 use Rattle.rules.specs.declared.Profile.the-variants.{Full, Light}
 use Rattle.rules.specs.Traces.{Traces, _has_, atEachFrom}
-use Rattle.rules.specs.Mining.{noPair, noRelations, _without_, event, _with_, precedes, step1, step2, step3, step4, step5, step6, step7, reduced, step8, afterFive, afterSix, afterSeven, afterEight}
+use Rattle.rules.specs.Mining.{noPair, noRelations, _without_, event, _with_, precedes, reduced, afterFive, afterSix, afterSeven, afterEight}
+use Rattle.rules.specs.Mining.{step1, step2, step3, step4, step5, step6, step7, step8}
 use Rattle.rules.proofs.Places.{every-of, some-of, some-trace}
 
 -- where each t has an s before it, a t has an s in its trace
