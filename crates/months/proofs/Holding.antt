@@ -25,6 +25,7 @@ use Rattle.rules.specs.Mining.{event, between}
 use Rattle.tally.specs.Passes.{through}
 use Rattle.tally.specs.Tallies.{tableCount, noted, tallied}
 use Rattle.tally.proofs.Tallying.{before-table, later-table, unpreceded-table, unanswered-table, unchained-table, unalternated-table, followed-table}
+use Rattle.miner.proofs.Composed.{events-by}
 use Rattle.months.specs.Layout.{setCount, tallyLength, firstRow, rowsEnd, firstPair, rowSet, pairSet, setsFrom, activitiesIn, setIn}
 use Rattle.months.specs.Tallies.{asked, held, tallyOf}
 use Rattle.months.specs.Pairs.{over, packed, Gained, initialOf}
@@ -140,3 +141,10 @@ module _ (L : Traces) where
     pub length-held : length (tallyOf A L) ≡ tallyLength
     unfolding tallyOf
     length-held = length-set (setsFrom setCount 0 (λ v. those (held L v))) 0 A ∙ length-from setCount 0 (λ v. those (held L v))
+
+-- from what the passes leave
+pub tally-filled : (A : ℕ) (L : Traces) (none tables : List ℕ) (events : Set) (t₁ t₂ tail : List ℕ) → none ≡ noTables tableCount
+    → events ≡ those (λ x. someTrace L (λ σ. σ has x)) → tables ≡ through noted none L
+    → t₁ ≡ setsFrom setCount 0 (initialOf events tables) ++ tail → Gained t₁ (λ u s v. between L u v s) t₂ → set t₂ 0 A ≡ tallyOf A L ++ tail
+tally-filled A L none tables events t₁ t₂ tail hn he ht h₁ g =
+    filled L events tables (events-by L events he) (ht ∙ ap (λ (x : List ℕ). through noted x L) hn) A t₁ t₂ (set t₂ 0 A) tail h₁ g refl

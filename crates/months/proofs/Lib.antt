@@ -7,3 +7,4 @@ pub mod Initial
 pub mod Extending
 pub mod Holding
 pub mod Answers
+pub mod FromTally
