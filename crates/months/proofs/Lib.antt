@@ -8,3 +8,4 @@ pub mod Extending
 pub mod Holding
 pub mod Answers
 pub mod FromTally
+pub mod AfterEight

@@ -1,7 +1,9 @@
-use mathlib.Core.Path.{_≡_}
-use Prim.Native.Nat.{_-_, _≤_}
+use mathlib.Core.Path.{_≡_, ap, _∙_}
+use Prim.Native.Nat.{_-_, _*_, _≤_}
 use borrow.Author.Needs.{needs}
-use Rattle.sets.specs.Members.{mem}
+use lib.ListN.{length}
+use Rattle.sets.specs.Members.{width, mem}
+use Rattle.sets.proofs.TableLaws.{length-tablesOf}
 use Rattle.tally.specs.Tallies.{tableCount}
 use Rattle.months.specs.Layout.{rowSet, setIn}
 use Rattle.months.proofs.FromTally.{tablesTo, tables-start, tables-turn, tables-end}
@@ -9,21 +11,22 @@ use Rattle.months.proofs.reading.tables_in.Statement.{statement}
 use Rattle.months.proofs.reading.tables_in.Tie as tie
 
 abbrev Inv-loop : tie.InvT-loop
-Inv-loop tally out₀ k₀ out k = (k ≤ tableCount) × (out ≡ tablesTo (λ j a x. mem (setIn tally (rowSet j a)) x) k)
+Inv-loop tally out₀ k₀ out k = (k ≤ tableCount) × (length out ≡ tableCount * width) × (out ≡ tablesTo (λ j a x. mem (setIn tally (rowSet j a)) x) k)
 
 abbrev μ-loop : tie.MeasureT-loop
 μ-loop tally out₀ k₀ out k = tableCount - k
 
 loop-holds : tie.Need-loop-holds Inv-loop μ-loop
-loop-holds c = (search needs, tables-start _ _ (c .empty .ensures))
+loop-holds c = let at = tables-start _ _ (c .empty .ensures) in (search needs, ap length at ∙ length-tablesOf tableCount _, at)
 
 loop-again : tie.Need-loop-again Inv-loop μ-loop
 loop-again c =
     let rows = c .before .before .before .before in
-    (search needs, tables-turn _ _ _ _ _ (rows .rows-in .ensures) (rows .before .before .loop .inv .1) (c .before .put-rows .ensures))
+    let next = tables-turn _ _ _ _ _ (rows .rows-in .ensures) (rows .before .before .loop .inv .2) (c .before .put-rows .ensures) in
+    (search needs, ap length next ∙ length-tablesOf tableCount _, next)
 
 returns : tie.Need-returns Inv-loop μ-loop
-returns c = tables-end _ _ _ (c .loop-test .left) (c .before .loop .inv .1)
+returns c = tables-end _ _ _ (c .loop-test .left) (c .before .loop .inv .2)
 
 pub tables-in-spec : {M : Type 1} → statement M
 tables-in-spec =
