@@ -2,26 +2,34 @@
 use mathlib.Core.Path.{_≡_, refl, sym, ap, ap₂, _∙_}
 use mathlib.Core.Bool.{Bool, true, false, not}
 use mathlib.Core.List.{List, [], _∷_, _++_}
-use Prim.Native.Nat.{ℕ, _+_, _≤_, _<_, max}
+use Prim.Native.Nat.{ℕ, _+_, _*_, _≤_, _<_, max}
 use native.Mathlib.Omega.{arith}
 use borrow.Author.Tests.{lt-ltb, le-ltb, ltb-true, ltb-false, not-true, not-false}
 use lib.Dec.{ltb}
 use lib.ListN.{length, getD, set, take, drop}
 use lib.Seq.{getD-take, set-append-left, length-take-le}
 use Rattle.sets.specs.Tests.{_or_, when_then_else_}
+use Rattle.sets.specs.Members.{noSet}
+use Rattle.sets.specs.Tables.{noTables}
 use Rattle.sets.specs.Sizes.{mostActivities}
+use Rattle.sets.specs.declared.set.Set.{Set}
 use Rattle.sets.specs.Answers.{isDone, thenAsk}
 use Rattle.sets.specs.declared.answer.Answer.{Answer}
 use Rattle.sets.specs.declared.answer.Answer.the-variants.{Done, AboveLimit, BufferTooSmall}
 use Rattle.sets.proofs.Tests.{or-true, or-false, false-or}
+use Rattle.bytes.specs.Sets.{setLength, setAt}
+use Rattle.engine.specs.Relations.{relationCount}
+use Rattle.rules.specs.declared.Profile.{Profile}
 use Rattle.calllog.specs.declared.judge.Judged.{Judged}
 use Rattle.calllog.specs.Logs.{logOf, judgedOf}
 use Rattle.rules.specs.Traces.{Traces}
 use Rattle.tally.specs.Passes.{walked}
 use Rattle.miner.proofs.FromLog.{walk-all}
-use Rattle.months.specs.Layout.{tallyLength, activitiesIn}
+use Rattle.months.specs.declared.reading.Known.{Known}
+use Rattle.months.specs.Layout.{tallyLength, activitiesIn, setIn}
 use Rattle.months.specs.Tallies.{tallyOf}
-use Rattle.months.specs.Months.{room, tooFew, tooMany, fillAnswer, filledOf, joinAnswer, bytesOr, joined, joinedOf}
+use Rattle.months.specs.Months.{room, tooFew, tooMany, fillAnswer, filledOf, joinAnswer, bytesOr, joined, joinedOf, knownAnswer, knownOf}
+use Rattle.months.specs.Readings.{tablesIn, betweenIn, relationsFrom}
 use Rattle.months.proofs.Bytewise.{length-or}
 
 -- ---- join
@@ -141,3 +149,48 @@ module _ (log t : List ℕ) (j : Judged) (hj : j ≡ judgedOf log) (r : Bool) (h
           )
 
 pub ruleset fill-ways = (fill-refused, fill-few, fill-above, fill-done)
+
+-- ---- relations
+
+abbrev refusedAs : Answer → Known
+refusedAs a = record { answer = a; activities = 0; events = noSet; relations = noTables relationCount }
+
+module _ (t : List ℕ) (p : Profile) where
+  abbrev read : Known
+  read =
+      record {
+        answer = Done;
+        activities = activitiesIn t;
+        events = setIn t 1;
+        relations = relationsFrom (setIn t 1) (tablesIn t) (betweenIn t) p;
+      }
+
+  known-stays : (a : Answer) (k : Known) → knownAnswer t ≡ a → isDone a ≡ false → k ≡ refusedAs a → k ≡ knownOf t p
+  unfolding knownOf
+  known-stays a k h n e =
+      e ∙ sym (ap₂ (λ (b : Bool) (x : Answer). when b then read else refusedAs x) (ap isDone h ∙ n) h)
+
+  pub known-few : (k : Known) → length t < tallyLength → k ≡ refusedAs BufferTooSmall → k ≡ knownOf t p
+  unfolding knownAnswer
+  known-few k l e = known-stays BufferTooSmall k (ap (λ (b : Bool). room b (tooMany (activitiesIn t))) (lt-ltb (length t) tallyLength l)) refl e
+
+  module _ (k : Known) (l : tallyLength ≤ length t) where
+    pub known-above : mostActivities < getD t 0 0 → k ≡ refusedAs AboveLimit → k ≡ knownOf t p
+    unfolding knownAnswer
+    known-above g e =
+        known-stays AboveLimit k
+        (ap₂ room (le-ltb (length t) tallyLength l) (lt-ltb mostActivities (getD t 0 0) g)) refl e
+
+  pub known-done : (events : Set) (tables r : List ℕ) → tallyLength ≤ length t → getD t 0 0 ≤ mostActivities → events ≡ setAt t (setLength * 1)
+      → tables ≡ tablesIn t → r ≡ relationsFrom events tables (betweenIn t) p
+      → _≡_ {A = Known} (record { answer = Done; activities = getD t 0 0; events = events; relations = r }) (knownOf t p)
+  unfolding knownOf knownAnswer
+  known-done events tables r l g he ht hr =
+      (λ i. record {
+        answer = Done;
+        activities = getD t 0 0;
+        events = he i;
+        relations = (hr ∙ ap₂ (λ (s : Set) (x : List ℕ). relationsFrom s x (betweenIn t) p) he ht) i;
+      })
+      ∙ sym (ap₂ (λ (a b : Bool). when isDone (room a b) then read else refusedAs (room a b)) (le-ltb (length t) tallyLength l)
+      (le-ltb mostActivities (getD t 0 0) g))

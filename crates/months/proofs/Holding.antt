@@ -2,13 +2,13 @@
 use mathlib.Core.Path.{_≡_, refl, sym, ap, ap₂, _∙_}
 use mathlib.Core.Logic.{inr}
 use mathlib.Core.Bool.{Bool, true, false}
-use mathlib.Core.List.{List, [], _∷_, _++_, append-nil}
+use mathlib.Core.List.{List, [], _∷_, _++_}
 use Prim.Native.Nat.{ℕ, zero, suc, _+_, _-_, _*_, _/_, _%_, _≤_, _<_}
 use native.Mathlib.Nat.{not-suc-le-zero, le-of-suc-le-suc}
 use native.Mathlib.Omega.{arith}
 use borrow.Author.Tests.{lt-ltb, le-ltb, ltb-true, ltb-false}
 use lib.Dec.{ltb}
-use lib.ListN.{length, getD, set, drop, length-append, length-set}
+use lib.ListN.{length, getD, set, drop, length-append, length-set, length-drop}
 use lib.Seq.{getD-set-same, set-append-left}
 use Rattle.sets.specs.Tests.{_or_, non, when_then_else_}
 use Rattle.sets.specs.Members.{width, mem, those, noSet}
@@ -25,6 +25,7 @@ use Rattle.rules.specs.Mining.{event, between}
 use Rattle.tally.specs.Passes.{through}
 use Rattle.tally.specs.Tallies.{tableCount, noted, tallied}
 use Rattle.tally.proofs.Tallying.{before-table, later-table, unpreceded-table, unanswered-table, unchained-table, unalternated-table, followed-table}
+use Rattle.miner.proofs.Composed.{events-by}
 use Rattle.months.specs.Layout.{setCount, tallyLength, firstRow, rowsEnd, firstPair, rowSet, pairSet, setsFrom, activitiesIn, setIn}
 use Rattle.months.specs.Tallies.{asked, held, tallyOf}
 use Rattle.months.specs.Pairs.{over, packed, Gained, initialOf}
@@ -130,13 +131,27 @@ module _ (L : Traces) where
     unfolding tallyOf
     activities-held = getD-set-same (setsFrom setCount 0 (λ w. those (held L w))) 0 A 0 (omega (arith, length-from setCount 0 (λ w. those (held L w))))
 
-    pub set-held : (w : ℕ) → 1 ≤ w → w < setCount → setIn (tallyOf A L) w ≡ those (held L w)
+    -- whatever stands after the tally
+    pub set-held : (rest : List ℕ) (w : ℕ) → 1 ≤ w → w < setCount → setIn (tallyOf A L ++ rest) w ≡ those (held L w)
     unfolding tallyOf
-    set-held w g l =
-        set-apart (setsFrom setCount 0 (λ v. those (held L v))) (setLength * w) 0 (A ∷ []) (inr (omega arith))
-        ∙ ap (λ (bytes : List ℕ). setAt bytes (setLength * w)) (sym (append-nil (setsFrom setCount 0 (λ v. those (held L v)))))
-        ∙ read-from setCount w (λ v. those (held L v)) [] l (those-of (those (held L w)) (held L w) (λ a t. t) refl)
+    set-held rest w g l =
+        let all = setsFrom setCount 0 (λ v. those (held L v)) in
+        ap (λ (bytes : List ℕ). setAt bytes (setLength * w))
+        (sym (set-append-left all rest 0 A (omega (arith, length-from setCount 0 (λ v. those (held L v))))))
+        ∙ set-apart (all ++ rest) (setLength * w) 0 (A ∷ []) (inr (omega arith))
+        ∙ read-from setCount w (λ v. those (held L v)) rest l (those-of (those (held L w)) (held L w) (λ a t. t) refl)
 
     pub length-held : length (tallyOf A L) ≡ tallyLength
     unfolding tallyOf
     length-held = length-set (setsFrom setCount 0 (λ v. those (held L v))) 0 A ∙ length-from setCount 0 (λ v. those (held L v))
+
+-- from what the passes leave
+pub tally-filled : (A : ℕ) (L : Traces) (none tables : List ℕ) (events : Set) (t₁ t₂ tail : List ℕ) → none ≡ noTables tableCount
+    → events ≡ those (λ x. someTrace L (λ σ. σ has x)) → tables ≡ through noted none L
+    → t₁ ≡ setsFrom setCount 0 (initialOf events tables) ++ tail → Gained t₁ (λ u s v. between L u v s) t₂ → set t₂ 0 A ≡ tallyOf A L ++ tail
+tally-filled A L none tables events t₁ t₂ tail hn he ht h₁ g =
+    filled L events tables (events-by L events he) (ht ∙ ap (λ (x : List ℕ). through noted x L) hn) A t₁ t₂ (set t₂ 0 A) tail h₁ g refl
+
+pub filled-long : (A : ℕ) (L : Traces) (t out : List ℕ) → tallyLength ≤ length t → out ≡ tallyOf A L ++ drop tallyLength t → length out ≡ length t
+filled-long A L t out h e =
+    ap length e ∙ length-append (tallyOf A L) (drop tallyLength t) ∙ omega (arith, length-held L A, length-drop tallyLength t)

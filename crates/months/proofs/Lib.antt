@@ -7,5 +7,5 @@ pub mod Initial
 pub mod Extending
 pub mod Holding
 pub mod Answers
-pub mod HeldSets
-pub mod EightRead
+pub mod FromTally
+pub mod AfterEight

@@ -10,7 +10,7 @@ use lib.Arith.{bin-ind}
 use lib.Bits.{bitOr, or-step, or-shr, or-mod, or-lt, or-self, or-comm}
 use lib.Dec.{ltb}
 use lib.ListN.{length, set, length-set}
-use lib.Seq.{getD-set-same, set-getD}
+use lib.Seq.{set-getD}
 use Rattle.sets.specs.Tests.{_or_, non, when_then_else_}
 use Rattle.sets.specs.Members.{width, bitsOf, those}
 use Rattle.sets.specs.Files.{littleEndian}
@@ -22,7 +22,8 @@ use Rattle.rules.specs.Mining.{event, before, precedes, answers, chained, alter
 use Rattle.months.specs.Layout.{setCount, firstRow, rowsEnd, firstPair, setsFrom, activitiesIn}
 use Rattle.months.specs.Tallies.{asked, held, tallyOf}
 use Rattle.months.specs.Months.{bytesOr, joined}
-use Rattle.months.proofs.HeldSets.{sets-length}
+use Rattle.months.proofs.Bytewise.{length-or}
+use Rattle.months.proofs.Holding.{activities-held}
 use Rattle.promises.proofs.Together.{some-together, broken-together}
 
 -- ---- any bytes
@@ -89,15 +90,9 @@ unfolding joined
 joined-self s =
     ap₂ (λ (l : List ℕ) (n : ℕ). set l 0 n) (bytes-self s) (max-eq-left (le-refl (activitiesIn s))) ∙ set-getD s 0 0
 
-bytes-length : (s t : List ℕ) → length s ≡ length t → length (bytesOr s t) ≡ length s
-unfolding bytesOr
-bytes-length [] t e = refl
-bytes-length (x ∷ s) [] e = absurd (omega arith)
-bytes-length (x ∷ s) (y ∷ t) e = ap suc (bytes-length s t (omega arith))
-
 pub joined-length : (s t : List ℕ) → length s ≡ length t → length (joined s t) ≡ length s
 unfolding joined
-joined-length s t e = length-set (bytesOr s t) 0 _ ∙ bytes-length s t e
+joined-length s t e = length-set (bytesOr s t) 0 _ ∙ length-or s t e
 
 -- ---- bytes of sets
 
@@ -176,11 +171,6 @@ module _ (L M : Traces) where
 
 -- ---- tallies
 
-module _ (A : ℕ) (L : Traces) where
-  pub tally-activities : activitiesIn (tallyOf A L) ≡ A
-  unfolding tallyOf
-  tally-activities = getD-set-same (setsFrom setCount 0 _) 0 A 0 (omega (arith, sets-length setCount 0 (λ w. those (held L w))))
-
 -- what is put first over either does not show under what is put first over both
 first-put : (s t : List ℕ) (a b c : ℕ) → set (bytesOr (set s 0 a) (set t 0 b)) 0 c ≡ set (bytesOr s t) 0 c
 unfolding bytesOr
@@ -192,7 +182,7 @@ first-put (x ∷ s) (y ∷ t) a b c = refl
 pub tallies-joined : (A B : ℕ) (L M : Traces) → joined (tallyOf A L) (tallyOf B M) ≡ tallyOf (max A B) (L ++ M)
 unfolding joined tallyOf
 tallies-joined A B L M =
-    ap (λ (n : ℕ). set (bytesOr (tallyOf A L) (tallyOf B M)) 0 n) (ap₂ max (tally-activities A L) (tally-activities B M))
+    ap (λ (n : ℕ). set (bytesOr (tallyOf A L) (tallyOf B M)) 0 n) (ap₂ max (activities-held L A) (activities-held M B))
     ∙ first-put (setsFrom setCount 0 (λ w. those (held L w))) (setsFrom setCount 0 (λ w. those (held M w))) A B (max A B)
     ∙ ap (λ (l : List ℕ). set l 0 (max A B)) (all-or (held L) (held M) setCount 0)
     ∙ sym (λ i. set (setsFrom setCount 0 (λ w. those (λ x. held-together L M w x i))) 0 (max A B))

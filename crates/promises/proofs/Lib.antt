@@ -24,4 +24,5 @@ pub mod Together
 pub mod Joining
 pub mod TallyBuffers
 pub mod AbsentSteps
+pub mod Months
 pub mod SameTraces

@@ -32,20 +32,20 @@ use Rattle.months.specs.Tallies.{tallyOf}
 use Rattle.months.specs.Readings.{tablesIn, betweenIn, relationsFrom}
 use Rattle.months.specs.declared.reading.Known.{Known}
 use Rattle.months.specs.Months.{room, tooFew, tooMany, fillAnswer, filledOf, joinAnswer, joined, joinedOf, knownAnswer, knownOf}
-use Rattle.months.proofs.HeldSets.{tally-length, events-in, tables-in, between-in}
-use Rattle.months.proofs.EightRead.{eight-read}
+use Rattle.months.proofs.Holding.{activities-held, length-held}
+use Rattle.months.proofs.AfterEight.{events-held, relations-held}
 use Rattle.promises.specs.Months.{TallyOf}
 use Rattle.promises.proofs.Together.{of-either}
-use Rattle.promises.proofs.Joining.{joined-comm, joined-assoc, joined-self, joined-length, tally-activities, tallies-joined}
+use Rattle.promises.proofs.Joining.{joined-comm, joined-assoc, joined-self, joined-length, tallies-joined}
 
 -- ---- a buffer with a tally
 
 module _ {t : List ℕ} {A : ℕ} {L : Traces} (h : TallyOf t A L) where
   pub has-room : tallyLength ≤ length t
-  has-room = part-room t 0 tallyLength (ap length (h .tally) ∙ tally-length A L) (omega arith)
+  has-room = part-room t 0 tallyLength (ap length (h .tally) ∙ length-held L A) (omega arith)
 
   pub its-activities : activitiesIn t ≡ A
-  its-activities = sym (getD-take tallyLength t 0 0 (omega arith)) ∙ ap activitiesIn (h .tally) ∙ tally-activities A L
+  its-activities = sym (getD-take tallyLength t 0 0 (omega arith)) ∙ ap activitiesIn (h .tally) ∙ activities-held L A
 
   enough : tooFew t ≡ false
   enough = le-ltb (length t) tallyLength has-room
@@ -63,13 +63,11 @@ module _ {t : List ℕ} {A : ℕ} {L : Traces} (h : TallyOf t A L) where
   whole = sym (take-append-drop tallyLength t) ∙ ap (λ (l : List ℕ). l ++ drop tallyLength t) (h .tally)
 
   its-events : setIn t 1 ≡ those (event L)
-  its-events = ap (λ (l : List ℕ). setIn l 1) whole ∙ events-in A L (drop tallyLength t)
+  its-events = ap (λ (l : List ℕ). setIn l 1) whole ∙ events-held A L (drop tallyLength t)
 
   its-relations : (p : Profile) → relationsFrom (setIn t 1) (tablesIn t) (betweenIn t) p ≡ tablesFrom (afterEight L p)
   its-relations p =
-      (λ i. relationsFrom (its-events i) ((ap tablesIn whole ∙ tables-in A L (drop tallyLength t)) i) (betweenIn t) p)
-      ∙ eight-read L (betweenIn t)
-      (λ u s lu ls. ap (λ (l : List ℕ). betweenIn l u s) whole ∙ between-in A L (drop tallyLength t) u s lu ls) p
+      ap (λ (l : List ℕ). relationsFrom (setIn l 1) (tablesIn l) (betweenIn l) p) whole ∙ relations-held A L (drop tallyLength t) p
 
   -- THE THEOREM of reading: A, the events and the relations of steps 1 to 8
   pub known-eight : (p : Profile)
@@ -163,7 +161,9 @@ limits-together A B L M a b =
 module _ {t u : List ℕ} {A B : ℕ} {L M : Traces} (h : TallyOf t A L) (k : TallyOf u B M) where
   pub join-done : joinAnswer t u ≡ Done
   unfolding joinAnswer
-  join-done i = room (nor (tooFew t) (tooFew u) (enough h) (enough k) i) (nor (tooMany (activitiesIn t)) (tooMany (activitiesIn u)) (not-above h) (not-above k) i)
+  join-done i =
+      room (nor (tooFew t) (tooFew u) (enough h) (enough k) i)
+      (nor (tooMany (activitiesIn t)) (tooMany (activitiesIn u)) (not-above h) (not-above k) i)
 
   first-together : take tallyLength (joinedOf t u) ≡ tallyOf (max A B) (L ++ M)
   first-together = join-first t u join-done ∙ ap₂ joined (h .tally) (k .tally) ∙ tallies-joined A B L M
@@ -204,9 +204,9 @@ module _ (log before : List ℕ) where
     pub fill-tally : TallyOf (filledOf log before) A L
     fill-tally =
         record {
-          tally = ap (take tallyLength) filled ∙ take-at (tallyOf A L) (drop tallyLength before) tallyLength (tally-length A L);
+          tally = ap (take tallyLength) filled ∙ take-at (tallyOf A L) (drop tallyLength before) tallyLength (length-held L A);
           limits = file-accepted log;
         }
 
     pub fill-rest : drop tallyLength (filledOf log before) ≡ drop tallyLength before
-    fill-rest = ap (drop tallyLength) filled ∙ drop-at (tallyOf A L) (drop tallyLength before) tallyLength (tally-length A L)
+    fill-rest = ap (drop tallyLength) filled ∙ drop-at (tallyOf A L) (drop tallyLength before) tallyLength (length-held L A)
