@@ -14,12 +14,12 @@ returns : tie.Need-returns
 returns c =
     let put = c .before .before .before .before .before .before .before .before in
     let start = put .before .before .before .before in
-    known-put (start .args .known) (start .args .out .now) _ _ _ (start .pre) refl (put .put-set .ensures) (c .before .before .put-rows .ensures)
+    known-put (start .args .t1) (start .args .out .now) _ _ _ (start .pre) refl (put .put-set .ensures) (c .before .before .put-rows .ensures)
 
 same-length : tie.Need-same-length
 same-length c =
     let start = c .before .before .before .before .before .before .before .before .before .before .before .before in
-    known-same (start .args .known) (start .args .out .now) _ (start .pre) (returns c)
+    known-same (start .args .t1) (start .args .out .now) _ (start .pre) (returns c)
 
 pub put-known-spec : {M : Type 1} → statement M
 put-known-spec = tie.close (tie.spec (λ c. search needs) (λ c κs. search needs) put-rows-requires same-length returns)
