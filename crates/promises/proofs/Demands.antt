@@ -8,7 +8,7 @@
 -- out; and rules/proofs/Cases, the (P) cases of 01 in one table under one theorem. The requests of 02 have a file each:
 -- PlainEngine, 1/12: the engine on lists of pairs gives what the engine on sets gives.
 -- Blocker, 2/12: 10 carries the smallest activity that blocks, every other number 255.
--- Light, 3/12: what the profiles are, what the listing program's arguments mean, what 12 leaves, what the summary counts.
+-- Light, 3/12: what the profiles are, what 12 leaves, what the summary counts.
 -- Desk, 5/12: what the call desk answers at a place depends on that place's own call alone; open; a freed place.
 -- Enabled, 6/12: every marking given back has the true set of enabled activities; 16 exactly where a set is false; a replay is its steps.
 -- NotRedundant, 7/12: which exclusions step 7 takes out of the mined graph, and that it takes out no other.
@@ -16,6 +16,7 @@
 -- FinishAtPlace, 8/12: at a place of the desk the way out is that of the place's own call; 14 exactly where there is none.
 -- ShutOut, 8/12: what is said to have shut a step out is an event of the call that excludes it.
 -- Marks, 9/12: each count is the number of traces of its kind, and they add up; the measures; 18 and 19; demand 3 in marks.
+-- LightByDefault, 11/12: what the listing program's arguments mean, none being light; that nothing else moved, and what is written for each.
 use mathlib.Core.Path.{_≡_, refl, sym, ap, subst, _∙_}
 use mathlib.Core.Bool.{Bool, true, false}
 use mathlib.Core.Logic.{_⊎_}

@@ -20,3 +20,4 @@ pub mod FinishAtPlace
 pub mod ShutOut
 pub mod NotRedundant
 pub mod Marks
+pub mod LightByDefault
