@@ -194,15 +194,18 @@ fn exclude(excludes: &mut Rows, tables: &Tables, events: u64, target: usize, cha
     }
 }
 
+/// What lets t in is gathered by target, a word for each s that t never directly follows.
 fn step6(tally: &[u8; TALLY_ROOM], tables: &Tables, graph: &mut GraphValue) {
+    let mut let_in = [0; 64];
     for s in Bits(graph.events) {
         let never = graph.events & !tables.followed[s];
         graph.excludes[s] |= never;
         for t in Bits(never) {
-            for u in Bits(graph.events & word(tally, PAIRS + 64 * s + t)) {
-                graph.includes[u] |= 1 << t;
-            }
+            let_in[t] |= graph.events & word(tally, PAIRS + 64 * s + t);
         }
+    }
+    for (row, more) in graph.includes.iter_mut().zip(transposed(&let_in)) {
+        *row |= more;
     }
 }
 
