@@ -33,7 +33,9 @@ def parser():
     words = Parser(prog="./year", usage="./year [full|light] [--names FILE] [--save FILE] MONTH...", description=ABOUT, epilog=STATUS)
     words.add_argument("--names", metavar="FILE", help="print sentences; line k of FILE, counted from 0, is the name of activity k")
     words.add_argument("--save", metavar="FILE", help="write the joined tally, 36,864 bytes; nothing but a tally is written over")
-    words.add_argument("given", metavar="[full|light] MONTH", nargs="*", help="the profile, light where none is named; then logs and tallies, - is standard input")
+    words.add_argument(
+        "given", metavar="[full|light] MONTH", nargs="*", help="the profile, light where none is named; then logs and tallies, - is standard input"
+    )
     return words
 
 

@@ -1,4 +1,5 @@
 """./year: months put together, with listings worked out by hand from 01's steps and 02's 12/12; saved tallies; what is refused; how it ends."""
+import pages
 from trial import Gave, holds, log_bytes, read, same, test
 
 NOTE = "year: steps 9 and 10 are not in it: they need the calls, and a tally has none\n"
@@ -79,7 +80,8 @@ def in_words(folder):
     folder.put("may.log", log_bytes(2, [1]))
     folder.put("june.log", log_bytes(5, [4, 1]))
     folder.put("all.names", "Request\nAssign\nSeal\nAmend\nWaive\n")
-    words = "2 steps; 0 conditions, 1 response, 0 includes, 2 excludes\n\nAssign\n  Assign shuts itself out\n\nWaive\n  after Waive, Assign is owed\n  Waive shuts itself out\n"
+    first = "2 steps; 0 conditions, 1 response, 0 includes, 2 excludes\n"
+    words = first + "\nAssign\n  Assign shuts itself out\n\nWaive\n  after Waive, Assign is owed\n  Waive shuts itself out\n"
     listed(folder, words.encode(), "--names", "all.names", "may.log", "june.log")
     folder.put("few.names", "Request\nAssign\n")
     gave = folder.run("./year", "--names", "few.names", "--save", "kept", "may.log", "june.log")
@@ -112,3 +114,14 @@ def ends(folder):
     holds(not folder.has("kept"), "saved though refused")
     full = folder.shell("./year data/L.log >/dev/full")
     same((full.status, full.err.count("\n")), (3, 2), "a full device")
+
+
+@test("FORMATS: the tally of the call 0, 1, 0, byte by byte, is the one that ./year saves")
+def byte_by_byte(folder):
+    folder.put("one.log", log_bytes(2, [0, 1, 0]))
+    same(folder.run("./year", "--save", "one.tally", "one.log").status, 0, "./year --save")
+    (_, *rows), = pages.tables("docs/FORMATS.md", "bytes of the tally")
+    wanted = bytearray(36864)
+    for numbers, at, _what in rows:
+        wanted[int(at) : int(at) + 8] = bytes(map(int, numbers.split()))
+    same(folder.get("one.tally"), bytes(wanted), "the tally")
