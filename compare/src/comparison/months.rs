@@ -170,6 +170,7 @@ pub fn round(comparison: &mut Comparison, prng: &mut Prng) {
     comparison.tally_relations(&damaged, profile, room);
     comparison.tally_relations(&resized, profile, room);
     comparison.tally_join(&joined, &damaged);
+    comparison.tally_join(&damaged, &resized);
     comparison.tally_join(&resized, prng.one_of(&[&damaged[..], &joined, &short]));
     if joined[0] <= 64 && damaged[0] <= 64 {
         let first = comparison.tally(&logs[0], TALLY_ROOM).1;
