@@ -27,6 +27,20 @@ mod sys {
             out: *mut u8,
             room: usize,
         ) -> u64;
+        pub fn skelfora_tally(log: *const u8, log_len: usize, tally: *mut u8, room: usize) -> u64;
+        pub fn skelfora_tally_join(
+            tally: *mut u8,
+            room: usize,
+            other: *const u8,
+            other_len: usize,
+        ) -> u64;
+        pub fn skelfora_tally_relations(
+            tally: *const u8,
+            tally_len: usize,
+            profile: u8,
+            out: *mut u8,
+            room: usize,
+        ) -> u64;
         pub fn skelfora_replay(
             file: *const u8,
             file_len: usize,

@@ -2,18 +2,19 @@
 use mathlib.Core.Path.{_≡_, refl, sym, ap, ap₂, _∙_, subst}
 use mathlib.Core.Bool.{Bool, true, false, not}
 use mathlib.Core.List.{List, [], _∷_, reverseAux}
-use Prim.Native.Nat.{ℕ, zero, suc, _+_, _*_, _≤_, _<_}
+use Prim.Native.Nat.{ℕ, zero, suc, _+_, _-_, _*_, _≤_, _<_}
 use native.Mathlib.Nat.{add-zero, add-suc, suc-add, zero-add}
 use native.Mathlib.Numerals.{add-one}
 use native.Mathlib.Omega.{arith}
 use borrow.Author.Tests.{lt-ltb, le-ltb, ltb-true, ltb-false, ne-eqb, eqb-true, eqb-false}
 use lib.Dec.{T, eqb, ltb, eqb→eq, eqb-refl}
 use lib.ListN.{length, getD, take, drop, drop-of-length-le}
+use lib.Seq.{take-all}
 use Rattle.sets.specs.Tests.{_and_, _or_, non}
 use Rattle.sets.specs.Members.{width, mem, those, noSet, leastBelow, isEmpty}
 use Rattle.sets.specs.Rows.{Relation, noRows, rowAt, withRow, inRow, rowsOf}
 use Rattle.sets.specs.declared.set.Set.{Set}
-use Rattle.sets.proofs.Tests.{and-l, and-r, and-i, T-ext, T→true, F→false, split, either, or-false, or-assoc, false-or, true-and, false-and, and-false, and-true}
+use Rattle.sets.proofs.Tests.{true→T, and-comm, and-l, and-r, and-i, T-ext, T→true, F→false, split, either, or-false, or-assoc, false-or, true-and, false-and, and-false, and-true}
 use Rattle.sets.proofs.Tautologies.{by2, by3, by4, by5}
 use Rattle.sets.proofs.Members.{those-ext, those-of, mem-those}
 use Rattle.sets.proofs.MadeSets.{is-those}
@@ -24,8 +25,12 @@ use Rattle.bytes.proofs.SetLaws.{length-put}
 use Rattle.rules.specs.Traces.{_has_, atSome, someTrace}
 use Rattle.rules.specs.Mining.{between}
 use Rattle.tally.specs.Passes.{gained, walked}
-use Rattle.tally.proofs.Turns.{pastAt, past-next, rest-next, seenIn}
-use Rattle.tally.proofs.Walks.{partAt}
+use Rattle.tally.proofs.Turns.{pastAt, past-next, rest-next, seenIn, seen-none}
+use Rattle.tally.proofs.Walks.{partAt, part-cut}
+use Rattle.calllog.specs.declared.trace.Part.{Part as Part·}
+use Rattle.calllog.specs.Logs.{partOf}
+use Rattle.miner.proofs.Gains.{seen-next}
+use Rattle.miner.proofs.After.{LastOf}
 use Rattle.months.specs.Layout.{pairSet, setIn}
 use Rattle.months.specs.Pairs.{Pairs, packed, Gained, sinceIn}
 use Rattle.months.proofs.Packed.{packed-ext, gain-pair}
@@ -125,3 +130,148 @@ module _ (t t′ : List ℕ) (r b : Bool) (more : Pairs) (hr : r ≡ b) where
 
 pub where-not : (t : List ℕ) (r b : Bool) (more : Pairs) → r ≡ b → r ≡ false → Gained t (λ u x v. b and more u x v) t
 where-not t r b more hr n = gained-none t _ (λ u x v lu lx lv. ap (λ (c : Bool). c and more u x v) (sym hr ∙ n) ∙ false-and (more u x v))
+
+pub last-low : (e x i : ℕ) (r : Bool) → r ≡ (ltb e width and eqb x i) → r ≡ true → e < width
+last-low e x i r h y = ltb-true e width (T→true _ (and-l _ _ (true→T (sym h ∙ y))))
+
+-- ---- one place further
+
+-- what the pass holds at a place: what was seen, what stands since each u, the same turned round, and what is joined so far
+pub record Along (σ t₀ t since known : List ℕ) (seen : Set) (i : ℕ) : Type 0 where
+  pub reached : i ≤ length σ
+  pub long : length t ≡ length t₀
+  pub seen-is : seen ≡ seenIn (pastAt σ i)
+  pub since-is : since ≡ rowsOf (sinceIn (pastAt σ i))
+  pub known-is : known ≡ rowsOf (λ v u. sinceIn (pastAt σ i) u v)
+  pub joined : Gained t₀ (joinedIn (pastAt σ i) (drop i σ)) t
+
+pub along-start : (σ t since known : List ℕ) → since ≡ noRows → known ≡ noRows → Along σ t t since known noSet 0
+unfolding sinceIn joinedIn
+along-start σ t since known hs hk =
+    record {
+      reached = omega arith;
+      long = refl;
+      seen-is = seen-none;
+      since-is = hs ∙ empty-rowsOf (sinceIn []) (λ u v lu lv. refl);
+      known-is = hk ∙ empty-rowsOf (λ v u. sinceIn [] u v) (λ v u lv lu. refl);
+      joined = gained-none t (joinedIn [] (drop 0 σ)) (λ u s v lu ls lv. refl);
+    }
+
+-- what a place joins, where it is the last of its activity
+here-true : (n h s : Bool) → (T s → T h) → (true and n and (h and s and true)) ≡ (true and n and s)
+unfolding _and_
+here-true n true true k = refl
+here-true n true false k = refl
+here-true n false true k = absurd (k tt)
+here-true n false false k = refl
+
+module _ {σ t₀ t since known : List ℕ} {seen : Set} {i : ℕ} (inv : Along σ t₀ t since known seen i) (h : i < length σ) (last : List ℕ)
+    (hl : LastOf last σ) where
+  abbrev e : ℕ
+  e = getD σ i 0
+
+  abbrev past : List ℕ
+  past = pastAt σ i
+
+  abbrev rest : List ℕ
+  rest = drop (i + 1) σ
+
+  joins : (u x v : ℕ) → u < width → x < width → v < width
+      → (ltb e width and eqb (getD last e 0) i and (mem seen u and inRow since u v and eqb x e)) ≡ (eqb x e and non (rest has x) and sinceIn past u v)
+  joins u x v lu lx lv = by (eqb x e) refl
+    where
+      seen-u : mem seen u ≡ past has u
+      seen-u = is-those seen _ (inv .seen-is) u lu
+
+      since-v : inRow since u v ≡ sinceIn past u v
+      since-v = ap (λ (rows : List ℕ). inRow rows u v) (inv .since-is) ∙ in-rowsOf (sinceIn past) u v lu lv
+
+      by : (b : Bool) → eqb x e ≡ b
+          → (ltb e width and eqb (getD last e 0) i and (mem seen u and inRow since u v and b)) ≡ (b and non (rest has x) and sinceIn past u v)
+      by true q =
+          let same : x ≡ e = eqb-true x e q in
+          let low : e < width = subst (λ (n : ℕ). n < width) same lx in
+          (λ j. lt-ltb e width low j and hl i h low j and (seen-u j and since-v j and true))
+          ∙ here-true (non (rest has e)) (past has u) (sinceIn past u v) (since-seen past u v)
+          ∙ ap (λ (n : ℕ). true and non (rest has n) and sinceIn past u v) (sym same)
+      by false q = ap (λ (b : Bool). ltb e width and eqb (getD last e 0) i and b) (and-false _) ∙ and-false _ ∙ sym (false-and _)
+          ∙ ap (λ (b : Bool). b and sinceIn past u v) (sym (false-and _))
+
+  pub along-turn : (t′ since′ known′ : List ℕ) (seen′ : Set) → length t′ ≡ length t
+      → Gained t (λ u x v. ltb e width and eqb (getD last e 0) i and (mem seen u and inRow since u v and eqb x e)) t′
+      → ((r : Relation) → since ≡ rowsOf r → known ≡ rowsOf (λ v u. r u v) → since′ ≡ rowsOf (λ u v. r u v or mem seen u and eqb v e))
+      → known′ ≡ gained known e (mem seen) → seen′ ≡ those (λ x. mem seen x or eqb x e) → Along σ t₀ t′ since′ known′ seen′ (i + 1)
+  unfolding gained sinceIn joinedIn
+  along-turn t′ since′ known′ seen′ len hg hs hk hn =
+      let seen-in = is-those seen _ (inv .seen-is) in
+      record {
+        reached = omega arith;
+        long = len ∙ inv .long;
+        seen-is = seen-next σ i h seen (inv .seen-is) seen′ hn;
+        since-is =
+            hs (sinceIn past) (inv .since-is) (inv .known-is)
+            ∙ rowsOf-ext _ (sinceIn (e ∷ past)) (λ u v lu lv. ap (λ (b : Bool). sinceIn past u v or b and eqb v e) (seen-in u lu))
+            ∙ ap (λ (l : List ℕ). rowsOf (sinceIn l)) (sym (past-next σ i h));
+        known-is =
+            hk
+            ∙ ap (λ (l : List ℕ). withRow l e (those (λ b. mem (rowAt l e) b or mem seen b))) (inv .known-is)
+            ∙ gain-rowsOf (λ v u. sinceIn past u v) e (mem seen)
+            ∙ rowsOf-ext _ (λ v u. sinceIn (e ∷ past) u v)
+            (λ v u lv lu. ap (λ (b : Bool). sinceIn past u v or b)
+            (ap (λ (b : Bool). eqb v e and b) (seen-in u lu) ∙ and-comm (eqb v e) (past has u)))
+            ∙ ap (λ (l : List ℕ). rowsOf (λ v u. sinceIn l u v)) (sym (past-next σ i h));
+        joined =
+            gained-as t₀ t′ _ (joinedIn (pastAt σ (i + 1)) rest)
+            (λ u x v lu lx lv.
+            (λ j. joinedIn past (rest-next σ i h j) u x v or joins u x v lu lx lv j)
+            ∙ ap (λ (l : List ℕ). joinedIn l rest u x v) (sym (past-next σ i h)))
+            (gained-both t₀ t t′ (joinedIn past (drop i σ)) _ (inv .joined) hg);
+      }
+
+pub along-end : (σ t₀ t since known : List ℕ) (seen : Set) (i : ℕ) → Along σ t₀ t since known seen i → length σ ≤ i
+    → Gained t₀ (λ u s v. atSome v (λ past rest. past has u and rest has s) σ) t
+along-end σ t₀ t since known seen i inv over =
+    gained-as t₀ t _ _
+    (λ u s v lu ls lv.
+    ap₂ (λ (p r : List ℕ). joinedIn p r u s v) (ap (λ (l : List ℕ). reverseAux l []) (take-all i σ over)) (drop-of-length-le σ over)
+    ∙ joined-is u s v σ)
+    (inv .joined)
+
+-- ---- one trace further
+
+module _ (log : List ℕ) (q : List ℕ → Bool) where
+  some-snoc : (n j : ℕ) → someTrace (walked log (suc n) j) q ≡ (someTrace (walked log n j) q or q (partAt log (j + n)))
+  unfolding walked someTrace
+  some-snoc zero j = or-false _ ∙ ap (λ (k : ℕ). q (partAt log k)) (sym (add-zero j)) ∙ sym (false-or _)
+  some-snoc (suc n) j =
+      ap (λ (b : Bool). q (partAt log j) or b) (some-snoc n (suc j) ∙ ap (λ (k : ℕ). someTrace (walked log n (suc j)) q or q (partAt log k))
+      (suc-add j n ∙ sym (add-suc j n)))
+      ∙ sym (or-assoc (q (partAt log j)) (someTrace (walked log n (suc j)) q) (q (partAt log (j + suc n))))
+
+  some-next : (k : ℕ) → someTrace (walked log (k + 1) 0) q ≡ (someTrace (walked log k 0) q or q (partAt log k))
+  some-next k =
+      ap (λ (n : ℕ). someTrace (walked log n 0) q) (add-one k) ∙ some-snoc k 0
+      ∙ ap (λ (n : ℕ). someTrace (walked log k 0) q or q (partAt log n)) (zero-add k)
+
+-- what stands between, in the first k parts
+abbrev pub betweenTo : List ℕ → ℕ → Pairs
+betweenTo log k u s v = between (walked log k 0) u v s
+
+module _ (log : List ℕ) where
+  pub traces-start : (t : List ℕ) → Gained t (betweenTo log 0) t
+  unfolding between walked someTrace
+  traces-start t = gained-none t (betweenTo log 0) (λ u s v lu ls lv. refl)
+
+  pub traces-turn : (k : ℕ) (p : Part·) (t₀ t t′ : List ℕ) → p ≡ partOf log k → Gained t₀ (betweenTo log k) t
+      → Gained t (λ u s v. atSome v (λ past rest. past has u and rest has s) (take (p .start + p .length - p .start) (drop (p .start) log))) t′
+      → Gained t₀ (betweenTo log (k + 1)) t′
+  unfolding between
+  traces-turn k p t₀ t t′ e g n =
+      gained-as t₀ t′ _ (betweenTo log (k + 1))
+      (λ u s v lu ls lv.
+      ap (λ (σ : List ℕ). betweenTo log k u s v or atSome v (λ past rest. past has u and rest has s) σ) (part-cut log k p e)
+      ∙ sym (some-next log (atSome v (λ past rest. past has u and rest has s)) k))
+      (gained-both t₀ t t′ (betweenTo log k) _ g n)
+
+  pub traces-end : (n k : ℕ) (t₀ t : List ℕ) → n ≤ k → k ≤ n → Gained t₀ (betweenTo log k) t → Gained t₀ (λ u s v. between (walked log n 0) u v s) t
+  traces-end n k t₀ t g l inv = let same : k ≡ n = omega arith in subst (λ (m : ℕ). Gained t₀ (betweenTo log m) t) same inv

@@ -5,3 +5,7 @@ pub mod Gaining
 pub mod Bytewise
 pub mod Initial
 pub mod Extending
+pub mod Holding
+pub mod Answers
+pub mod FromTally
+pub mod AfterEight

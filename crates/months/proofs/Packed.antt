@@ -106,28 +106,42 @@ put-from n k f tail s h =
     late : setsFrom (n - suc k) (suc k) f ≡ setsFrom (n - suc k) (suc k) (withSet f k s)
     late = from-ext (n - suc k) (suc k) f (withSet f k s) (λ v a b. other v (λ e. omega arith))
 
--- one set more than before, where any bytes stood
+-- one set more than before, where any bytes stood; behind others
+module _ (pre : List ℕ) (at k : ℕ) (f : ℕ → Set) (out out′ bytes : List ℕ) (hp : length pre ≡ at) where
+  abbrev so-far : List ℕ
+  so-far = pre ++ setsFrom k 0 f
+
+  abbrev place-next : ℕ
+  place-next = at + setLength * k
+
+  pub put-after : place-next + setLength ≤ length bytes → out ≡ pre ++ setsFrom k 0 f ++ drop (at + setLength * k) bytes
+      → out′ ≡ setPut out (at + setLength * k) (f k) → out′ ≡ pre ++ setsFrom (k + 1) 0 f ++ drop (at + setLength * (k + 1)) bytes
+  unfolding setsFrom
+  put-after h e p =
+      let left = length-drop place-next bytes in
+      let long : length so-far ≡ place-next = length-append pre (setsFrom k 0 f) ∙ omega (arith, length-from k 0 f) in
+      let rest : List ℕ = drop place-next bytes in
+      let next : place-next + setLength ≡ at + setLength * (k + 1) = omega arith in
+      p
+      ∙ ap (λ (l : List ℕ). setPut l place-next (f k)) e
+      ∙ put-there (so-far ++ rest) place-next (f k) (omega (arith, length-append so-far rest))
+      ∙ ap (λ (l : List ℕ). sets (so-far ++ l) place-next (setBytes (f k))) (sym (take-append-drop setLength rest))
+      ∙ stored-over so-far (take setLength rest) (setBytes (f k)) (drop setLength rest) place-next setLength long
+      (length-take-le setLength rest (omega arith)) (length-set (f k))
+      ∙ sym (append-assoc so-far (setBytes (f k)) (drop setLength rest))
+      ∙ ap₂ _++_
+      (append-assoc pre (setsFrom k 0 f) (setBytes (f k))
+      ∙ ap (λ (l : List ℕ). pre ++ l)
+      (sym (from-split k 1 0 f ∙ ap (λ (l : List ℕ). setsFrom k 0 f ++ l) (append-nil (setBytes (f (0 + k))) ∙ ap (λ (v : ℕ). setBytes (f v)) (zero-add k)))))
+      (drop-drop setLength place-next bytes ∙ ap (λ (m : ℕ). drop m bytes) next)
+
 pub put-next : (k : ℕ) (f : ℕ → Set) (out out′ bytes : List ℕ) → setLength * k + setLength ≤ length bytes
     → out ≡ setsFrom k 0 f ++ drop (setLength * k) bytes → out′ ≡ setPut out (setLength * k) (f k)
     → out′ ≡ setsFrom (k + 1) 0 f ++ drop (setLength * (k + 1)) bytes
 put-next k f out out′ bytes h e p =
-    let left = length-drop (setLength * k) bytes in
-    p
-    ∙ ap (λ (l : List ℕ). setPut l (setLength * k) (f k)) e
-    ∙ put-there (setsFrom k 0 f ++ drop (setLength * k) bytes) (setLength * k) (f k)
-    (omega (arith, length-append (setsFrom k 0 f) (drop (setLength * k) bytes), length-from k 0 f))
-    ∙ ap (λ (l : List ℕ). sets (setsFrom k 0 f ++ l) (setLength * k) (setBytes (f k))) (sym (take-append-drop setLength (drop (setLength * k) bytes)))
-    ∙ stored-over (setsFrom k 0 f) (take setLength (drop (setLength * k) bytes)) (setBytes (f k)) (drop setLength (drop (setLength * k) bytes))
-    (setLength * k) setLength (length-from k 0 f) (length-take-le setLength (drop (setLength * k) bytes) (omega arith)) (length-set (f k))
-    ∙ sym (append-assoc (setsFrom k 0 f) (setBytes (f k)) (drop setLength (drop (setLength * k) bytes)))
-    ∙ ap₂ _++_ (sym one-more) (drop-drop setLength (setLength * k) bytes ∙ ap (λ (m : ℕ). drop m bytes) next)
-  where
-    one-more : setsFrom (k + 1) 0 f ≡ setsFrom k 0 f ++ setBytes (f k)
-    one-more = unfold setsFrom in
-        from-split k 1 0 f ∙ ap (λ (l : List ℕ). setsFrom k 0 f ++ l) (append-nil (setBytes (f (0 + k))) ∙ ap (λ (v : ℕ). setBytes (f v)) (zero-add k))
-
-    next : setLength * k + setLength ≡ setLength * (k + 1)
-    next = omega arith
+    put-after [] 0 k f out out′ bytes refl (omega arith) (e ∙ ap (λ (n : ℕ). setsFrom k 0 f ++ drop n bytes) (sym (zero-add (setLength * k))))
+    (p ∙ ap (λ (n : ℕ). setPut out n (f k)) (sym (zero-add (setLength * k))))
+    ∙ ap (λ (n : ℕ). setsFrom (k + 1) 0 f ++ drop n bytes) (zero-add (setLength * (k + 1)))
 
 -- ---- the sets of the pairs
 

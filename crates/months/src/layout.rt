@@ -1,6 +1,7 @@
 // What stands where in a tally (docs/FORMATS.md): sets, one after another; byte 0, of set 0, is A.
 ghost use mathlib.Core.Path.{_≡_};
 ghost use Prim.Native.Nat.{_<_};
+ghost use Rattle.sets.specs.Members.{mem, those};
 ghost use Rattle.months.specs.Layout.{rowSet, pairSet, setIn};
 use bytes::set;
 use sets::Activity;
@@ -27,6 +28,7 @@ pub const TABLES: u8 = 7;
 // Row a of table k.
 pub fn row(tally: &[u8], k: u8, a: Activity) -> Set
     ensures { λ r. ⌜ r ≡ setIn (now (tally .entry)) (rowSet k (a .0)) ⌝ }
+    ensures { λ r. ⌜ those (mem r) ≡ r ⌝ }
 {
     bytes::set_at(
         tally,
@@ -45,6 +47,7 @@ pub fn pair_set(u: Activity, s: Activity) -> usize
 // What stands between a u and a later s.
 pub fn between(tally: &[u8], u: Activity, s: Activity) -> Set
     ensures { λ r. ⌜ r ≡ setIn (now (tally .entry)) (pairSet (u .0) (s .0)) ⌝ }
+    ensures { λ r. ⌜ those (mem r) ≡ r ⌝ }
 {
     bytes::set_at(tally, set::LENGTH * pair_set(u, s))
 }

@@ -16,7 +16,7 @@ abbrev μ-loop : tie.MeasureT-loop
 μ-loop tally₀ other i₀ tally i = tallyLength - i
 
 loop-holds : tie.Need-loop-holds Inv-loop μ-loop
-loop-holds c = (search needs, c .pre .0, c .pre .1, refl, or-start _ _)
+loop-holds c = (search needs, c .pre .0, c .pre .1, refl, or-start (c .args .tally .now) (c .args .other .now))
 
 loop-again : tie.Need-loop-again Inv-loop μ-loop
 loop-again c =

@@ -1,31 +1,18 @@
 use borrow.Author.Needs.{needs}
+use Rattle.months.proofs.Gaining.{last-low, where-last, where-not}
 use Rattle.months.proofs.pairs.join_last.Statement.{statement}
 use Rattle.months.proofs.pairs.join_last.Tie as tie
-use Rattle.months.proofs.pairs.join_last.Reads as reads
-use Rattle.months.proofs.pairs.join_last.Lts as lts
-use Rattle.months.proofs.pairs.is_last.Reads as is-last-reads
-use Rattle.months.proofs.pairs.join_rows.Reads as join-rows-reads
 
--- src/pairs.rt:70:8
-is-last-requires : tie.Need-is-last-requires
-is-last-requires c κs = search needs
-
--- src/pairs.rt:71:9
 join-rows-requires : tie.Need-join-rows-requires
-join-rows-requires c κs = ?
+join-rows-requires c κs = search (last-low, needs)
 
--- src/pairs.rt:59:1
-same-length : tie.Need-same-length
-same-length c = search needs
-
--- src/pairs.rt:59:1
 returns : tie.Need-returns
-returns c = ?
+returns c =
+    let test = c .before .before .before .before in
+    where-last _ _ _ _ _ (test .before .is-last .ensures) (test .if1 .taken) (c .before .before .join-rows .ensures)
 
--- src/pairs.rt:59:1
 returns-2 : tie.Need-returns-2
-returns-2 c = ?
+returns-2 c = where-not _ _ _ _ (c .before .is-last .ensures) (c .if1 .left)
 
 pub join-last-spec : {M : Type 1} → statement M
-join-last-spec =
-    tie.close (tie.spec is-last-requires join-rows-requires same-length returns returns-2)
+join-last-spec = tie.close (tie.spec (λ c κs. search needs) join-rows-requires (λ c. search needs) returns returns-2)

@@ -7,7 +7,7 @@ returns : tie.Need-returns
 returns c =
     let put = c .before .before in
     let union = put .before .before .before in
-    row-joined _ _ _ _ _ _ _ _ _ (union .before .before .between .ensures) (union .before .row .ensures) (union .union .ensures)
+    row-joined _ _ _ _ _ _ _ _ _ (union .before .before .between .ensures .0) (union .before .row .ensures) (union .union .ensures)
     (put .before .pair-set .ensures .0) (put .put-set .ensures)
 
 pub join-row-spec : {M : Type 1} → statement M

@@ -1,67 +1,30 @@
+use borrow.Author.Needs.{needs}
+use Rattle.sets.specs.Members.{width, mem, countBelow}
+use Rattle.sets.proofs.Passing.{members}
+use Rattle.months.specs.Layout.{pairSet, setIn}
+use Rattle.months.proofs.FromTally.{GatheredFrom, gather-start, gather-turn, gather-end, pair-those}
 use Rattle.months.proofs.reading.let_in.Statement.{statement}
 use Rattle.months.proofs.reading.let_in.Tie as tie
-use Rattle.months.proofs.reading.let_in.Reads as reads
-use Rattle.months.proofs.reading.let_in.Lts as lts
-use Rattle.months.proofs.layout.between.Reads as between-reads
-use Rattle.sets.proofs.set.Set.is_empty.Reads as is-empty-reads
-use Rattle.sets.proofs.set.Set.least.Reads as least-reads
-use Rattle.sets.proofs.set.Set.union.Reads as union-reads
-use Rattle.sets.proofs.set.Set.without_least.Reads as without-least-reads
 
 abbrev Inv-loop : tie.InvT-loop
-Inv-loop tally t out₀ rest₀ out rest = ?
+Inv-loop tally t out₀ rest₀ out rest = GatheredFrom (λ s x. mem (setIn tally (pairSet s (t .0))) x) rest₀ out rest
 
 abbrev μ-loop : tie.MeasureT-loop
-μ-loop tally t out₀ rest₀ out rest = ?
+μ-loop tally t out₀ rest₀ out rest = countBelow width (mem rest)
 
--- src/reading.rt:78:5
-loop-holds : tie.Need-loop-holds Inv-loop μ-loop
-loop-holds c = ?
-
--- src/reading.rt:78:12
-is-empty-requires : tie.Need-is-empty-requires Inv-loop μ-loop
-is-empty-requires c κs = ?
-
--- src/reading.rt:79:48
-least-requires : tie.Need-least-requires Inv-loop μ-loop
-least-requires c κs = ?
-
--- src/reading.rt:79:25
-between-requires : tie.Need-between-requires Inv-loop μ-loop
-between-requires c κs = ?
-
--- src/reading.rt:79:9
-union-requires : tie.Need-union-requires Inv-loop μ-loop
-union-requires c κs = ?
-
--- src/reading.rt:80:9
-without-least-requires : tie.Need-without-least-requires Inv-loop μ-loop
-without-least-requires c κs = ?
-
--- src/reading.rt:78:5
-loop-less : tie.Need-loop-less Inv-loop μ-loop
-loop-less c = ?
-
--- src/reading.rt:78:5
 loop-again : tie.Need-loop-again Inv-loop μ-loop
-loop-again c = ?
+loop-again c =
+    let got = c .before .before in
+    let test = got .before .before in
+    gather-turn _ _ _ _ _ _ _ _ _ (test .before .before .loop .inv) (test .before .is-empty .ensures) (test .if1 .taken) (got .before .least .ensures)
+    (pair-those _ _ _ _ (got .between .ensures)) (c .before .union .ensures) (c .without-least .ensures)
 
--- src/reading.rt:73:1
 returns : tie.Need-returns Inv-loop μ-loop
-returns c = ?
+returns c = gather-end _ _ _ _ _ (c .before .before .loop .inv) (c .before .is-empty .ensures) (c .if1 .left)
 
 pub let-in-spec : {M : Type 1} → statement M
 let-in-spec =
     tie.close
-    (tie.spec
-    Inv-loop
-    μ-loop
-    loop-holds
-    is-empty-requires
-    least-requires
-    between-requires
-    union-requires
-    without-least-requires
-    loop-less
-    loop-again
+    (tie.spec Inv-loop μ-loop (λ c. gather-start _ _) (λ c κs. search (members, needs)) (λ c κs. search (members, needs))
+    (λ c κs. search (members, needs)) (λ c κs. search (members, needs)) (λ c κs. search (members, needs)) (λ c. search (members, needs)) loop-again
     returns)
