@@ -8,7 +8,7 @@ use native.Mathlib.Nat.{not-suc-le-zero, le-of-suc-le-suc}
 use native.Mathlib.Omega.{arith}
 use borrow.Author.Tests.{lt-ltb, le-ltb, ltb-true, ltb-false}
 use lib.Dec.{ltb}
-use lib.ListN.{length, getD, set, drop, length-append, length-set}
+use lib.ListN.{length, getD, set, drop, length-append, length-set, length-drop}
 use lib.Seq.{getD-set-same, set-append-left}
 use Rattle.sets.specs.Tests.{_or_, non, when_then_else_}
 use Rattle.sets.specs.Members.{width, mem, those, noSet}
@@ -148,3 +148,7 @@ pub tally-filled : (A : ℕ) (L : Traces) (none tables : List ℕ) (events : Set
     → t₁ ≡ setsFrom setCount 0 (initialOf events tables) ++ tail → Gained t₁ (λ u s v. between L u v s) t₂ → set t₂ 0 A ≡ tallyOf A L ++ tail
 tally-filled A L none tables events t₁ t₂ tail hn he ht h₁ g =
     filled L events tables (events-by L events he) (ht ∙ ap (λ (x : List ℕ). through noted x L) hn) A t₁ t₂ (set t₂ 0 A) tail h₁ g refl
+
+pub filled-long : (A : ℕ) (L : Traces) (t out : List ℕ) → tallyLength ≤ length t → out ≡ tallyOf A L ++ drop tallyLength t → length out ≡ length t
+filled-long A L t out h e =
+    ap length e ∙ length-append (tallyOf A L) (drop tallyLength t) ∙ omega (arith, length-held L A, length-drop tallyLength t)

@@ -7,7 +7,7 @@ use native.Mathlib.Numerals.{add-one}
 use native.Mathlib.Omega.{arith}
 use borrow.Author.Tests.{lt-ltb, le-ltb, eqb-true, not-true, not-false}
 use lib.Dec.{ltb}
-use lib.ListN.{length, take, drop, set, length-set, length-append, take-append-drop}
+use lib.ListN.{length, take, drop, set, length-set, length-append, length-drop, take-append-drop}
 use lib.Seq.{sets, sets-eq, length-take-le, take-at, drop-at, drop-drop, drop-set-lt, take-suc-set}
 use Rattle.sets.specs.Tests.{when_then_else_}
 use Rattle.sets.specs.Members.{width}
@@ -22,7 +22,7 @@ use Rattle.rules.specs.declared.Profile.{Profile}
 use Rattle.months.specs.declared.reading.Known.{Known}
 use Rattle.months.specs.Layout.{setsFrom}
 use Rattle.months.specs.Months.{knownOf}
-use Rattle.months.proofs.Packed.{put-after}
+use Rattle.months.proofs.Packed.{put-after, length-from}
 use Rattle.port.specs.Tallies.{knownLength, rowOfAll, rowsBytes, knownBytes, relationsAnswer, relationsNumber, relationsBuffer}
 
 -- ---- the rows, one after another, behind A and the events
@@ -72,15 +72,34 @@ known-put k t t₁ t₂ t₃ long h₁ h₂ h₃ =
     ∙ drop-drop 2048 9 (set t 0 (k .activities))
     ∙ drop-set-lt knownLength t 0 (k .activities) (omega arith))
 
+known-long : (t t₂ : List ℕ) (A : ℕ) (s : Set) → t₂ ≡ setPut (set t 0 A) 1 s → length t₂ ≡ length t
+known-long t t₂ A s h = ap length h ∙ length-put (set t 0 A) 1 s ∙ length-set t 0 A
+
+pub known-room : (t t₂ : List ℕ) (A : ℕ) (s : Set) → knownLength ≤ length t → t₂ ≡ setPut (set t 0 A) 1 s → knownLength ≤ length t₂
+known-room t t₂ A s l h = omega (arith, known-long t t₂ A s h)
+
+pub known-same : (k : Known) (t out : List ℕ) → knownLength ≤ length t → out ≡ knownBytes k ++ drop knownLength t → length out ≡ length t
+unfolding knownBytes
+known-same k t out l h =
+    ap length h
+    ∙ length-append (k .activities ∷ (setBytes (k .events) ++ rowsBytes (k .relations))) (drop knownLength t)
+    ∙ omega (
+      arith,
+      length-append (setBytes (k .events)) (rowsBytes (k .relations)),
+      set-long (k .events),
+      length-from (relationCount * width) 0 (rowOfAll (k .relations)),
+      length-drop knownLength t,
+    )
+
 -- ---- the ways out
 
 module _ (t out : List ℕ) (p : Profile) (k : Known) (hk : k ≡ knownOf t p) (r : Bool) (hr : r ≡ isDone (k .answer)) where
   stays : (a : Answer) (n : ℕ) → relationsAnswer t p (length out) ≡ a → isDone a ≡ false → n ≡ numberOf a
       → (n ≡ relationsNumber t (length out) p) × (out ≡ relationsBuffer t p out)
   unfolding relationsBuffer
-  stays a n h no e = (
+  stays a n h k e = (
     e ∙ ap numberOf (sym h),
-    sym (ap (λ (b : Bool). when b then knownBytes (knownOf t p) ++ drop knownLength out else out) (ap isDone h ∙ no)),
+    sym (ap (λ (b : Bool). when b then knownBytes (knownOf t p) ++ drop knownLength out else out) (ap isDone h ∙ k)),
   )
 
   pub read-refused : (n : ℕ) → not r ≡ true → n ≡ numberOf (k .answer)

@@ -1,9 +1,11 @@
 // Months put together (02, 12/12): a log's tally in lent bytes, two tallies in one, and the relations that a tally gives.
 ghost use mathlib.Core.Path.{_≡_};
 ghost use mathlib.Core.List.{_++_};
-ghost use Prim.Native.Nat.{_≤_};
+ghost use Prim.Native.Nat.{_*_, _≤_, _<_};
 ghost use lib.ListN.{length, take, drop};
+ghost use Rattle.sets.specs.Members.{width};
 ghost use Rattle.sets.specs.Answers.{numberOf};
+ghost use Rattle.engine.specs.Relations.{relationCount};
 ghost use Rattle.months.specs.Months.{fillAnswer, filledOf, joinAnswer, joinedOf};
 ghost use Rattle.port.specs.Port.{inProfile, inProfileBuffer};
 ghost use Rattle.port.specs.Tallies.{knownLength, rowOfAll, rowsBytes, knownBytes, relationsNumber, relationsBuffer};
@@ -50,13 +52,10 @@ pub extern "C" fn skelfora_tally_join(tally: &mut [u8], other: &[u8]) -> u64
 
 // Row i of all: the relations one after another.
 fn row_of_all(relations: &Relations, i: usize) -> Set
+    requires { ⌜ i < relationCount * width ⌝ }
     ensures { λ r. ⌜ r ≡ rowOfAll (now (relations .entry)) i ⌝ }
 {
-    tables::row(
-        relations,
-        (i / WIDTH % 256) as u8,
-        Activity((i % WIDTH) as u8),
-    )
+    tables::row(relations, (i / WIDTH) as u8, Activity((i % WIDTH) as u8))
 }
 
 // All rows, after A and the events.
