@@ -108,11 +108,11 @@ def rows_of(crate, functions, names):
 
 def called(crate, symbol):
     """What a function's theorem is called after: calllog's `ask` is not the engine's, a table's `row` is not that of rows, and the plain
-    engine and the desk have a `step` of their own."""
+    engine and the desk have a `step` of their own, months a `join`."""
     parts = symbol.split("::")
     both = parts[-2][0].isupper() or parts[-2] in ("tables", "log")
     name = "-".join(parts[-2:] if both else parts[-1:]).replace("_", "-")
-    if crate in ("plain", "desk"):
+    if crate in ("plain", "desk", "months"):
         return f"{crate}-{name}"
     return "log-ask" if symbol == "calllog::trace::ask" else name
 

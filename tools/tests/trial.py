@@ -57,7 +57,7 @@ def end(process):
 class Folder:
     """A folder that has the repository's commands, data and pages by links, so that what is written there touches nothing."""
 
-    LINKS = ["list", "log", "call", "desk", "marks", "nightly", "library", "classroom", "data", "docs", "crates", "target"]
+    LINKS = ["list", "log", "call", "desk", "marks", "nightly", "year", "library", "classroom", "data", "docs", "crates", "target"]
 
     def __init__(self, path):
         self.path = path

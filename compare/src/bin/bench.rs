@@ -6,7 +6,9 @@
 //! back an empty graph then, so `net judge` leaves out what the refusal of no bytes costs. Lent buffers are not cleared between calls. The implementations take turns,
 //! a tenth of a millisecond each, and the best turn counts: other work on the machine then
 //! disturbs both alike, and the best turns hardly at all.
-use compare::door::{Door, FULL, GRAPH_ROOM, LIGHT, LISTING_ROOM, MARKING, TABLE_ROOM};
+use compare::door::{
+    Door, FULL, GRAPH_ROOM, LIGHT, LISTING_ROOM, MARKING, RELATIONS_ROOM, TABLE_ROOM, TALLY_ROOM,
+};
 use compare::seeds::shapes::{of_size, small, SHAPES, SIZES};
 use compare::seeds::{finish, log_file, Prng};
 use compare::{judge, port, yardstick};
@@ -330,6 +332,51 @@ fn replays(doors: &[Door]) {
     }
 }
 
+/// Filling a tally, in ns an event; joining another into it, and reading the relations in either
+/// profile, in microseconds a call.
+fn months(doors: &[Door]) {
+    println!("months: tally in ns an event; join, relations, light in microseconds a call");
+    let mut samples = vec![sample("small", small(3))];
+    for (name, shape) in SHAPES {
+        samples.push(sample(name, of_size(shape, SIZES[0], 11)));
+        samples.push(sample(name, of_size(shape, SIZES[3], 11)));
+    }
+    let mut other = vec![0; TALLY_ROOM];
+    assert_eq!((doors[0].tally)(&samples[0].log, &mut other), 0);
+    for sample in samples {
+        let mut tally = vec![0; TALLY_ROOM];
+        let filling = best(doors, |door| {
+            assert_eq!((door.tally)(black_box(&sample.log), &mut tally), 0);
+        });
+        let mut line = format!("{:<14}{:>7}", sample.name, sample.events);
+        line += &beside(&filling, sample.events as f64);
+        let mut relations = vec![0; RELATIONS_ROOM];
+        let mut read = |profile: u8| {
+            best(doors, |door| {
+                let given = (door.tally_relations)(black_box(&tally), profile, &mut relations);
+                assert_eq!(given, 0);
+            })
+        };
+        let reading = [read(FULL), read(LIGHT)];
+        let joining = best(doors, |door| {
+            assert_eq!((door.tally_join)(&mut tally, black_box(&other)), 0);
+        });
+        for ns in [joining].iter().chain(&reading) {
+            line += &beside(ns, 1000.0);
+        }
+        println!("{line}");
+    }
+}
+
+/// The yardstick's figure, and the others' with how many times it they take.
+fn beside(ns: &[f64], unit: f64) -> String {
+    let mut text = format!("{:>12.2}", ns[0] / unit);
+    for theirs in &ns[1..] {
+        text += &format!("{:>9.2}{:>7.2}", theirs / unit, theirs / ns[0]);
+    }
+    text
+}
+
 fn main() {
     let mut doors = vec![yardstick::door::DOOR];
     doors.extend(port::door());
@@ -342,6 +389,9 @@ fn main() {
     }
     if asked("--listings") {
         return listings(&doors);
+    }
+    if asked("--months") {
+        return months(&doors);
     }
     if asked("--replays") {
         return replays(&doors);

@@ -25,8 +25,8 @@ use steps::relations;
 use tally::Tally;
 use tally::log;
 
-// Steps 2 and 8, by target.
-fn conditions_eight(events: Set, tally: &Tally) -> Rows
+// The conditions of steps 2 and 8, by target.
+pub fn conditions_eight(events: Set, tally: &Tally) -> Rows
     ensures { λ r. ⌜ r ≡ rowsFor events (reducedOf (conditionsOf events (now (tally .entry)))) ⌝ }
 {
     let two = relations::unbroken(events, tally, log::UNPRECEDED);

@@ -4,3 +4,4 @@ pub mod Handing
 pub mod Desk
 pub mod WayOut
 pub mod Marks
+pub mod Tallied

@@ -15,6 +15,7 @@ ghost use Rattle.report.specs.Summary.{summaryAfter};
 pub mod call_desk;
 pub mod classroom;
 pub mod marked;
+pub mod tallies;
 pub mod way_out;
 
 use engine::Graph;
@@ -84,7 +85,7 @@ fn put(answer: Answer, g: Graph, out: &mut [u8]) -> u64
 }
 
 // The profile that a number below 2 asks for.
-fn profile_of(n: u8) -> Profile
+pub(crate) fn profile_of(n: u8) -> Profile
     ensures { λ r. ⌜ r ≡ profileOf n ⌝ }
 {
     if n == 0 {

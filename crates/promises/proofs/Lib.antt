@@ -21,3 +21,9 @@ pub mod ShutOut
 pub mod NotRedundant
 pub mod Marks
 pub mod LightByDefault
+pub mod Together
+pub mod Joining
+pub mod TallyBuffers
+pub mod AbsentSteps
+pub mod Months
+pub mod SameTraces

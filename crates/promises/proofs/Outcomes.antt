@@ -109,7 +109,14 @@ use Rattle.steps.proofs.relations.waited.Reads as waited
 use Rattle.steps.proofs.reduce.reduced.Reads as reduced
 use Rattle.tally.proofs.log.empty.Reads as log-empty
 use Rattle.tally.proofs.log.note_traces.Reads as log-note-traces
+use Rattle.miner.proofs.conditions_eight.Reads as conditions-eight
+use Rattle.miner.proofs.excluded_five.Reads as excluded-five
+use Rattle.miner.proofs.last_places.Reads as last-places
+use Rattle.miner.proofs.mining.responses_eight.Reads as responses-eight
 use Rattle.miner.proofs.mining.mine.Reads as mine
+use Rattle.months.proofs.filling.fill.Reads as months-fill
+use Rattle.months.proofs.joining.join.Reads as months-join
+use Rattle.months.proofs.reading.relations.Reads as months-relations
 use Rattle.marks.proofs.counts.Counts.precision.Reads as Counts-precision
 use Rattle.marks.proofs.counts.Counts.recall.Reads as Counts-recall
 use Rattle.marks.proofs.counts.Counts.accuracy.Reads as Counts-accuracy
@@ -125,6 +132,9 @@ use Rattle.report.proofs.writer.write_listing.Reads as write-listing
 use Rattle.port.proofs.skelfora_mine.Reads as skelfora-mine
 use Rattle.port.proofs.skelfora_listing.Reads as skelfora-listing
 use Rattle.port.proofs.skelfora_summary.Reads as skelfora-summary
+use Rattle.port.proofs.tallies.skelfora_tally.Reads as skelfora-tally
+use Rattle.port.proofs.tallies.skelfora_tally_join.Reads as skelfora-tally-join
+use Rattle.port.proofs.tallies.skelfora_tally_relations.Reads as skelfora-tally-relations
 use Rattle.port.proofs.skelfora_rewrite.Reads as skelfora-rewrite
 use Rattle.port.proofs.skelfora_replay.Reads as skelfora-replay
 use Rattle.port.proofs.skelfora_step.Reads as skelfora-step
@@ -533,6 +543,29 @@ log-note-traces-once κ a r r′ s s′ h h′ = (h .0 ∙ sym (h′ .0), h .1 �
 pub mine-once : Once mine.Post
 mine-once κ a r r′ s s′ h h′ = h ∙ sym h′
 
+pub conditions-eight-once : Once conditions-eight.Post
+conditions-eight-once κ a r r′ s s′ h h′ = h ∙ sym h′
+
+pub responses-eight-once : Once responses-eight.Post
+responses-eight-once κ a r r′ s s′ h h′ = h ∙ sym h′
+
+pub excluded-five-once : Once excluded-five.Post
+excluded-five-once κ a r r′ s s′ h h′ = h ∙ sym h′
+
+pub last-places-once : OnceLent last-places.Post (λ κ s. now (s .1 .0))
+last-places-once κ a r r′ s s′ h h′ = (h .0 ∙ sym (h′ .0), h .1 ∙ sym (h′ .1))
+
+-- ---- months
+
+pub months-fill-once : OnceLent months-fill.Post (λ κ s. now (s .1 .0))
+months-fill-once κ a r r′ s s′ h h′ = (h .0 ∙ sym (h′ .0), h .1 ∙ sym (h′ .1))
+
+pub months-join-once : OnceLent months-join.Post (λ κ s. now (s .0))
+months-join-once κ a r r′ s s′ h h′ = (h .0 ∙ sym (h′ .0), h .1 ∙ sym (h′ .1))
+
+pub months-relations-once : Once months-relations.Post
+months-relations-once κ a r r′ s s′ h h′ = h ∙ sym h′
+
 -- ---- marks
 
 pub Counts-precision-once : Once Counts-precision.Post
@@ -583,6 +616,15 @@ skelfora-listing-once κ a r r′ s s′ h h′ = (h .0 ∙ sym (h′ .0), h .1 
 
 pub skelfora-summary-once : OnceLent skelfora-summary.Post (λ κ s. now (s .1 .1 .0))
 skelfora-summary-once κ a r r′ s s′ h h′ = (h .0 ∙ sym (h′ .0), h .1 ∙ sym (h′ .1))
+
+pub skelfora-tally-once : OnceLent skelfora-tally.Post (λ κ s. now (s .1 .0))
+skelfora-tally-once κ a r r′ s s′ h h′ = (h .0 ∙ sym (h′ .0), h .1 ∙ sym (h′ .1))
+
+pub skelfora-tally-join-once : OnceLent skelfora-tally-join.Post (λ κ s. now (s .0))
+skelfora-tally-join-once κ a r r′ s s′ h h′ = (h .0 ∙ sym (h′ .0), h .1 ∙ sym (h′ .1))
+
+pub skelfora-tally-relations-once : OnceLent skelfora-tally-relations.Post (λ κ s. now (s .1 .1 .0))
+skelfora-tally-relations-once κ a r r′ s s′ h h′ = (h .0 ∙ sym (h′ .0), h .1 ∙ sym (h′ .1))
 
 pub skelfora-rewrite-once : OnceLent skelfora-rewrite.Post (λ κ s. now (s .1 .0))
 skelfora-rewrite-once κ a r r′ s s′ h h′ = (h .0 ∙ sym (h′ .0), h .1 ∙ sym (h′ .1))
