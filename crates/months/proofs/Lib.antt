@@ -4,7 +4,8 @@ pub mod Between
 pub mod Gaining
 pub mod Bytewise
 pub mod Initial
-pub mod Extending
+pub mod Cuts
+pub mod Along
 pub mod Holding
 pub mod Answers
 pub mod FromTally

@@ -2,15 +2,17 @@
 -- a later s is a theorem, so a reader of `fill` need not believe this file.
 use mathlib.Core.Path.{_≡_}
 use mathlib.Core.Bool.{Bool, false}
-use mathlib.Core.List.{List, [], _∷_, _++_}
-use Prim.Native.Nat.{ℕ, _-_, _/_, _%_}
+use mathlib.Core.List.{List, [], _∷_, _++_, reverseAux}
+use Prim.Native.Nat.{ℕ, _+_, _-_, _/_, _%_, _≤_, _<_}
 use lib.Dec.{eqb, ltb}
-use Rattle.sets.specs.Tests.{_and_, _or_, when_then_else_}
-use Rattle.sets.specs.Members.{width, those, noSet}
-use Rattle.sets.specs.Rows.{rowAt}
+use lib.ListN.{length, getD, take, set}
+use Rattle.sets.specs.Tests.{_and_, _or_, non, when_then_else_}
+use Rattle.sets.specs.Members.{width, mem, those, noSet}
+use Rattle.sets.specs.Rows.{rowAt, withRow}
 use Rattle.sets.specs.Tables.{tableAt}
 use Rattle.sets.specs.declared.set.Set.{Set}
 use Rattle.rules.specs.Traces.{_has_}
+use Rattle.months.specs.declared.pairs.Seen.{Seen}
 use Rattle.months.specs.Layout.{setCount, firstRow, rowsEnd, firstPair, setsFrom}
 
 -- a test of u, s and v, whether v is in the set of u and s
@@ -42,3 +44,40 @@ initialOf events tables w =
     else when ltb w firstRow then events
     else when ltb w rowsEnd then rowAt (tableAt tables ((w - firstRow) / width)) ((w - firstRow) % width)
     else noSet
+
+-- ---- what is kept of the first places
+
+-- the first i numbers of a list, the latest first
+abbrev pub backTo : List ℕ → ℕ → List ℕ
+backTo l i = reverseAux (take i l) []
+
+-- there is room for all of them, and they are activities of the width
+abbrev pub Kept : List ℕ → List ℕ → ℕ → Type 0
+Kept firsts gaps count =
+    (count ≤ width) × (length firsts ≡ width) × (length gaps ≡ width) × ((j : ℕ) → j < count → getD firsts j 0 < width)
+
+-- from the latest first place back: v is in the gap after the first place of u, or in a later one; the sets of the gaps as numbers
+unfoldable pub walkBack : List ℕ → List ℕ → (ℕ → Bool) → ℕ → ℕ → Bool
+walkBack [] gaps since u v = false
+walkBack (x ∷ firsts) [] since u v = false
+walkBack (x ∷ firsts) (g ∷ gaps) since u v =
+    eqb u x and (since v or mem (record { bits = g }) v) or walkBack firsts gaps (λ y. since y or mem (record { bits = g }) y) u v
+
+-- the latest gap has gained e
+unfoldable pub widened : List ℕ → ℕ → ℕ → List ℕ
+widened gaps count e =
+    when ltb 0 count then withRow gaps (count - 1) (those (λ x. mem (rowAt gaps (count - 1)) x or mem (those (λ b. eqb b e)) x)) else gaps
+
+unfoldable pub withFirst : List ℕ → ℕ → ℕ → List ℕ
+withFirst firsts count e = when ltb count width then set firsts count e else firsts
+
+-- e was not seen, and is an activity of the width
+abbrev pub isNew : Seen → ℕ → Bool
+isNew seen e = non (mem (seen .set) e) and ltb e width
+
+unfoldable pub seenWith : Seen → ℕ → Seen
+seenWith seen e =
+    when isNew seen e then record { set = those (λ x. mem (seen .set) x or eqb x e); count = seen .count + 1 } else seen
+
+unfoldable pub firstsWith : List ℕ → Seen → ℕ → List ℕ
+firstsWith firsts seen e = when isNew seen e then withFirst firsts (seen .count) e else firsts

@@ -1,18 +1,19 @@
-// The sets of the pairs (02, 12/12): what stands between a u and a later s, trace by trace, from the first place to the last. At a place of s
-// `since` has, in row u, what stands after the first u so far; the largest it ever is at the last s, so only there it is joined.
+// The sets of the pairs (02, 12/12): what stands between a u and a later s, trace by trace, from the first place to the last. A trace is cut at
+// the first place of each activity, and gap j has what stands after cut j, up to the next and with it. So what stands since the first u are
+// the gaps from its cut on. That is largest at the last s, so only there it is joined.
 ghost use mathlib.Core.Path.{_≡_};
-ghost use Prim.Native.Nat.{ℕ, _+_, _*_, _<_};
+ghost use Prim.Native.Nat.{ℕ, _+_, _*_, _≤_, _<_};
 ghost use lib.Dec.{eqb, ltb};
 ghost use lib.ListN.{length, getD, drop};
 ghost use Rattle.sets.specs.Tests.{_and_, _or_, non};
-ghost use Rattle.sets.specs.Members.{width, mem, those};
-ghost use Rattle.sets.specs.Rows.{Relation, inRow, rowsOf};
+ghost use Rattle.sets.specs.Members.{width, mem, those, noSet};
+ghost use Rattle.sets.specs.Rows.{rowAt};
 ghost use Rattle.bytes.specs.Sets.{setLength, setPut};
 ghost use Rattle.rules.specs.Traces.{_has_, atSome};
 ghost use Rattle.rules.specs.Mining.{between};
-ghost use Rattle.tally.specs.Passes.{gained, walked};
+ghost use Rattle.tally.specs.Passes.{walked};
 ghost use Rattle.months.specs.Layout.{pairSet, setIn};
-ghost use Rattle.months.specs.Pairs.{Gained};
+ghost use Rattle.months.specs.Pairs.{Gained, Kept, backTo, walkBack, widened, withFirst, seenWith, firstsWith};
 use crate::layout;
 use bytes::set;
 use miner::Places;
@@ -23,24 +24,43 @@ use sets::Set;
 use sets::activity::WIDTH;
 use sets::rows;
 
-// The set of u and s gains u's row.
-fn join_row(tally: &mut [u8], u: Activity, s: Activity, since: &Rows)
+// What was seen of a trace, and how many activities that is.
+struct Seen {
+    set: Set,
+    count: usize,
+}
+
+// The activities that were seen, in the order of their first places.
+type Firsts = [u8; WIDTH];
+
+// The set of u and s gains another.
+fn join_pair(tally: &mut [u8], u: Activity, s: Activity, since: Set)
     ensures { λ _. ⌜ now (tally .exit) ≡ setPut (now (tally .entry)) (setLength * pairSet (u .0) (s .0))
-        (those (λ v. mem (setIn (now (tally .entry)) (pairSet (u .0) (s .0))) v or inRow (now (since .entry)) (u .0) v)) ⌝ }
+        (those (λ v. mem (setIn (now (tally .entry)) (pairSet (u .0) (s .0))) v or mem since v)) ⌝ }
 {
-    let both = layout::between(tally, u, s).union(rows::row(since, u));
+    let both = layout::between(tally, u, s).union(since);
     bytes::put_set(tally, set::LENGTH * layout::pair_set(u, s), both);
 }
 
-// The same for every u that was seen.
-fn join_rows(tally: &mut [u8], seen: Set, s: Activity, since: &Rows)
-    requires { ⌜ s .0 < width ⌝ }
-    ensures { λ _. ⌜ Gained (now (tally .entry)) (λ u x v. mem seen u and inRow (now (since .entry)) u v and eqb x (s .0)) (now (tally .exit)) ⌝ }
+fn gap(gaps: &Rows, j: usize) -> Set
+    requires { ⌜ j < width ⌝ }
+    ensures { λ r. ⌜ r ≡ rowAt (now (gaps .entry)) j ⌝ }
 {
-    let mut rest = seen;
-    while !rest.is_empty() {
-        join_row(tally, rest.least(), s, since);
-        rest = rest.without_least();
+    rows::row(gaps, Activity(j as u8))
+}
+
+// From the latest first place back: what stands since then grows by the gap after it, and the set of that activity and s gains it.
+fn join_back<'a>(tally: &mut [u8], s: Activity, firsts: &'a Firsts, gaps: &'a Rows, count: usize)
+    requires { ⌜ (s .0 < width) × Kept (now firsts) (now gaps) count ⌝ }
+    ensures { λ _. ⌜ Gained (now (tally .entry)) (λ u x v. eqb x (s .0)
+        and walkBack (backTo (now (firsts .entry)) count) (backTo (now (gaps .entry)) count) (mem noSet) u v) (now (tally .exit)) ⌝ }
+{
+    let mut since = Set::EMPTY;
+    let mut j = count;
+    while 0 < j {
+        j -= 1;
+        since = since.union(gap(gaps, j));
+        join_pair(tally, Activity(firsts[j]), s, since);
     }
 }
 
@@ -60,41 +80,56 @@ fn join_last<'a>(
     tally: &mut [u8],
     last: &'a Places,
     at: Place,
-    seen: Set,
     s: Activity,
-    since: &'a Rows,
+    firsts: &'a Firsts,
+    gaps: &'a Rows,
+    count: usize,
 )
-    ensures { λ _. ⌜ Gained (now (tally .entry)) (λ u x v. ltb (s .0) width and eqb (getD (now (last .entry)) (s .0) 0) (at .0)
-        and (mem seen u and inRow (now (since .entry)) u v and eqb x (s .0))) (now (tally .exit)) ⌝ }
+    requires { ⌜ Kept (now firsts) (now gaps) count ⌝ }
+    ensures { λ _. ⌜ Gained (now (tally .entry)) (λ u x v. ltb (s .0) width and eqb (getD (now (last .entry)) (s .0) 0) (at .0) and (eqb x (s .0)
+        and walkBack (backTo (now (firsts .entry)) count) (backTo (now (gaps .entry)) count) (mem noSet) u v)) (now (tally .exit)) ⌝ }
 {
     if is_last(last, s, at) {
-        join_rows(tally, seen, s, since);
+        join_back(tally, s, firsts, gaps, count);
     }
 }
 
-// The row of every member gains e.
-fn share(rows: &mut Rows, members: Set, e: Activity)
-    ensures { λ _. ⌜ ((r : Relation) → now (rows .entry) ≡ rowsOf r → now (rows .exit) ≡ rowsOf (λ a x. r a x or mem members a and eqb x (e .0))) ⌝ }
+// The gap after the latest first place gains e; there is none before the first.
+fn widen(gaps: &mut Rows, count: usize, e: Activity)
+    requires { ⌜ count ≤ width ⌝ }
+    ensures { λ _. ⌜ now (gaps .exit) ≡ widened (now (gaps .entry)) count (e .0) ⌝ }
 {
-    let mut rest = members;
-    while !rest.is_empty() {
-        rows::join(rows, rest.least(), Set::one(e));
-        rest = rest.without_least();
+    if 0 < count {
+        rows::join(gaps, Activity((count - 1) as u8), Set::one(e));
     }
 }
 
-// One place of e: what stands since each u that was seen gains it. Row e of `known` has the u whose row has it already. It gives what was seen
-// with e.
-fn extend(since: &mut Rows, known: &mut Rows, seen: Set, e: Activity) -> Set
-    ensures later { λ _. ⌜ ((r : Relation) → now (since .entry) ≡ rowsOf r → now (known .entry) ≡ rowsOf (λ v u. r u v)
-        → now (since .exit) ≡ rowsOf (λ u v. r u v or mem seen u and eqb v (e .0))) ⌝ }
-    ensures earlier { λ _. ⌜ now (known .exit) ≡ gained (now (known .entry)) (e .0) (mem seen) ⌝ }
-    ensures next { λ r. ⌜ r ≡ those (λ x. mem seen x or eqb x (e .0)) ⌝ }
+// Puts e down behind the first places so far.
+fn put_first(firsts: &mut Firsts, count: usize, e: Activity)
+    ensures { λ _. ⌜ now (firsts .exit) ≡ withFirst (now (firsts .entry)) count (e .0) ⌝ }
 {
-    let fresh = seen.difference(rows::row(known, e));
-    share(since, fresh, e);
-    rows::join(known, e, seen);
-    seen.union(Set::one(e))
+    if count < WIDTH {
+        firsts[count] = e.0;
+    }
+}
+
+// What was seen with e: where e was not seen, this is its first place.
+fn and_now(firsts: &mut Firsts, seen: Seen, e: Activity) -> Seen
+    requires { ⌜ seen .count ≤ width ⌝ }
+    ensures now_seen { λ r. ⌜ r ≡ seenWith seen (e .0) ⌝ }
+    ensures firsts_now { λ _. ⌜ now (firsts .exit) ≡ firstsWith (now (firsts .entry)) seen (e .0) ⌝ }
+{
+    if seen.set.has(e) {
+        return seen;
+    }
+    if Activity::LIMIT <= e.0 {
+        return seen;
+    }
+    put_first(firsts, seen.count, e);
+    Seen {
+        set: seen.set.union(Set::one(e)),
+        count: seen.count + 1,
+    }
 }
 
 // The pass, with the last places known.
@@ -104,14 +139,18 @@ fn note_along<'a>(trace: &'a [u8], last: &'a Places, tally: &mut [u8])
     ensures { λ _. ⌜ Gained (now (tally .entry)) (λ u s v. atSome v (λ past rest. past has u and rest has s) (now (trace .entry)))
         (now (tally .exit)) ⌝ }
 {
-    let mut since = rows::empty();
-    let mut known = rows::empty();
-    let mut seen = Set::EMPTY;
+    let mut firsts: Firsts = [0; WIDTH];
+    let mut gaps = rows::empty();
+    let mut seen = Seen {
+        set: Set::EMPTY,
+        count: 0,
+    };
     let mut i: usize = 0;
     while i < trace.len() {
         let e = Activity(trace[i]);
-        join_last(tally, last, Place(i), seen, e, &since);
-        seen = extend(&mut since, &mut known, seen, e);
+        join_last(tally, last, Place(i), e, &firsts, &gaps, seen.count);
+        widen(&mut gaps, seen.count, e);
+        seen = and_now(&mut firsts, seen, e);
         i += 1;
     }
 }
