@@ -21,9 +21,10 @@ use Rattle.engine.specs.Markings.{emptyState, emptyMarking}
 use Rattle.engine.specs.Relations.{relationCount, headOf, graphOf, emptyGraph}
 use Rattle.engine.specs.declared.graph.Head.{Head}
 use Rattle.engine.specs.declared.graph.Graph.{Graph}
+use Rattle.bytes.specs.Sets.{setLength}
 use Rattle.graphfile.specs.declared.reader.Reading.{Reading}
 use Rattle.graphfile.specs.declared.reader.Bare.{Bare}
-use Rattle.graphfile.specs.Layout.{headLength, eventsIn, stateIn, headIn, countIn, earlierRows, keyIn, rowIn}
+use Rattle.graphfile.specs.Layout.{headLength, eventsPlace, eventsIn, stateIn, headIn, countIn, earlierRows, keyIn, rowIn}
 use Rattle.graphfile.specs.Refusals.{rises, rowAnswer, judgedRow, judgedBeforeRows, judgedRelation, judgedFile}
 use Rattle.graphfile.specs.Held.{filled, withRelation, relationsIn, graphIn, readOf, bareOf}
 use Rattle.graphfile.proofs.Judging.{row-judged}
@@ -132,6 +133,9 @@ module _ (bytes : List ℕ) (a : Answer) (d : Bool) (e : a ≡ judgedFile bytes)
 
   pub read-long : d ≡ true → headLength ≤ length bytes
   read-long y = accepted bytes (sym e ∙ done-is a (sym t ∙ y)) .long
+
+  pub events-there : d ≡ true → eventsPlace + setLength ≤ length bytes
+  events-there y = let long = read-long y in omega arith
 
   pub read-refused : (tables : List ℕ) → d ≡ false → tables ≡ noTables relationCount
       → _≡_ {A = Reading} (record { answer = a; graph = graphOf (headOf 0 noSet emptyMarking) tables }) (readOf bytes)
