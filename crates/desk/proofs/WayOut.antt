@@ -7,11 +7,13 @@ use borrow.Author.Tests.{le-ltb}
 use lib.Dec.{ltb}
 use lib.ListN.{length}
 use Rattle.sets.specs.Tests.{non, when_then_else_}
+use Rattle.sets.specs.declared.set.Set.{Set}
 use Rattle.sets.specs.declared.answer.Answer.the-variants.{BufferTooSmall, NotOpen}
 use Rattle.engine.specs.declared.marking.Marking.{Marking}
 use Rattle.engine.specs.declared.graph.Graph.{Graph}
 use Rattle.graphfile.proofs.LoneMarkings.{WholeMarking}
-use Rattle.finish.specs.Ways.{finishedBy, finishOf}
+use Rattle.engine.specs.Relations.{Relations}
+use Rattle.finish.specs.Ways.{finishedBy, finishOf, finishOn}
 use Rattle.finish.specs.declared.search.Finished.{Finished}
 use Rattle.desk.specs.Places.{tableLength, isOpen, markingAtPlace, SameAt}
 use Rattle.desk.specs.Histories.{Request, Fresh, Call, none, since, tableAfter, callAt}
@@ -21,6 +23,9 @@ use Rattle.desk.proofs.Isolation.{HoldsAt, history-holds}
 -- what the code was given at the marking that it read
 pub found-at : (g : Graph) (m m′ : Marking) (f : Finished) → m ≡ m′ → f ≡ finishOf g m → f ≡ finishOf g m′
 found-at g m m′ f same e = e ∙ ap (finishOf g) same
+
+pub found-on : (events : Set) (r : Relations) (m m′ : Marking) (f : Finished) → m ≡ m′ → f ≡ finishOn events r m → f ≡ finishOn events r m′
+found-on events r m m′ f same e = e ∙ ap (finishOn events r) same
 
 module _ (g : Graph) where
   -- a table that is the same at the place

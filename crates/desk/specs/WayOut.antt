@@ -4,11 +4,15 @@ use Prim.Native.Nat.{ℕ}
 use lib.Dec.{ltb}
 use lib.ListN.{length}
 use Rattle.sets.specs.Tests.{non, when_then_else_}
+use Rattle.sets.specs.Answers.{isDone}
+use Rattle.sets.specs.declared.set.Set.{Set}
 use Rattle.sets.specs.declared.answer.Answer.the-variants.{BufferTooSmall, NotOpen}
 use Rattle.engine.specs.declared.graph.Graph.{Graph}
-use Rattle.finish.specs.Ways.{finishedBy, finishOf}
+use Rattle.engine.specs.Relations.{Relations}
+use Rattle.finish.specs.Ways.{finishedBy, finishOf, finishOn}
 use Rattle.finish.specs.declared.search.Finished.{Finished}
 use Rattle.desk.specs.Places.{tableLength, isOpen, markingAtPlace}
+use Rattle.desk.specs.Desk.{placeAnswer}
 use Rattle.desk.specs.Histories.{Call, none, since, markingAfter}
 
 -- 7 where the bytes are too few for a table, 14 where the place is above 31 or not open, then what the search gives at the place's own marking:
@@ -18,6 +22,11 @@ finishedAt g table p =
     when ltb (length table) tableLength then finishedBy BufferTooSmall []
     else when non (isOpen table p) then finishedBy NotOpen []
     else finishOf g (markingAtPlace table p)
+
+-- the same on a graph that was judged before, as what step and close ask first
+unfoldable pub finishedOn : Set → Relations → List ℕ → ℕ → Finished
+finishedOn events r table p =
+    when isDone (placeAnswer table p) then finishOn events r (markingAtPlace table p) else finishedBy (placeAnswer table p) []
 
 -- what is given at a place, by the graph and the place's own call alone
 unfoldable pub finishBy : Graph → Call → Finished

@@ -5,13 +5,38 @@ use Prim.Native.Nat.{ℕ, zero, suc, _+_, _-_, _*_, _≤_, _<_}
 use native.Mathlib.Nat.{zero-add, suc-add, le-refl, le-trans}
 use native.Mathlib.Numerals.{add-one}
 use native.Mathlib.Omega.{arith}
-use lib.ListN.{length}
+use lib.ListN.{length, take, drop}
+use lib.Seq.{take-all}
 use Rattle.sets.specs.declared.set.Set.{Set}
 use Rattle.engine.specs.declared.marking.State.{State}
 use Rattle.engine.specs.Markings.{stateOf}
 use Rattle.engine.specs.Relations.{relationCount}
+use Rattle.bytes.specs.Numbers.{valueOf, numberAt, numberLength}
 use Rattle.bytes.specs.Sets.{setLength, setAt}
+use Rattle.bytes.proofs.Parts.{part, length-part}
+use Rattle.bytes.proofs.SetLaws.{at-there}
 use Rattle.graphfile.specs.Layout.{headLength, rowLength, countIn, sumOf, earlierRows, stateAt, endOf}
+
+-- ---- what the code cuts out for a number or a set, from its place to its end, is all that is read
+
+number-alone : (bytes : List ℕ) (at n : ℕ) → at + n ≤ length bytes → numberAt n (part bytes at n) 0 ≡ numberAt n bytes at
+unfolding numberAt
+number-alone bytes at n room = ap valueOf (take-all n (part bytes at n) (omega (arith, length-part bytes at n room)))
+
+pub number-cut : (bytes : List ℕ) (at x : ℕ) → at + numberLength ≤ length bytes
+    → x ≡ numberAt numberLength (take (at + numberLength - at) (drop at bytes)) 0 → x ≡ numberAt numberLength bytes at
+number-cut bytes at x room h =
+    let same : at + numberLength - at ≡ numberLength = omega arith in
+    h ∙ ap (λ (n : ℕ). numberAt numberLength (part bytes at n) 0) same ∙ number-alone bytes at numberLength room
+
+pub set-cut : (bytes : List ℕ) (at : ℕ) (s : Set) → at + setLength ≤ length bytes
+    → s ≡ setAt (take (at + setLength - at) (drop at bytes)) 0 → s ≡ setAt bytes at
+set-cut bytes at s room h =
+    let same : at + setLength - at ≡ setLength = omega arith in
+    let whole : 0 + setLength ≤ length (part bytes at setLength) = omega (arith, length-part bytes at setLength room) in
+    h
+    ∙ ap (λ (n : ℕ). setAt (part bytes at n) 0) same
+    ∙ rw (at-there (part bytes at setLength) 0 whole, at-there bytes at room, number-alone bytes at setLength room)
 
 -- ---- a state
 

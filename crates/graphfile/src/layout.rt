@@ -6,6 +6,8 @@ ghost use Rattle.graphfile.specs.Layout.{headLength, rowLength, stateLen
 ghost use Rattle.graphfile.specs.Markings.{markingLength};
 ghost use Rattle.graphfile.specs.Heads.{loneHeadLength};
 ghost use Rattle.engine.specs.Relations.{relationCount};
+ghost use Rattle.bytes.specs.Numbers.{numberAt, numberLength};
+ghost use Rattle.bytes.specs.Sets.{setLength, setAt};
 use bytes::number::LENGTH as NUMBER;
 use bytes::number_at;
 use bytes::set::LENGTH as SET;
@@ -58,14 +60,30 @@ pub const HEAD: usize = OFFSETS + ENTRY * RELATIONS;
 // The bytes of a row: a key and a set.
 pub const ROW: usize = 1 + SET;
 
+// The set at a place whose bytes are there. It is read from a part of just its length: then the compiler sees that there is room, and asks for it at no row.
+pub(crate) fn set_in(bytes: &[u8], at: usize) -> Set
+    requires { ⌜ at + setLength ≤ length (now bytes) ⌝ }
+    ensures { λ r. ⌜ r ≡ setAt (now (bytes .entry)) at ⌝ }
+{
+    set_at(&bytes[at..at + SET], 0)
+}
+
+// A number whose bytes are there, in the same way.
+fn number_in(bytes: &[u8], at: usize) -> u16
+    requires { ⌜ at + numberLength ≤ length (now bytes) ⌝ }
+    ensures { λ r. ⌜ r ≡ numberAt numberLength (now (bytes .entry)) at ⌝ }
+{
+    number_at(&bytes[at..at + NUMBER], 0)
+}
+
 // What a file holds of a marking, from a place on: executed, pending, included.
 fn state_at(bytes: &[u8], at: usize) -> State
     requires { ⌜ at + stateLength ≤ length (now bytes) ⌝ }
     ensures { λ r. ⌜ r ≡ stateAt (now (bytes .entry)) at ⌝ }
 {
-    let executed = set_at(bytes, at);
-    let pending = set_at(bytes, at + PENDING);
-    let included = set_at(bytes, at + INCLUDED);
+    let executed = set_in(bytes, at);
+    let pending = set_in(bytes, at + PENDING);
+    let included = set_in(bytes, at + INCLUDED);
     State::of(executed, pending, included)
 }
 
@@ -83,7 +101,7 @@ pub(crate) fn marking_at(bytes: &[u8], at: usize) -> Marking
 {
     Marking {
         state: state_at(bytes, at),
-        enabled: set_at(bytes, at + STATE),
+        enabled: set_in(bytes, at + STATE),
     }
 }
 
@@ -94,7 +112,7 @@ pub(crate) fn head_at(bytes: &[u8], at: usize) -> Head
 {
     Head {
         activities: bytes[at],
-        events: set_at(bytes, at + 1),
+        events: set_in(bytes, at + 1),
         opening: marking_at(bytes, at + MARKING),
     }
 }
@@ -104,7 +122,7 @@ pub(crate) fn head_in(bytes: &[u8], relations: &Relations) -> Head
     requires { ⌜ headLength ≤ length (now bytes) ⌝ }
     ensures { λ r. ⌜ r ≡ headIn (now (bytes .entry)) (now (relations .entry)) ⌝ }
 {
-    let events = set_at(bytes, EVENTS);
+    let events = set_in(bytes, EVENTS);
     let state = state_in(bytes);
     Head {
         activities: bytes[ACTIVITIES],
@@ -117,7 +135,7 @@ pub(crate) fn offset_in(bytes: &[u8], r: usize) -> usize
     requires { ⌜ (r < relationCount) × (headLength ≤ length (now bytes)) ⌝ }
     ensures { λ n. ⌜ n ≡ offsetIn (now (bytes .entry)) r ⌝ }
 {
-    number_at(bytes, OFFSETS + ENTRY * r) as usize
+    number_in(bytes, OFFSETS + ENTRY * r) as usize
 }
 
 pub(crate) fn count_in(bytes: &[u8], r: usize) -> usize
@@ -125,7 +143,7 @@ pub(crate) fn count_in(bytes: &[u8], r: usize) -> usize
     ensures { λ n. ⌜ n ≡ countIn (now (bytes .entry)) r ⌝ }
     ensures { λ n. ⌜ n < 65536 ⌝ }
 {
-    number_at(bytes, COUNTS + ENTRY * r) as usize
+    number_in(bytes, COUNTS + ENTRY * r) as usize
 }
 
 // How many rows the relations before r have.
@@ -154,5 +172,5 @@ pub(crate) fn row_in(bytes: &[u8], k: usize) -> Set
     requires { ⌜ headLength + rowLength * k + rowLength ≤ length (now bytes) ⌝ }
     ensures { λ r. ⌜ r ≡ rowIn (now (bytes .entry)) k ⌝ }
 {
-    set_at(bytes, HEAD + ROW * k + 1)
+    set_in(bytes, HEAD + ROW * k + 1)
 }

@@ -8,7 +8,6 @@ ghost use Rattle.sets.specs.Answers.{firstRefusal};
 ghost use Rattle.graphfile.specs.Refusals.{judgedHead, judgedEntry, judgedEnd, judgedBeforeRows, rises, rowAnswer};
 use crate::layout;
 use bytes::opens_with;
-use bytes::set_at;
 use engine::judge::state_within;
 use sets::Activity;
 use sets::Answer;
@@ -29,7 +28,7 @@ fn judge_head(bytes: &[u8]) -> Answer
     if Activity::LIMIT < activities {
         return Answer::AboveLimit;
     }
-    let events = set_at(bytes, layout::EVENTS);
+    let events = layout::set_in(bytes, layout::EVENTS);
     if !events.is_within(Set::below(activities)) {
         return Answer::Outside;
     }

@@ -17,7 +17,7 @@ use Rattle.engine.specs.Relations.{Relations, relationCount, inTables, relation
 use Rattle.engine.specs.Judged.{judged}
 use Rattle.graphfile.specs.Refusals.{judgedFile}
 use Rattle.graphfile.specs.Layout.{eventsIn, stateIn}
-use Rattle.graphfile.specs.Held.{relationsIn, graphIn, bareOf, readOf}
+use Rattle.graphfile.specs.Held.{relationsIn, graphIn, bareOf, bareTables, readOf}
 use Rattle.graphfile.specs.declared.reader.Bare.{Bare}
 use Rattle.bytes.proofs.Codec.{Bytes}
 use Rattle.graphfile.proofs.RoundTrips.{file-graph}
@@ -56,17 +56,19 @@ module _ (file : List ℕ) (r : Bare) (hr : r ≡ bareOf file) where
           ∙ ap (λ (a : Answer). when isDone a then stateIn file else emptyState) accepted
           ∙ sym (ap (λ (a : Answer). graphBy a .head .opening .state) accepted)
 
-      pub bare-relations : r .relations ≡ readOf file .graph .relations
-      unfolding readOf bareOf graphIn
-      bare-relations =
-          ap (λ (x : Bare). x .relations) hr
-          ∙ ap (λ (a : Answer). when isDone a then relationsIn file relationCount else noTables relationCount) accepted
-          ∙ sym (ap (λ (a : Answer). graphBy a .relations) accepted)
+      -- into tables that were lent empty
+      module _ (tables : List ℕ) (ht : tables ≡ bareTables file (noTables relationCount)) where
+        pub bare-relations : tables ≡ readOf file .graph .relations
+        unfolding readOf bareTables graphIn
+        bare-relations =
+            ht
+            ∙ ap (λ (a : Answer). when isDone a then relationsIn file relationCount else noTables relationCount) accepted
+            ∙ sym (ap (λ (a : Answer). graphBy a .relations) accepted)
 
-      -- so what is said of the events and relations read is said of the graph's
-      pub bare-graph : {A : Type 0} (F : Set → Relations → A)
-          → F (r .events) (inTables (r .relations)) ≡ F (readOf file .graph .head .events) (relationsOf (readOf file .graph))
-      bare-graph F j = F (bare-events j) (inTables (bare-relations j))
+        -- so what is said of the events and relations read is said of the graph's
+        pub bare-graph : {A : Type 0} (F : Set → Relations → A)
+            → F (r .events) (inTables tables) ≡ F (readOf file .graph .head .events) (relationsOf (readOf file .graph))
+        bare-graph F j = F (bare-events j) (inTables (bare-relations j))
 
       pub read-judged : Bytes file → judged (readOf file .graph) ≡ Done
       unfolding readOf

@@ -12,9 +12,10 @@ use Rattle.sets.specs.declared.answer.Answer.{Answer}
 use Rattle.sets.specs.declared.answer.Answer.the-variants.{Done, BufferTooSmall}
 use Rattle.sets.proofs.Asking.{ask-on, ask-stop, done-is}
 use Rattle.sets.proofs.Ways.{taken, passed-by}
-use Rattle.engine.specs.Relations.{inTables}
+use Rattle.sets.specs.Tables.{noTables}
+use Rattle.engine.specs.Relations.{relationCount, inTables}
 use Rattle.engine.specs.Judged.{judged}
-use Rattle.graphfile.specs.Held.{bareOf, readOf}
+use Rattle.graphfile.specs.Held.{bareOf, bareTables, readOf}
 use Rattle.graphfile.specs.declared.reader.Reading.{Reading}
 use Rattle.graphfile.specs.declared.reader.Bare.{Bare}
 use Rattle.bytes.proofs.Codec.{Bytes}
@@ -188,7 +189,8 @@ module _ (file table : List ℕ) (p : ℕ) where
 
 -- the graph of a file that was read, and judged by reading it
 module _ (file : List ℕ) (small : Bytes file) (table : List ℕ) (p : ℕ) (b : Answer) (d : Bool) (hb : b ≡ placeAnswer table p) (hd : d ≡ isDone b)
-    (t : not d ≡ false) (r : Bare) (f : Bool) (hr : r ≡ bareOf file) (hf : f ≡ isDone (r .answer)) (u : not f ≡ false) where
+    (t : not d ≡ false) (r : Bare) (f : Bool) (hr : r ≡ bareOf file) (hf : f ≡ isDone (r .answer)) (u : not f ≡ false)
+    (tables : List ℕ) (ht : tables ≡ bareTables file (noTables relationCount)) where
   there : isDone (beforePlace file table p) ≡ true
   there = asked file table p b d hb hd t (r .answer) f (bare-answer file r hr) hf u
 
@@ -198,37 +200,37 @@ module _ (file : List ℕ) (small : Bytes file) (table : List ℕ) (p : ℕ) (b 
   accepted : judged (readOf file .graph) ≡ Done
   accepted = read-judged file r hr f hf u small
 
-  pub step-served : (e n : ℕ) (x : Answer) → x ≡ stepAnswerOn (r .events) (inTables (r .relations)) table p e → n ≡ blockedOf x 0 false
+  pub step-served : (e n : ℕ) (x : Answer) → x ≡ stepAnswerOn (r .events) (inTables tables) table p e → n ≡ blockedOf x 0 false
       → n ≡ deskStepNumber file table p e
   unfolding deskStepNumber
   step-served e n x q h =
       h
       ∙ ap (λ (y : Answer). blockedOf y 0 false)
-      (q ∙ bare-graph file r hr f hf u (λ E R. stepAnswerOn E R table p e) ∙ sym (step-answer-on (readOf file .graph) accepted table p e)
+      (q ∙ bare-graph file r hr f hf u tables ht (λ E R. stepAnswerOn E R table p e) ∙ sym (step-answer-on (readOf file .graph) accepted table p e)
       ∙ sym (on (stepAnswer (readOf file .graph) table p e)))
 
-  pub step-served-table : (e : ℕ) (table′ : List ℕ) → table′ ≡ tableSteppedOn (r .events) (inTables (r .relations)) table p e
+  pub step-served-table : (e : ℕ) (table′ : List ℕ) → table′ ≡ tableSteppedOn (r .events) (inTables tables) table p e
       → table′ ≡ deskStepTable file table p e
   unfolding deskStepTable
   step-served-table e table′ q =
       served (beforePlace file table p) there (tableStepped (readOf file .graph) table p e) table table′
-      (q ∙ bare-graph file r hr f hf u (λ E R. tableSteppedOn E R table p e) ∙ sym (step-table-on (readOf file .graph) accepted table p e))
+      (q ∙ bare-graph file r hr f hf u tables ht (λ E R. tableSteppedOn E R table p e) ∙ sym (step-table-on (readOf file .graph) accepted table p e))
 
-  pub close-served : (n : ℕ) (x : Answer) → x ≡ closeAnswerOn (r .events) (inTables (r .relations)) table p → n ≡ packedOf x 0
+  pub close-served : (n : ℕ) (x : Answer) → x ≡ closeAnswerOn (r .events) (inTables tables) table p → n ≡ packedOf x 0
       → n ≡ deskCloseNumber file table p
   unfolding deskCloseNumber
   close-served n x q h =
       h
       ∙ ap (λ (y : Answer). packedOf y 0)
-      (q ∙ bare-graph file r hr f hf u (λ E R. closeAnswerOn E R table p) ∙ sym (close-answer-on (readOf file .graph) accepted table p)
+      (q ∙ bare-graph file r hr f hf u tables ht (λ E R. closeAnswerOn E R table p) ∙ sym (close-answer-on (readOf file .graph) accepted table p)
       ∙ sym (on (closeAnswer (readOf file .graph) table p)))
 
-  pub close-served-table : (table′ : List ℕ) → table′ ≡ tableClosedOn (r .events) (inTables (r .relations)) table p
+  pub close-served-table : (table′ : List ℕ) → table′ ≡ tableClosedOn (r .events) (inTables tables) table p
       → table′ ≡ deskCloseTable file table p
   unfolding deskCloseTable
   close-served-table table′ q =
       served (beforePlace file table p) there (tableClosed (readOf file .graph) table p) table table′
-      (q ∙ bare-graph file r hr f hf u (λ E R. tableClosedOn E R table p) ∙ sym (close-table-on (readOf file .graph) accepted table p))
+      (q ∙ bare-graph file r hr f hf u tables ht (λ E R. tableClosedOn E R table p) ∙ sym (close-table-on (readOf file .graph) accepted table p))
 
 pub ruleset stepping-there = (step-no-place, step-no-place-table, step-no-file, step-no-file-table)
 

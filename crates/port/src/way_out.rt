@@ -5,10 +5,13 @@ ghost use Rattle.sets.specs.Answers.{numberOf};
 ghost use Rattle.port.specs.WayOut.{wayInto, wayAfter, finishIn, finishNumber, finishBytes, shutNumber};
 ghost use Rattle.port.specs.WayOut.{deskFinishIn, deskFinishNumber, deskFinishBytes};
 use crate::packed;
+use engine::Relations;
+use engine::graph::KINDS;
 use finish::Finished;
 use finish::Way;
 use sets::Activity;
 use sets::Answer;
+use sets::activity::WIDTH;
 
 // How many bytes a way takes.
 const LENGTH: usize = 4;
@@ -42,11 +45,12 @@ fn given(f: Finished, way: &mut [u8]) -> u64
     answer.number() as u64
 }
 
-// The way out: the file's refusals, then 7 where the marking or the room for the way has too few bytes, then the search's.
+// The way out: the file's refusals, then 7 where the marking or the room for the way has too few bytes, then the search's. Reading has judged the graph.
 fn finished<'a>(file: &'a [u8], marking: &'a [u8], room: usize) -> Finished
     ensures { λ r. ⌜ r ≡ finishIn (now (file .entry)) (now (marking .entry)) room ⌝ }
 {
-    let r = graphfile::read(file);
+    let mut relations: Relations = [0; KINDS as usize * WIDTH];
+    let r = graphfile::read_bare(file, &mut relations);
     let answer = r.answer;
     if !answer.is_done() {
         return Finished {
@@ -66,9 +70,8 @@ fn finished<'a>(file: &'a [u8], marking: &'a [u8], room: usize) -> Finished
             way: Way::NONE,
         };
     }
-    let g = r.graph;
     let m = graphfile::marking::read_marking(marking);
-    finish::search::finish(g, m)
+    finish::search::way_out_on(r.events, &relations, m)
 }
 
 // The way out from a marking of 32 bytes into four lent bytes, 255 in those that are not used; they stay as they were where it is refused.
@@ -96,7 +99,8 @@ fn finished_at<'a>(file: &'a [u8], table: &'a [u8], place: usize, room: usize) -
             way: Way::NONE,
         };
     }
-    let r = graphfile::read(file);
+    let mut relations: Relations = [0; KINDS as usize * WIDTH];
+    let r = graphfile::read_bare(file, &mut relations);
     let answer = r.answer;
     if !answer.is_done() {
         return Finished {
@@ -110,8 +114,7 @@ fn finished_at<'a>(file: &'a [u8], table: &'a [u8], place: usize, room: usize) -
             way: Way::NONE,
         };
     }
-    let head = r.graph.head;
-    desk::finish(head, &r.graph.relations, table, place)
+    desk::finish_on(r.events, &relations, table, place)
 }
 
 // The same for the call at a place of the desk; the table is lent to be read.
