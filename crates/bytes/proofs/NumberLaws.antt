@@ -7,7 +7,7 @@ use native.Mathlib.Omega.{arith}
 use borrow.Author.Tests.{le-ltb, ltb-true, not-true, not-false}
 use lib.Dec.{ltb}
 use lib.ListN.{length, getD, take, drop, List·getD-eq-default}
-use lib.Seq.{sets}
+use lib.Seq.{sets, length-sets}
 use Rattle.sets.specs.Tests.{when_then_else_}
 use Rattle.sets.specs.Files.{littleEndian, valueOf, numberAt}
 use Rattle.sets.proofs.Files.{two-bytes}
@@ -41,6 +41,22 @@ pub ruleset numbering = (byte-past, number-few, put-nothing, put-some)
 
 pub put-there : (bytes : List ℕ) (at x : ℕ) → at + numberLength ≤ length bytes → numberPut bytes at x ≡ sets bytes at (littleEndian numberLength x)
 put-there bytes at x h = sym (put-some bytes at false (sym (le-ltb (length bytes) (at + numberLength) h)) x _ refl refl)
+
+pub length-put : (bytes : List ℕ) (at x : ℕ) → length (numberPut bytes at x) ≡ length bytes
+unfolding numberPut
+length-put bytes at x = by (ltb (length bytes) (at + numberLength))
+  where
+    by : (t : Bool) → length (when t then bytes else sets bytes at (littleEndian numberLength x)) ≡ length bytes
+    by true = refl
+    by false = length-sets bytes at (littleEndian numberLength x)
+
+-- a put is a store, and keeps the length
+module _ (o o₁ : List ℕ) (at x : ℕ) (h : o₁ ≡ numberPut o at x) where
+  pub number-stored : at + numberLength ≤ length o → o₁ ≡ sets o at (littleEndian numberLength x)
+  number-stored room = h ∙ put-there o at x room
+
+  pub number-kept : length o₁ ≡ length o
+  number-kept = ap length h ∙ length-put o at x
 
 -- ---- a number stands where its bytes stand
 

@@ -68,6 +68,14 @@ pub length-put : (bytes : List ℕ) (at : ℕ) (s : Set) → length (setPut byte
 length-put bytes at s =
     ways _ bytes at setLength (λ h. ap length (put-there bytes at s h) ∙ length-sets bytes at (setBytes s)) (λ h. ap length (put-missing bytes at s h))
 
+-- a put is a store, and keeps the length
+module _ (o o₁ : List ℕ) (at : ℕ) (s : Set) (h : o₁ ≡ setPut o at s) where
+  pub set-stored : at + setLength ≤ length o → o₁ ≡ sets o at (setBytes s)
+  set-stored room = h ∙ put-there o at s room
+
+  pub set-kept : length o₁ ≡ length o
+  set-kept = ap length h ∙ length-put o at s
+
 -- ---- what was put, read again
 
 -- a set stands where its bytes stand

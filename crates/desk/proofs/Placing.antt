@@ -10,16 +10,15 @@ use lib.Dec.{T, eqb, ltb}
 use lib.ListN.{length, getD, set, length-set}
 use lib.Seq.{sets, length-sets, getD-set-same, getD-set-other}
 use Rattle.sets.specs.Tests.{_and_, non}
-use Rattle.sets.specs.Files.{littleEndian}
 use Rattle.sets.specs.Members.{everyBelow, someBelow, leastBelow}
 use Rattle.sets.proofs.Tests.{T→true, true→T, F→false, false→F, non-i, non-e, split, either, not-non, non-non, and-l}
 use Rattle.sets.proofs.Ways.{above, not-above, stops-l, goes, failed, held, passed}
 use Rattle.sets.proofs.Below.{least-only, least-le, some-least, non-some, every-ext}
 use Rattle.engine.specs.declared.marking.Marking.{Marking}
 use Rattle.graphfile.specs.Layout.{markingAt}
-use Rattle.graphfile.specs.Writing.{stateBytes}
 use Rattle.graphfile.specs.Markings.{markingLength, markingBytes, markingHeld, markingPut}
-use Rattle.graphfile.proofs.LoneMarkings.{held-there, put-there, Apart, getD-apart, marking-apart, marking-back, WholeMarking}
+use Rattle.bytes.proofs.Parts.{Apart, getD-apart}
+use Rattle.graphfile.proofs.LoneMarkings.{held-there, put-there, length-marking, marking-apart, marking-back, WholeMarking}
 use Rattle.desk.specs.Places.{placeCount, placeLength, tableLength, placeStart, isOpen, markingAtPlace, withMarking, withPlace, lowestFree}
 
 -- ---- ways through the code
@@ -100,19 +99,19 @@ apart p q n =
 module _ (table : List ℕ) (p q : ℕ) where
   module _ (m : Marking) where
     pub open-kept : isOpen (withMarking table p m) q ≡ isOpen table q
-    unfolding isOpen withMarking markingBytes stateBytes littleEndian
+    unfolding isOpen withMarking
     open-kept =
         ap (λ (x : ℕ). ltb q placeCount and non (eqb x 0))
         (getD-apart table (placeStart q) (placeStart p + 1) (markingBytes m)
         (either (split (ltb p q))
-        (λ l. let k = ltb-true p q (T→true _ l) in inr (omega arith))
+        (λ l. let k = ltb-true p q (T→true _ l) in inr (omega (arith, length-marking m)))
         (λ h. let k = ltb-false p q (F→false _ h) in inl (omega arith))))
 
     pub marking-kept : p ≢ q → markingAtPlace (withMarking table p m) q ≡ markingAtPlace table q
-    unfolding markingAtPlace withMarking markingBytes stateBytes littleEndian
+    unfolding markingAtPlace withMarking
     marking-kept n =
         marking-apart table (placeStart q + 1) (placeStart p + 1) (markingBytes m)
-        (either (apart p q n) (λ l. inr (omega arith)) (λ l. inl (omega arith)))
+        (either (apart p q n) (λ l. inr (omega (arith, length-marking m))) (λ l. inl (omega arith)))
 
   module _ (b : ℕ) where
     pub byte-open : p ≢ q → isOpen (set table (placeStart p) b) q ≡ isOpen table q

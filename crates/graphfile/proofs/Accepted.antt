@@ -19,7 +19,7 @@ use Rattle.engine.specs.Judged.{stateWithin}
 use Rattle.sets.specs.Sizes.{mostActivities}
 use Rattle.sets.specs.Files.{opensWith}
 use Rattle.engine.specs.Relations.{relationCount}
-use Rattle.graphfile.specs.Layout.{letters, headLength, rowLength, activitiesIn, eventsIn, stateIn, offsetIn, countIn}
+use Rattle.graphfile.specs.Layout.{mark, headLength, rowLength, activitiesIn, eventsIn, stateIn, offsetIn, countIn}
 use Rattle.graphfile.specs.Layout.{earlierRows, endOf}
 use Rattle.graphfile.specs.Refusals.{mostRows, judgedHead, judgedEntry, judgedEnd, judgedBeforeRows, judgedRow, judgedRelation}
 use Rattle.graphfile.specs.Refusals.{judgedFile}
@@ -90,7 +90,7 @@ acceptable bytes a =
 -- ---- the head and an entry
 
 pub record Head (bytes : List ℕ) : Type 0 where
-  pub opens : T (opensWith letters bytes)
+  pub opens : T (opensWith mark bytes)
   pub few : activitiesIn bytes ≤ mostActivities
   pub events : T (within (eventsIn bytes) (those (λ a. ltb a (activitiesIn bytes))))
   pub marking : T (stateWithin (eventsIn bytes) (stateIn bytes))
@@ -98,7 +98,7 @@ pub record Head (bytes : List ℕ) : Type 0 where
 pub head-done : (bytes : List ℕ) → judgedHead bytes ≡ Done → Head bytes
 unfolding judgedHead
 head-done bytes h =
-    let two = went (non (opensWith letters bytes)) WrongLetters _ refl h in
+    let two = went (non (opensWith mark bytes)) WrongLetters _ refl h in
     let three = went (ltb mostActivities (activitiesIn bytes)) AboveLimit _ refl (two .1) in
     let low = went (non (within (eventsIn bytes) (those (λ a. ltb a (activitiesIn bytes))))) Outside _ refl (three .1) in
     let five = went (non (stateWithin (eventsIn bytes) (stateIn bytes))) Outside Done refl (low .1) in
@@ -113,7 +113,7 @@ pub done-head : (bytes : List ℕ) → Head bytes → judgedHead bytes ≡ Done
 unfolding judgedHead non
 done-head bytes h =
     rw (
-      T→true (opensWith letters bytes) (h .opens),
+      T→true (opensWith mark bytes) (h .opens),
       le-ltb mostActivities (activitiesIn bytes) (h .few),
       T→true (within (eventsIn bytes) (those (λ a. ltb a (activitiesIn bytes)))) (h .events),
       T→true (stateWithin (eventsIn bytes) (stateIn bytes)) (h .marking),

@@ -26,15 +26,19 @@ use Rattle.sets.proofs.Files.{opens-is}
 use Rattle.engine.specs.Relations.{relationCount}
 use Rattle.engine.specs.Judged.{rowWithin, rowsWithin, relationsWithin, graphWithin, judgedFor, judged}
 use Rattle.engine.proofs.Acceptable.{judged-at}
-use Rattle.graphfile.specs.Layout.{letters, headLength, rowLength, activitiesIn, eventsIn, stateIn, headIn, offsetIn, countIn, sumOf}
-use Rattle.graphfile.specs.Layout.{earlierRows, keyIn, rowIn}
+use Rattle.graphfile.specs.Layout.{mark, headLength, rowLength, activitiesIn, eventsIn, stateIn, headIn, offsetIn, countIn, sumOf}
+use Rattle.graphfile.specs.Layout.{activitiesPlace, eventsPlace, executedPlace, stateLength, entriesPlace, entryLength, earlierRows, keyIn, rowIn}
 use Rattle.graphfile.specs.Refusals.{judgedRow}
 use Rattle.graphfile.specs.Held.{relationsIn, graphIn}
-use Rattle.graphfile.specs.Writing.{setBytes, rowOf, rowsFrom, rowCount, rowsBefore, entryBytes, entriesBytes, stateBytes}
+use Rattle.graphfile.specs.Writing.{rowOf, rowsFrom, rowCount, rowsBefore, entryBytes, entriesBytes, stateBytes}
 use Rattle.graphfile.specs.Writing.{headBytes}
 use Rattle.graphfile.specs.Writing.{relationBytes, relationsBytes, bytesOf}
-use Rattle.graphfile.proofs.Codec.{Bytes}
-use Rattle.graphfile.proofs.Parts.{part, meet, length-part, part-whole, part-one, part-number, part-row, set-whole}
+use Rattle.bytes.specs.Numbers.{numberLength}
+use Rattle.bytes.specs.Sets.{setLength, setBytes, setAt}
+use Rattle.bytes.proofs.Codec.{Bytes}
+use Rattle.bytes.proofs.Parts.{part, meet, length-part, part-whole, part-one}
+use Rattle.bytes.proofs.NumberLaws.{part-number}
+use Rattle.bytes.proofs.SetLaws.{set-part, set-whole}
 use Rattle.graphfile.proofs.Accepted.{Accepted, head-done, entry-done}
 use Rattle.graphfile.proofs.Stores.{length-rows}
 use Rattle.graphfile.proofs.Legal.{Legal, rowsFilled, relationIn, from-lower, filled-below, filled-first, filled-inside}
@@ -50,6 +54,13 @@ row-empty a s e = ap (λ (b : Bool). when b then [] else a ∷ setBytes s) e
 pub row-some : (a : ℕ) (s : Set) → isEmpty s ≡ false → rowOf a s ≡ a ∷ setBytes s
 unfolding rowOf
 row-some a s e = ap (λ (b : Bool). when b then [] else a ∷ setBytes s) e
+
+-- a row that was read, put down again
+part-row : (l : List ℕ) → Bytes l → (k : ℕ) → headLength + rowLength * k + rowLength ≤ length l
+    → (keyIn l k ∷ setBytes (rowIn l k)) ≡ part l (headLength + rowLength * k) rowLength
+part-row l bytes k h =
+    meet l (keyIn l k ∷ []) (setBytes (rowIn l k)) (headLength + rowLength * k) 1 (headLength + rowLength * k + 1) setLength refl
+    (part-one l (headLength + rowLength * k) (omega arith)) (set-part l bytes (headLength + rowLength * k + 1) (omega arith))
 
 module _ (events : Set) (bytes : List ℕ) (small : Bytes bytes) where
   -- the first of the rows, where its key is a
@@ -126,7 +137,7 @@ module _ (bytes : List ℕ) (small : Bytes bytes) (ok : Accepted bytes) where
   pub legal : (r : ℕ) → r < relationCount → Legal (eventsIn bytes) bytes 0 (countIn bytes r) (earlierRows bytes r)
   legal r l =
       subst (λ (k : ℕ). Legal (eventsIn bytes) bytes 0 (countIn bytes r) k) (add-zero (earlierRows bytes r))
-      (done-legal bytes (earlierRows bytes r) (whole-low (eventsIn bytes) (set-whole bytes small 4 (omega (arith, ok .long))))
+      (done-legal bytes (earlierRows bytes r) (whole-low (eventsIn bytes) (set-whole bytes small eventsPlace))
       (countIn bytes r) 0 0 (λ p. zero-le)
       (λ i h. ap (judgedRow bytes (earlierRows bytes r)) (zero-add i) ∙ ok .row r l i h))
 
@@ -157,38 +168,41 @@ module _ (bytes : List ℕ) (small : Bytes bytes) (ok : Accepted bytes) where
         (filled-inside (eventsIn bytes) bytes noRows 0 (countIn bytes r) (earlierRows bytes r) refl (legal r l)
         (λ b h. no-inside (eventsIn bytes) b)))
 
-    entry-back : entryBytes (earlierRows bytes r) (countIn bytes r) ≡ part bytes (36 + 4 * r) 4
+    entry-back : entryBytes (earlierRows bytes r) (countIn bytes r) ≡ part bytes (entriesPlace + entryLength * r) entryLength
     entry-back =
         let offset : rowLength * earlierRows bytes r ≡ offsetIn bytes r = omega (arith, entry-done bytes r (ok .entry r l) .1) in
-        meet bytes _ _ (36 + 4 * r) 2 (38 + 4 * r) 2 (omega arith)
-        (ap (littleEndian 2) offset ∙ part-number bytes small 2 (36 + 4 * r) (omega (arith, ok .long)))
-        (part-number bytes small 2 (38 + 4 * r) (omega (arith, ok .long)))
+        let at : ℕ = entriesPlace + entryLength * r in
+        meet bytes _ _ at numberLength (entriesPlace + numberLength + entryLength * r) numberLength (omega arith)
+        (ap (littleEndian numberLength) offset ∙ part-number bytes small at numberLength (omega (arith, ok .long)))
+        (part-number bytes small (entriesPlace + numberLength + entryLength * r) numberLength (omega (arith, ok .long)))
 
   -- as many rows are written before a relation as were read
   before-back : (r : ℕ) → r ≤ relationCount → rowsBefore tables r ≡ earlierRows bytes r
   before-back r l = sum-ext (λ k. rowCount (tableAt tables k)) (countIn bytes) r (λ k h. count-back k (omega arith))
 
-  head-back : headBytes (headIn bytes tables) ≡ part bytes 0 36
+  head-back : headBytes (headIn bytes tables) ≡ part bytes 0 entriesPlace
   unfolding headBytes stateBytes
   head-back =
-      let start = meet bytes letters (activitiesIn bytes ∷ []) 0 3 3 1 refl
-      (sym (opens-is letters bytes (head-done bytes (ok .head) .opens))) (part-one bytes 3 (omega (arith, ok .long))) in
-      let events = meet bytes _ _ 0 4 4 8 refl start (part-number bytes small 8 4 (omega (arith, ok .long))) in
-      let marking =
-      meet bytes _ _ 12 16 28 8 refl
-      (meet bytes _ _ 12 8 20 8 refl (part-number bytes small 8 12 (omega (arith, ok .long)))
-      (part-number bytes small 8 20 (omega (arith, ok .long))))
-      (part-number bytes small 8 28 (omega (arith, ok .long))) in
-      meet bytes _ _ 0 12 12 24 refl events marking
+      let set : (at : ℕ) → at + setLength ≤ entriesPlace → setBytes (setAt bytes at) ≡ part bytes at setLength =
+      λ at l. set-part bytes small at (omega (arith, ok .long)) in
+      let start = meet bytes mark (activitiesIn bytes ∷ []) 0 activitiesPlace activitiesPlace 1 refl
+      (sym (opens-is mark bytes (head-done bytes (ok .head) .opens))) (part-one bytes activitiesPlace (omega (arith, ok .long))) in
+      let events = meet bytes _ _ 0 eventsPlace eventsPlace setLength refl start (set eventsPlace (omega arith)) in
+      let state =
+      meet bytes _ _ executedPlace (2 * setLength) (executedPlace + 2 * setLength) setLength refl
+      (meet bytes _ _ executedPlace setLength (executedPlace + setLength) setLength refl (set executedPlace (omega arith))
+      (set (executedPlace + setLength) (omega arith)))
+      (set (executedPlace + 2 * setLength) (omega arith)) in
+      meet bytes _ _ 0 executedPlace executedPlace stateLength refl events state
 
-  entries-back : (r : ℕ) → r ≤ relationCount → entriesBytes tables r ≡ part bytes 36 (4 * r)
+  entries-back : (r : ℕ) → r ≤ relationCount → entriesBytes tables r ≡ part bytes entriesPlace (entryLength * r)
   unfolding entriesBytes
   entries-back zero l = refl
   entries-back (suc r) l =
-      let size : 4 * r + 4 ≡ 4 * suc r = omega arith in
+      let size : entryLength * r + entryLength ≡ entryLength * suc r = omega arith in
       (λ i. entriesBytes tables r ++ entryBytes (before-back r (omega arith) i) (count-back r l i))
-      ∙ meet bytes _ _ 36 (4 * r) (36 + 4 * r) 4 refl (entries-back r (omega arith)) (entry-back r l)
-      ∙ ap (part bytes 36) size
+      ∙ meet bytes _ _ entriesPlace (entryLength * r) (entriesPlace + entryLength * r) entryLength refl (entries-back r (omega arith)) (entry-back r l)
+      ∙ ap (part bytes entriesPlace) size
 
   relations-back : (r : ℕ) → r ≤ relationCount → relationsBytes tables r ≡ part bytes headLength (rowLength * earlierRows bytes r)
   unfolding relationsBytes sumOf
@@ -206,7 +220,7 @@ module _ (bytes : List ℕ) (small : Bytes bytes) (ok : Accepted bytes) where
   unfolding bytesOf graphIn
   file-back =
       meet bytes _ _ 0 headLength headLength (rowLength * earlierRows bytes relationCount) refl
-      (meet bytes _ _ 0 36 36 16 refl head-back (entries-back relationCount (omega arith))) (relations-back relationCount (omega arith))
+      (meet bytes _ _ 0 entriesPlace entriesPlace (entryLength * relationCount) refl head-back (entries-back relationCount (omega arith))) (relations-back relationCount (omega arith))
       ∙ part-whole bytes (headLength + rowLength * earlierRows bytes relationCount) (omega (arith, ok .end))
 
   -- the graph of an accepted file is acceptable

@@ -133,9 +133,6 @@ module _ (bytes : List ℕ) (a : Answer) (d : Bool) (e : a ≡ judgedFile bytes)
   pub read-long : d ≡ true → headLength ≤ length bytes
   read-long y = accepted bytes (sym e ∙ done-is a (sym t ∙ y)) .long
 
-  pub read-events : d ≡ true → 4 + 8 ≤ length bytes
-  read-events y = omega (arith, read-long y)
-
   pub read-refused : (tables : List ℕ) → d ≡ false → tables ≡ noTables relationCount
       → _≡_ {A = Reading} (record { answer = a; graph = graphOf (headOf 0 noSet emptyMarking) tables }) (readOf bytes)
   read-refused tables n h = reading false _ n (ap (graphOf (headOf 0 noSet emptyMarking)) h)

@@ -19,8 +19,9 @@ use Rattle.sets.proofs.Members.{Whole, whole-empty}
 use Rattle.sets.proofs.RowLaws.{length-put, row-put-same, row-put-other}
 use Rattle.engine.specs.Judged.{rowWithin}
 use Rattle.graphfile.specs.Layout.{headLength, rowLength, keyIn, rowIn}
-use Rattle.graphfile.specs.Writing.{setBytes, rowOf, rowsFor, rowsFrom, countFrom}
-use Rattle.graphfile.proofs.Parts.{length-set, set-read}
+use Rattle.graphfile.specs.Writing.{rowOf, rowsFor, rowsFrom, countFrom}
+use Rattle.bytes.specs.Sets.{setLength, setBytes}
+use Rattle.bytes.proofs.SetLaws.{length-set, set-read}
 use Rattle.graphfile.proofs.FileBack.{row-empty, row-some}
 use Rattle.graphfile.proofs.Legal.{LegalRow, Legal, rowsFilled}
 
@@ -37,8 +38,8 @@ module _ (bytes : List ℕ) (k a : ℕ) (s : Set) (rest : List ℕ) (whole : Who
   row-read : rowIn bytes k ≡ s
   row-read =
       set-read bytes (headLength + rowLength * k + 1) s
-      (ap (take 8) (sym (drop-drop 1 (headLength + rowLength * k) bytes) ∙ ap (drop 1) here)
-      ∙ take-at (setBytes s) rest 8 (length-set s)) whole
+      (ap (take setLength) (sym (drop-drop 1 (headLength + rowLength * k) bytes) ∙ ap (drop 1) here)
+      ∙ take-at (setBytes s) rest setLength (length-set s)) whole
 
   rest-read : drop (headLength + rowLength * suc k) bytes ≡ rest
   rest-read =
@@ -46,7 +47,7 @@ module _ (bytes : List ℕ) (k a : ℕ) (s : Set) (rest : List ℕ) (whole : Who
       ap (λ (n : ℕ). drop n bytes) next
       ∙ sym (drop-drop rowLength (headLength + rowLength * k) bytes)
       ∙ ap (drop rowLength) here
-      ∙ drop-at (setBytes s) rest 8 (length-set s)
+      ∙ drop-at (setBytes s) rest setLength (length-set s)
 
 -- ---- row by row
 

@@ -29,12 +29,17 @@ use Rattle.engine.specs.declared.marking.State.{State}
 use Rattle.engine.specs.declared.graph.Graph.{Graph}
 use Rattle.engine.specs.Judged.{stateWithin, rowWithin, rowsWithin, graphWithin, judged}
 use Rattle.engine.proofs.Acceptable.{judged-activities, judged-within, judged-true, events-inside, opening-inside, rows-inside}
+use Rattle.bytes.specs.Numbers.{numberLength}
+use Rattle.bytes.specs.Sets.{setLength, setBytes}
+use Rattle.bytes.proofs.Parts.{part}
+use Rattle.bytes.proofs.NumberLaws.{number-read}
+use Rattle.bytes.proofs.SetLaws.{set-read}
+use Rattle.graphfile.specs.Layout.{eventsPlace, executedPlace, entriesPlace, entryLength}
 use Rattle.graphfile.specs.Layout.{headLength, rowLength, activitiesIn, eventsIn, stateIn, offsetIn, countIn, sumOf, earlierRows}
 use Rattle.graphfile.specs.Refusals.{judgedRow, judgedFile}
 use Rattle.graphfile.specs.Held.{relationsIn, graphIn}
 use Rattle.graphfile.specs.Writing.{rowsFor, countFrom, rowCount, rowsBefore, entriesBytes, stateBytes, headBytes}
 use Rattle.graphfile.specs.Writing.{relationBytes, relationsBytes, bytesOf}
-use Rattle.graphfile.proofs.Parts.{part, number-read, set-read}
 use Rattle.graphfile.proofs.Accepted.{Accepted, Head, acceptable, done-head, done-entry}
 use Rattle.graphfile.proofs.Places.{sum-ext}
 use Rattle.graphfile.proofs.Stores.{length-head, length-entries, length-relations, length-file}
@@ -122,20 +127,20 @@ module _ (g : Graph) (machine : Machine g) (ok : judged g ≡ Done) where
   before r = rowsBefore (g .relations) r
 
   events-read : eventsIn file ≡ g .head .events
-  unfolding bytesOf headBytes littleEndian
-  events-read = set-read file 4 (g .head .events) refl (machine .events)
+  unfolding bytesOf headBytes setBytes littleEndian
+  events-read = set-read file eventsPlace (g .head .events) refl (machine .events)
 
   activities-read : activitiesIn file ≡ g .head .activities
   unfolding bytesOf headBytes
   activities-read = refl
 
   state-read : stateIn file ≡ g .head .opening .state
-  unfolding bytesOf headBytes stateBytes littleEndian
+  unfolding bytesOf headBytes stateBytes setBytes littleEndian
   state-read =
       (λ i.
-      stateOf (set-read file 12 (g .head .opening .state .executed) refl (machine .executed) i)
-      (set-read file 20 (g .head .opening .state .pending) refl (machine .pending) i)
-      (set-read file 28 (g .head .opening .state .included) refl (machine .included) i))
+      stateOf (set-read file executedPlace (g .head .opening .state .executed) refl (machine .executed) i)
+      (set-read file (executedPlace + setLength) (g .head .opening .state .pending) refl (machine .pending) i)
+      (set-read file (executedPlace + 2 * setLength) (g .head .opening .state .included) refl (machine .included) i))
 
   within-read : T (graphWithin g)
   within-read = judged-within g 0 ok
@@ -162,16 +167,16 @@ module _ (g : Graph) (machine : Machine g) (ok : judged g ≡ Done) where
   before-few zero = omega arith
   before-few (suc r) = omega (arith, few r, before-few r)
 
-  count-part : (r : ℕ) → r < relationCount → part file (38 + 4 * r) 2 ≡ littleEndian 2 (count r)
-  unfolding bytesOf headBytes stateBytes entriesBytes littleEndian
+  count-part : (r : ℕ) → r < relationCount → part file (entriesPlace + numberLength + entryLength * r) numberLength ≡ littleEndian numberLength (count r)
+  unfolding bytesOf headBytes stateBytes entriesBytes setBytes littleEndian
   count-part zero l = refl
   count-part (suc zero) l = refl
   count-part (suc (suc zero)) l = refl
   count-part (suc (suc (suc zero))) l = refl
   count-part (suc (suc (suc (suc r)))) l = absurd (omega arith)
 
-  offset-part : (r : ℕ) → r < relationCount → part file (36 + 4 * r) 2 ≡ littleEndian 2 (rowLength * before r)
-  unfolding bytesOf headBytes stateBytes entriesBytes littleEndian
+  offset-part : (r : ℕ) → r < relationCount → part file (entriesPlace + entryLength * r) numberLength ≡ littleEndian numberLength (rowLength * before r)
+  unfolding bytesOf headBytes stateBytes entriesBytes setBytes littleEndian
   offset-part zero l = refl
   offset-part (suc zero) l = refl
   offset-part (suc (suc zero)) l = refl
@@ -179,10 +184,10 @@ module _ (g : Graph) (machine : Machine g) (ok : judged g ≡ Done) where
   offset-part (suc (suc (suc (suc r)))) l = absurd (omega arith)
 
   count-read : (r : ℕ) → r < relationCount → countIn file r ≡ count r
-  count-read r l = number-read file 2 (38 + 4 * r) (count r) (count-part r l) (omega (arith, few r))
+  count-read r l = number-read file numberLength (entriesPlace + numberLength + entryLength * r) (count r) (count-part r l) (omega (arith, few r))
 
   offset-read : (r : ℕ) → r < relationCount → offsetIn file r ≡ rowLength * before r
-  offset-read r l = number-read file 2 (36 + 4 * r) (rowLength * before r) (offset-part r l) (omega (arith, before-few r))
+  offset-read r l = number-read file numberLength (entriesPlace + entryLength * r) (rowLength * before r) (offset-part r l) (omega (arith, before-few r))
 
   before-read : (r : ℕ) → r ≤ relationCount → earlierRows file r ≡ before r
   before-read r l = sum-ext (countIn file) count r (λ k h. count-read k (omega arith))

@@ -17,7 +17,7 @@ use Rattle.sets.specs.Sizes.{mostActivities}
 use Rattle.sets.specs.Files.{opensWith}
 use Rattle.engine.specs.declared.marking.State.{State}
 use Rattle.engine.specs.Relations.{relationCount}
-use Rattle.graphfile.specs.Layout.{letters, headLength, rowLength, activitiesIn, eventsIn, stateIn, offsetIn, countIn}
+use Rattle.graphfile.specs.Layout.{mark, headLength, rowLength, activitiesIn, eventsIn, stateIn, offsetIn, countIn}
 use Rattle.graphfile.specs.Layout.{earlierRows, keyIn, rowIn, endOf}
 use Rattle.graphfile.specs.Refusals.{mostRows, judgedHead, judgedEntry, judgedEnd, rises, rowAnswer, judgedRow}
 
@@ -127,7 +127,7 @@ row-judged bytes first j key events row above a he hk hr ha h = h ∙ (λ i. row
 abbrev headAnswer : Bool → Bool → Bool → Bool → Answer
 headAnswer right above low within = when non right then WrongLetters else when above then AboveLimit else when non low then Outside else when non within then Outside else Done
 
-module _ (bytes : List ℕ) (l : Bool) (hl : l ≡ opensWith letters bytes) where
+module _ (bytes : List ℕ) (l : Bool) (hl : l ≡ opensWith mark bytes) where
   head-is : (r a e m : Bool) → l ≡ r → ltb mostActivities (activitiesIn bytes) ≡ a
       → within (eventsIn bytes) (those (λ x. ltb x (activitiesIn bytes))) ≡ e
       → stateWithin (eventsIn bytes) (stateIn bytes) ≡ m → headAnswer r a e m ≡ judgedHead bytes

@@ -1,5 +1,4 @@
 -- The modules of `proofs/` that belong to no one function.
-pub mod Codec
 pub mod Places
 pub mod Asking
 pub mod Judging
@@ -8,7 +7,6 @@ pub mod Filling
 pub mod Stores
 pub mod RowStores
 pub mod Writes
-pub mod Parts
 pub mod Legal
 pub mod FileBack
 pub mod GraphBack

@@ -10,15 +10,13 @@ use Rattle.sets.specs.declared.set.Set.{Set}
 use Rattle.engine.specs.declared.marking.State.{State}
 use Rattle.engine.specs.Markings.{stateOf}
 use Rattle.engine.specs.Relations.{relationCount}
-use Rattle.graphfile.specs.Layout.{headLength, rowLength, setAt, countIn, sumOf, earlierRows, stateAt, endOf}
+use Rattle.bytes.specs.Sets.{setLength, setAt}
+use Rattle.graphfile.specs.Layout.{headLength, rowLength, countIn, sumOf, earlierRows, stateAt, endOf}
 
--- ---- sets and rows
+-- ---- a state
 
-pub set-is : (x y : ℕ) → x ≡ y → _≡_ {A = Set} (record { bits = x }) (record { bits = y })
-set-is x y e = ap (λ (n : ℕ). record { bits = n }) e
-
-pub state-is : (bytes : List ℕ) (at : ℕ) (x p i : Set) (m : State) → x ≡ setAt bytes at → p ≡ setAt bytes (at + 8)
-    → i ≡ setAt bytes (at + 16)
+pub state-is : (bytes : List ℕ) (at : ℕ) (x p i : Set) (m : State) → x ≡ setAt bytes at → p ≡ setAt bytes (at + setLength)
+    → i ≡ setAt bytes (at + 2 * setLength)
     → m ≡ stateOf x p i → m ≡ stateAt bytes at
 state-is bytes at x p i m hx hp hi e = e ∙ λ k. stateOf (hx k) (hp k) (hi k)
 

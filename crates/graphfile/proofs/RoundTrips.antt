@@ -22,13 +22,14 @@ use Rattle.engine.specs.Judged.{judged}
 use Rattle.graphfile.specs.declared.reader.Reading.{Reading}
 use Rattle.graphfile.specs.declared.writer.Written.{Written}
 use Rattle.sets.specs.Files.{littleEndian}
+use Rattle.bytes.specs.Sets.{setBytes}
 use Rattle.graphfile.specs.Layout.{headLength, rowLength, sumOf}
 use Rattle.graphfile.specs.Refusals.{judgedFile}
 use Rattle.graphfile.specs.Held.{graphIn, readOf}
 use Rattle.graphfile.specs.Writing.{rowsBefore, rowOf, rowsFor, rowsFrom, countFrom, entriesBytes, stateBytes, headBytes}
 use Rattle.graphfile.specs.Writing.{relationsBytes}
 use Rattle.graphfile.specs.Writing.{bytesOf, judgedWrite, writtenOf, fileAfter}
-use Rattle.graphfile.proofs.Codec.{Bytes}
+use Rattle.bytes.proofs.Codec.{Bytes}
 use Rattle.graphfile.proofs.Accepted.{accepted, done-then}
 use Rattle.graphfile.proofs.Stores.{length-file}
 use Rattle.graphfile.proofs.FileBack.{file-back, graph-back}
@@ -142,6 +143,6 @@ fileOfG =
     ∷ []
 
 pub file-of-G : (bytesOf exampleG ≡ fileOfG) × (length fileOfG ≡ 124)
-unfolding bytesOf headBytes stateBytes entriesBytes relationsBytes sumOf rowsFrom countFrom rowOf rowsFor littleEndian
+unfolding bytesOf headBytes stateBytes entriesBytes relationsBytes sumOf rowsFrom countFrom rowOf rowsFor setBytes littleEndian
     rowAt tableAt tablesOf rowsOf listFrom isEmpty everyBelow bit bitsOf mem those non _and_ _or_
 file-of-G = (refl, refl)

@@ -12,10 +12,12 @@ use Rattle.sets.specs.Tests.{when_then_else_}
 use Rattle.sets.specs.Members.{width, isEmpty}
 use Rattle.sets.specs.Rows.{rowAt}
 use Rattle.sets.specs.declared.set.Set.{Set}
-use Rattle.sets.specs.Files.{littleEndian}
+use Rattle.bytes.specs.Sets.{setBytes, setPut}
+use Rattle.bytes.proofs.SetLaws.{set-stored, set-kept}
 use Rattle.graphfile.specs.Layout.{rowLength}
-use Rattle.graphfile.specs.Writing.{setBytes, rowOf, rowsFor, rowsFrom, countFrom, rowCount}
-use Rattle.graphfile.proofs.Stores.{follow, length-row}
+use Rattle.graphfile.specs.Writing.{rowOf, rowsFor, rowsFrom, countFrom, rowCount}
+use Rattle.graphfile.proofs.Stores.{length-row}
+use Rattle.bytes.proofs.Parts.{follow}
 
 -- ---- one row
 
@@ -32,11 +34,11 @@ module _ (s : Set) (e : Bool) (h : e ≡ isEmpty s) where
   unfolding rowOf
   row-none out at a t = ap (λ (b : Bool). sets out at (when b then [] else a ∷ setBytes s)) (sym t ∙ h)
 
-  pub row-one : (out out′ : List ℕ) (at a : ℕ) → e ≡ false → out′ ≡ sets (set out at a) (at + 1) (littleEndian 8 (s .bits))
-      → out′ ≡ sets out at (rowOf a s)
+  pub row-one : (out out′ : List ℕ) (at a : ℕ) → e ≡ false → at + rowLength * rowsFor s ≤ length out
+      → out′ ≡ setPut (set out at a) (at + 1) s → out′ ≡ sets out at (rowOf a s)
   unfolding rowOf
-  row-one out out′ at a t f =
-      f
+  row-one out out′ at a t room f =
+      set-stored (set out at a) out′ (at + 1) s f (omega (arith, for-one t, length-set out at a))
       ∙ ap (λ (k : ℕ). sets (set out at a) k (setBytes s)) (add-one at)
       ∙ ap (λ (b : Bool). sets out at (when b then [] else a ∷ setBytes s)) (sym t ∙ h)
 
@@ -49,9 +51,6 @@ module _ (s : Set) (e : Bool) (h : e ≡ isEmpty s) where
   module _ (t : e ≡ false) (at : ℕ) (out : List ℕ) (room : at + rowLength * rowsFor s ≤ length out) where
     pub room-key : at < length out
     room-key = omega (arith, for-one t)
-
-    pub room-set : (a : ℕ) → at + 1 + 8 ≤ length (set out at a)
-    room-set a = omega (arith, for-one t, length-set out at a)
 
 -- ---- one activity after the other
 
@@ -118,9 +117,9 @@ rows-end rows out whole a next l e =
 pub kept-length : (out out′ out₀ vs : List ℕ) (at : ℕ) → length out ≡ length out₀ → out′ ≡ sets out at vs → length out′ ≡ length out₀
 kept-length out out′ out₀ vs at e f = ap length f ∙ length-sets out at vs ∙ e
 
-pub row-length : (out out′ vs : List ℕ) (at a next : ℕ) → out′ ≡ sets (set out at a) next vs → length out′ ≡ length out
-row-length out out′ vs at a next f = kept-length (set out at a) out′ out vs next (length-set out at a) f
+pub row-length : (out out′ : List ℕ) (at a next : ℕ) (s : Set) → out′ ≡ setPut (set out at a) next s → length out′ ≡ length out
+row-length out out′ at a next s f = set-kept (set out at a) out′ next s f ∙ length-set out at a
 
-pub ruleset one-row = (for-none, for-one, row-none, row-one, place-none, place-one, room-key, room-set)
+pub ruleset one-row = (for-none, for-one, row-none, row-one, place-none, place-one, room-key)
 
 pub ruleset counts = (count-begin, count-turn, count-end)

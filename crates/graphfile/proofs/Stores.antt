@@ -3,11 +3,10 @@ use mathlib.Core.Path.{_≡_, refl, sym, ap, _∙_}
 use mathlib.Core.Bool.{Bool, true, false}
 use mathlib.Core.List.{List, [], _∷_, _++_}
 use Prim.Native.Nat.{ℕ, zero, suc, _+_, _*_, _≤_, _<_}
-use native.Mathlib.Nat.{add-zero, add-suc, suc-add}
 use native.Mathlib.Numerals.{add-one}
 use native.Mathlib.Omega.{arith}
-use lib.ListN.{length, set, length-append}
-use lib.Seq.{sets}
+use lib.ListN.{length, length-append}
+use lib.Seq.{sets, length-sets}
 use Rattle.sets.specs.Tests.{when_then_else_}
 use Rattle.sets.specs.Members.{width, isEmpty}
 use Rattle.sets.specs.Rows.{rowAt}
@@ -18,38 +17,32 @@ use Rattle.engine.specs.declared.graph.Head.{Head}
 use Rattle.engine.specs.declared.graph.Graph.{Graph}
 use Rattle.engine.specs.Relations.{relationCount}
 use Rattle.sets.specs.Files.{littleEndian}
-use Rattle.graphfile.specs.Layout.{letters, headLength, rowLength, sumOf}
-use Rattle.graphfile.specs.Writing.{setBytes, rowOf, rowsFor, rowsFrom, countFrom, rowCount, rowsBefore, entryBytes, entriesBytes}
+use Rattle.bytes.specs.Numbers.{numberLength, numberPut}
+use Rattle.bytes.specs.Sets.{setLength, setBytes, setPut}
+use Rattle.bytes.proofs.Codec.{length-number}
+use Rattle.bytes.proofs.Parts.{follow}
+use Rattle.bytes.proofs.NumberLaws.{number-stored, number-kept}
+use Rattle.bytes.proofs.SetLaws.{length-set, set-stored, set-kept}
+use Rattle.graphfile.specs.Layout.{mark, eventsPlace, executedPlace, stateLength, entriesPlace, entryLength, headLength, rowLength, sumOf}
+use Rattle.graphfile.specs.Writing.{rowOf, rowsFor, rowsFrom, countFrom, rowCount, rowsBefore, entryBytes, entriesBytes}
 use Rattle.graphfile.specs.Writing.{stateBytes, headBytes, relationBytes, relationsBytes, bytesOf}
 use Rattle.graphfile.proofs.Places.{sum-room}
 
-sets-append : (vs ws l : List ℕ) (i : ℕ) → sets (sets l i vs) (i + length vs) ws ≡ sets l i (vs ++ ws)
-sets-append [] ws l i = ap (λ (k : ℕ). sets l k ws) (add-zero i)
-sets-append (v ∷ vs) ws l i =
-    ap (λ (k : ℕ). sets (sets (set l i v) (suc i) vs) k ws) (add-suc i (length vs) ∙ sym (suc-add i (length vs)))
-    ∙ sets-append vs ws (set l i v) (suc i)
-
--- a part stored from a place on, and the next part after it
-pub follow : (out mid end vs ws : List ℕ) (at next : ℕ) → next ≡ at + length vs → mid ≡ sets out at vs → end ≡ sets mid next ws
-    → end ≡ sets out at (vs ++ ws)
-follow out mid end vs ws at next e f g = g ∙ (λ i. sets (f i) (e i) ws) ∙ sets-append vs ws out at
-
 -- ---- how long each part is
 
-pub length-number : (n x : ℕ) → length (littleEndian n x) ≡ n
-unfolding littleEndian
-length-number zero x = refl
-length-number (suc n) x = ap suc (length-number n _)
+pub length-state : (m : State) → length (stateBytes m) ≡ stateLength
+unfolding stateBytes
+length-state m = simp length-append (omega (arith, length-set (m .executed), length-set (m .pending), length-set (m .included)))
 
-pub length-head : (h : Head) → length (headBytes h) ≡ 36
-unfolding headBytes stateBytes littleEndian
-length-head h = refl
+pub length-head : (h : Head) → length (headBytes h) ≡ entriesPlace
+unfolding headBytes
+length-head h = simp length-append (omega (arith, length-set (h .events), length-state (h .opening .state)))
 
-length-entry : (earlier count : ℕ) → length (entryBytes earlier count) ≡ 4
+length-entry : (earlier count : ℕ) → length (entryBytes earlier count) ≡ entryLength
 unfolding littleEndian
 length-entry earlier count = refl
 
-pub length-entries : (tables : List ℕ) (r : ℕ) → length (entriesBytes tables r) ≡ 4 * r
+pub length-entries : (tables : List ℕ) (r : ℕ) → length (entriesBytes tables r) ≡ entryLength * r
 unfolding entriesBytes
 length-entries tables zero = refl
 length-entries tables (suc r) =
@@ -57,12 +50,12 @@ length-entries tables (suc r) =
     ∙ omega (arith, length-entries tables r, length-entry (rowsBefore tables r) (rowCount (tableAt tables r)))
 
 pub length-row : (a : ℕ) (s : Set) → length (rowOf a s) ≡ rowLength * rowsFor s
-unfolding rowOf rowsFor littleEndian
+unfolding rowOf rowsFor
 length-row a s = by (isEmpty s)
   where
     by : (b : Bool) → length (when b then [] else a ∷ setBytes s) ≡ rowLength * (when b then 0 else 1)
     by true = refl
-    by false = refl
+    by false = ap suc (length-set s)
 
 pub length-rows : (rows : List ℕ) (n a : ℕ) → length (rowsFrom rows n a) ≡ rowLength * countFrom rows n a
 unfolding rowsFrom countFrom
@@ -86,12 +79,13 @@ length-file g =
 
 -- ---- part after part
 
-pub entry-stored : (out mid end : List ℕ) (at earlier count : ℕ) → mid ≡ sets out at (littleEndian 2 (rowLength * earlier))
-    → end ≡ sets mid (at + 2) (littleEndian 2 count)
-    → end ≡ sets out at (entryBytes earlier count)
-entry-stored out mid end at earlier count e f =
-    follow out mid end (littleEndian 2 (rowLength * earlier)) _ at (at + 2)
-    (ap (λ (n : ℕ). at + n) (sym (length-number 2 (rowLength * earlier)))) e f
+pub entry-stored : (out mid end : List ℕ) (at earlier count : ℕ) → at + entryLength ≤ length out
+    → mid ≡ numberPut out at (rowLength * earlier) → end ≡ numberPut mid (at + numberLength) count → end ≡ sets out at (entryBytes earlier count)
+entry-stored out mid end at earlier count room e f =
+    let kept = number-kept out mid at (rowLength * earlier) e in
+    follow out mid end (littleEndian numberLength (rowLength * earlier)) _ at (at + numberLength)
+    (ap (λ (n : ℕ). at + n) (sym (length-number numberLength (rowLength * earlier))))
+    (number-stored out mid at (rowLength * earlier) e (omega arith)) (number-stored mid end (at + numberLength) count f (omega arith))
 
 -- three parts, each from the place where the one before it ends
 module _ (o o₁ o₂ o₃ a b c : List ℕ) (p p₁ p₂ : ℕ) (e₁ : p₁ ≡ p + length a) (e₂ : p₂ ≡ p₁ + length b)
@@ -100,30 +94,36 @@ module _ (o o₁ o₂ o₃ a b c : List ℕ) (p p₁ p₂ : ℕ) (e₁ : p₁ �
   three = follow o o₂ o₃ (a ++ b) c p p₂ (simp length-append (omega arith)) (follow o o₁ o₂ a b p p₁ e₁ h₁ h₂) h₃
 
 module _ (o o₁ o₂ o₃ : List ℕ) where
-  pub state-stored : (m : State) (at : ℕ) → o₁ ≡ sets o at (setBytes (m .executed)) → o₂ ≡ sets o₁ (at + 8) (setBytes (m .pending))
-      → o₃ ≡ sets o₂ (at + 16) (setBytes (m .included)) → o₃ ≡ sets o at (stateBytes m)
-  unfolding stateBytes littleEndian
-  state-stored m at h₁ h₂ h₃ =
-      let far : at + 16 ≡ at + 8 + 8 = omega arith in
-      three o o₁ o₂ o₃ (setBytes (m .executed)) (setBytes (m .pending)) (setBytes (m .included)) at (at + 8) (at + 16) refl far h₁ h₂ h₃
+  pub state-stored : (m : State) (at : ℕ) → at + stateLength ≤ length o → o₁ ≡ setPut o at (m .executed)
+      → o₂ ≡ setPut o₁ (at + setLength) (m .pending) → o₃ ≡ setPut o₂ (at + 2 * setLength) (m .included) → o₃ ≡ sets o at (stateBytes m)
+  unfolding stateBytes
+  state-stored m at room h₁ h₂ h₃ =
+      let kept = set-kept o o₁ at (m .executed) h₁ in
+      let kept₂ = set-kept o₁ o₂ (at + setLength) (m .pending) h₂ in
+      three o o₁ o₂ o₃ (setBytes (m .executed)) (setBytes (m .pending)) (setBytes (m .included)) at (at + setLength) (at + 2 * setLength)
+      (omega (arith, length-set (m .executed))) (omega (arith, length-set (m .pending)))
+      (set-stored o o₁ at (m .executed) h₁ (omega arith)) (set-stored o₁ o₂ (at + setLength) (m .pending) h₂ (omega arith))
+      (set-stored o₂ o₃ (at + 2 * setLength) (m .included) h₃ (omega arith))
 
-  pub head-stored : (h : Head) → o₁ ≡ sets o 0 (letters ++ (h .activities ∷ [])) → o₂ ≡ sets o₁ 4 (setBytes (h .events))
-      → o₃ ≡ sets o₂ 12 (stateBytes (h .opening .state)) → o₃ ≡ sets o 0 (headBytes h)
-  unfolding headBytes littleEndian
-  head-stored h h₁ h₂ h₃ =
-      three o o₁ o₂ o₃ (letters ++ (h .activities ∷ [])) (setBytes (h .events)) (stateBytes (h .opening .state)) 0 4 12 refl refl h₁ h₂ h₃
+  pub head-stored : (h : Head) → headLength ≤ length o → o₁ ≡ sets o 0 (mark ++ (h .activities ∷ []))
+      → o₂ ≡ setPut o₁ eventsPlace (h .events) → o₃ ≡ sets o₂ executedPlace (stateBytes (h .opening .state)) → o₃ ≡ sets o 0 (headBytes h)
+  unfolding headBytes
+  head-stored h room h₁ h₂ h₃ =
+      let kept = ap length h₁ ∙ length-sets o 0 (mark ++ (h .activities ∷ [])) in
+      three o o₁ o₂ o₃ (mark ++ (h .activities ∷ [])) (setBytes (h .events)) (stateBytes (h .opening .state)) 0 eventsPlace executedPlace
+      refl (omega (arith, length-set (h .events))) h₁ (set-stored o₁ o₂ eventsPlace (h .events) h₂ (omega arith)) h₃
 
-  pub file-stored : (g : Graph) → o₁ ≡ sets o 0 (headBytes (g .head)) → o₂ ≡ sets o₁ 36 (entriesBytes (g .relations) relationCount)
+  pub file-stored : (g : Graph) → o₁ ≡ sets o 0 (headBytes (g .head)) → o₂ ≡ sets o₁ entriesPlace (entriesBytes (g .relations) relationCount)
       → o₃ ≡ sets o₂ headLength (relationsBytes (g .relations) relationCount) → o₃ ≡ sets o 0 (bytesOf g)
   unfolding bytesOf
   file-stored g h₁ h₂ h₃ =
       three o o₁ o₂ o₃ (headBytes (g .head)) (entriesBytes (g .relations) relationCount) (relationsBytes (g .relations) relationCount)
-      0 36 headLength (omega (arith, length-head (g .head))) (omega (arith, length-entries (g .relations) relationCount)) h₁ h₂ h₃
+      0 entriesPlace headLength (omega (arith, length-head (g .head))) (omega (arith, length-entries (g .relations) relationCount)) h₁ h₂ h₃
 
 -- ---- relation after relation
 
 module _ (tables : List ℕ) (out₀ : List ℕ) where
-  pub entries-none : out₀ ≡ sets out₀ 36 (entriesBytes tables 0)
+  pub entries-none : out₀ ≡ sets out₀ entriesPlace (entriesBytes tables 0)
   unfolding entriesBytes
   entries-none = refl
 
@@ -132,18 +132,18 @@ module _ (tables : List ℕ) (out₀ : List ℕ) where
   relations-none = refl
 
   module _ (out : List ℕ) (r : ℕ) where
-    pub entries-turn : (out′ : List ℕ) (earlier count : ℕ) → out ≡ sets out₀ 36 (entriesBytes tables r) → earlier ≡ rowsBefore tables r
-        → count ≡ rowCount (tableAt tables r) → out′ ≡ sets out (36 + 4 * r) (entryBytes earlier count)
-        → out′ ≡ sets out₀ 36 (entriesBytes tables (r + 1))
+    pub entries-turn : (out′ : List ℕ) (earlier count : ℕ) → out ≡ sets out₀ entriesPlace (entriesBytes tables r) → earlier ≡ rowsBefore tables r
+        → count ≡ rowCount (tableAt tables r) → out′ ≡ sets out (entriesPlace + entryLength * r) (entryBytes earlier count)
+        → out′ ≡ sets out₀ entriesPlace (entriesBytes tables (r + 1))
     unfolding entriesBytes
     entries-turn out′ earlier count h e c s =
-        follow out₀ out out′ (entriesBytes tables r) _ 36 (36 + 4 * r) (ap (λ (n : ℕ). 36 + n) (sym (length-entries tables r))) h
-        (s ∙ (λ i. sets out (36 + 4 * r) (entryBytes (e i) (c i))))
-        ∙ ap (λ (n : ℕ). sets out₀ 36 (entriesBytes tables n)) (sym (add-one r))
+        follow out₀ out out′ (entriesBytes tables r) _ entriesPlace (entriesPlace + entryLength * r) (ap (λ (n : ℕ). entriesPlace + n) (sym (length-entries tables r))) h
+        (s ∙ (λ i. sets out (entriesPlace + entryLength * r) (entryBytes (e i) (c i))))
+        ∙ ap (λ (n : ℕ). sets out₀ entriesPlace (entriesBytes tables n)) (sym (add-one r))
 
-    pub entries-all : r ≤ relationCount → relationCount ≤ r → out ≡ sets out₀ 36 (entriesBytes tables r)
-        → out ≡ sets out₀ 36 (entriesBytes tables relationCount)
-    entries-all a b h = let same : r ≡ relationCount = omega arith in h ∙ ap (λ (n : ℕ). sets out₀ 36 (entriesBytes tables n)) same
+    pub entries-all : r ≤ relationCount → relationCount ≤ r → out ≡ sets out₀ entriesPlace (entriesBytes tables r)
+        → out ≡ sets out₀ entriesPlace (entriesBytes tables relationCount)
+    entries-all a b h = let same : r ≡ relationCount = omega arith in h ∙ ap (λ (n : ℕ). sets out₀ entriesPlace (entriesBytes tables n)) same
 
     module _ (next : ℕ) (place : next ≡ headLength + rowLength * rowsBefore tables r) where
       pub relation-room : r < relationCount → headLength + rowLength * rowsBefore tables relationCount ≤ length out₀

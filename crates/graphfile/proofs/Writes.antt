@@ -1,5 +1,5 @@
--- The three ways out of a write: its answer and length, and what the buffer holds. Assumes nothing.
-use mathlib.Core.Path.{_≡_, sym, ap, _∙_}
+-- The ways out of a write, judged or not: its answer and length, and what the buffer holds. Assumes nothing.
+use mathlib.Core.Path.{_≡_, refl, sym, ap, _∙_}
 use mathlib.Core.Bool.{Bool, true, false, not}
 use mathlib.Core.List.{List, _++_}
 use Prim.Native.Nat.{ℕ, _+_, _*_, _≤_, _<_}
@@ -18,19 +18,54 @@ use Rattle.engine.specs.Relations.{relationCount}
 use Rattle.engine.specs.declared.graph.Graph.{Graph}
 use Rattle.graphfile.specs.declared.writer.Written.{Written}
 use Rattle.graphfile.specs.Layout.{headLength, rowLength}
-use Rattle.graphfile.specs.Writing.{rowsBefore, bytesOf, judgedWrite, writtenOf, fileAfter}
-use Rattle.sets.proofs.Asking.{refused, passed, gone-on}
+use Rattle.graphfile.specs.Writing.{rowsBefore, bytesOf, judgedRoom, judgedWrite, writtenFor, bufferFor}
+use Rattle.graphfile.specs.Writing.{writtenOf, fileAfter, unjudgedOf, unjudgedAfter}
+use Rattle.sets.proofs.Asking.{refused, passed}
 use Rattle.graphfile.proofs.Stores.{length-file}
 
 -- the result and the buffer, by whether the write is done
-module _ (g : Graph) (out : List ℕ) (b : Bool) (h : isDone (judgedWrite g (length out)) ≡ b) where
-  written-is : writtenOf g (length out) ≡ record { answer = judgedWrite g (length out); length = when b then length (bytesOf g) else 0 }
-  unfolding writtenOf
-  written-is = λ i. record { answer = judgedWrite g (length out); length = when h i then length (bytesOf g) else 0 }
+module _ (g : Graph) (a : Answer) (b : Bool) (h : isDone a ≡ b) where
+  written-is : writtenFor a g ≡ record { answer = a; length = when b then length (bytesOf g) else 0 }
+  written-is = λ i. record { answer = a; length = when h i then length (bytesOf g) else 0 }
 
-  buffer-is : fileAfter g out ≡ when b then bytesOf g ++ drop (length (bytesOf g)) out else out
-  unfolding fileAfter
-  buffer-is = ap (λ (t : Bool). when t then bytesOf g ++ drop (length (bytesOf g)) out else out) h
+  buffer-is : (out : List ℕ) → bufferFor a g out ≡ when b then bytesOf g ++ drop (length (bytesOf g)) out else out
+  buffer-is out = ap (λ (t : Bool). when t then bytesOf g ++ drop (length (bytesOf g)) out else out) h
+
+-- ---- room or none
+
+module _ (g : Graph) (out : List ℕ) (rows : ℕ) (hl : rows ≡ rowsBefore (g .relations) relationCount) where
+  abbrev len : ℕ
+  len = headLength + rowLength * rows
+
+  file-len : len ≡ length (bytesOf g)
+  file-len = ap (λ (n : ℕ). headLength + rowLength * n) hl ∙ sym (length-file g)
+
+  small : length out < len → judgedRoom g (length out) ≡ BufferTooSmall
+  small l = ap (λ (x : Bool). when x then BufferTooSmall else Done) (lt-ltb (length out) (length (bytesOf g)) (omega (arith, file-len)))
+
+  enough : len ≤ length out → judgedRoom g (length out) ≡ Done
+  enough l = ap (λ (x : Bool). when x then BufferTooSmall else Done) (le-ltb (length out) (length (bytesOf g)) (omega (arith, file-len)))
+
+  pub room-small : length out < len → _≡_ {A = Written} (record { answer = BufferTooSmall; length = 0 }) (unjudgedOf g (length out))
+  unfolding unjudgedOf
+  room-small l = ap (λ (x : Answer). record { answer = x; length = 0 }) (sym (small l)) ∙ sym (written-is g _ false (ap isDone (small l)))
+
+  pub small-keeps : length out < len → out ≡ unjudgedAfter g out
+  unfolding unjudgedAfter
+  small-keeps l = sym (buffer-is g (judgedRoom g (length out)) false (ap isDone (small l)) out)
+
+  pub room-whole : (out′ : List ℕ) → len ≤ length out → out′ ≡ sets out 0 (bytesOf g)
+      → (_≡_ {A = Written} (record { answer = Done; length = len }) (unjudgedOf g (length out))) × (out′ ≡ unjudgedAfter g out)
+  unfolding unjudgedOf unjudgedAfter
+  room-whole out′ l f = (
+    (λ i. record { answer = sym (enough l) i; length = file-len i }) ∙ sym (written-is g _ true (ap isDone (enough l))),
+    f
+        ∙ sets-eq (bytesOf g) out 0 (omega (arith, file-len))
+        ∙ ap (λ (k : ℕ). bytesOf g ++ drop k out) (zero-add (length (bytesOf g)))
+        ∙ sym (buffer-is g (judgedRoom g (length out)) true (ap isDone (enough l)) out),
+  )
+
+-- ---- judged first
 
 module _ (g : Graph) (out : List ℕ) (a : Answer) (d : Bool) (e : a ≡ judged g) (t : d ≡ isDone a) where
   answer-refused : not d ≡ true → a ≡ judgedWrite g (length out)
@@ -41,47 +76,29 @@ module _ (g : Graph) (out : List ℕ) (a : Answer) (d : Bool) (e : a ≡ judged 
   not-done n = ap isDone (sym (answer-refused n)) ∙ sym t ∙ not-true d n
 
   pub write-refused : not d ≡ true → _≡_ {A = Written} (record { answer = a; length = 0 }) (writtenOf g (length out))
-  write-refused n = ap (λ (x : Answer). record { answer = x; length = 0 }) (answer-refused n) ∙ sym (written-is g out false (not-done n))
+  unfolding writtenOf
+  write-refused n = ap (λ (x : Answer). record { answer = x; length = 0 }) (answer-refused n) ∙ sym (written-is g _ false (not-done n))
 
   pub refused-keeps : not d ≡ true → out ≡ fileAfter g out
-  refused-keeps n = sym (buffer-is g out false (not-done n))
+  unfolding fileAfter
+  refused-keeps n = sym (buffer-is g (judgedWrite g (length out)) false (not-done n) out)
 
-  module _ (n : not d ≡ false) (rows : ℕ) (hl : rows ≡ rowsBefore (g .relations) relationCount) where
-    abbrev len : ℕ
-    len = headLength + rowLength * rows
+  passes : not d ≡ false → judgedRoom g (length out) ≡ judgedWrite g (length out)
+  unfolding judgedWrite
+  passes n = sym (passed a (judged g) d e t _ n)
 
-    file-len : len ≡ length (bytesOf g)
-    file-len = ap (λ (n : ℕ). headLength + rowLength * n) hl ∙ sym (length-file g)
+  pub write-passed : (w : Written) → not d ≡ false → w ≡ unjudgedOf g (length out) → w ≡ writtenOf g (length out)
+  unfolding writtenOf unjudgedOf
+  write-passed w n h = h ∙ ap (λ (x : Answer). writtenFor x g) (passes n)
 
-    space-asked : (b : Bool) → ltb (length out) (length (bytesOf g)) ≡ b → judgedWrite g (length out) ≡ when b then BufferTooSmall else Done
-    unfolding judgedWrite
-    space-asked b h = passed a (judged g) d e t _ n ∙ ap (λ (x : Bool). when x then BufferTooSmall else Done) h
+  pub passed-after : (out′ : List ℕ) → not d ≡ false → out′ ≡ unjudgedAfter g out → out′ ≡ fileAfter g out
+  unfolding fileAfter unjudgedAfter
+  passed-after out′ n h = h ∙ ap (λ (x : Answer). bufferFor x g out) (passes n)
 
-    small : length out < len → judgedWrite g (length out) ≡ BufferTooSmall
-    small l = space-asked true (lt-ltb (length out) (length (bytesOf g)) (omega (arith, file-len)))
+-- of a graph that is acceptable, a write is what it is unjudged
+module _ (g : Graph) (out : List ℕ) (ok : judged g ≡ Done) where
+  pub unjudged-written : unjudgedOf g (length out) ≡ writtenOf g (length out)
+  unjudged-written = write-passed g out Done true (sym ok) refl _ refl refl
 
-    enough : len ≤ length out → judgedWrite g (length out) ≡ Done
-    enough l = space-asked false (le-ltb (length out) (length (bytesOf g)) (omega (arith, file-len)))
-
-    pub write-small : length out < len → _≡_ {A = Written} (record { answer = BufferTooSmall; length = 0 }) (writtenOf g (length out))
-    write-small l = ap (λ (x : Answer). record { answer = x; length = 0 }) (sym (small l))
-        ∙ sym (written-is g out false (ap isDone (small l)))
-
-    pub small-keeps : length out < len → out ≡ fileAfter g out
-    small-keeps l = sym (buffer-is g out false (ap isDone (small l)))
-
-    write-done : len ≤ length out → _≡_ {A = Written} (record { answer = a; length = len }) (writtenOf g (length out))
-    write-done l =
-        (λ i. record { answer = (e ∙ gone-on a (judged g) d e t n ∙ sym (enough l)) i; length = file-len i })
-        ∙ sym (written-is g out true (ap isDone (enough l)))
-
-    done-holds : (out′ : List ℕ) → len ≤ length out → out′ ≡ sets out 0 (bytesOf g) → out′ ≡ fileAfter g out
-    done-holds out′ l f =
-        f
-        ∙ sets-eq (bytesOf g) out 0 (omega (arith, file-len))
-        ∙ ap (λ (k : ℕ). bytesOf g ++ drop k out) (zero-add (length (bytesOf g)))
-        ∙ sym (buffer-is g out true (ap isDone (enough l)))
-
-    pub write-whole : (out′ : List ℕ) → len ≤ length out → out′ ≡ sets out 0 (bytesOf g)
-        → (_≡_ {A = Written} (record { answer = a; length = len }) (writtenOf g (length out))) × (out′ ≡ fileAfter g out)
-    write-whole out′ l f = (write-done l, done-holds out′ l f)
+  pub unjudged-after : unjudgedAfter g out ≡ fileAfter g out
+  unjudged-after = passed-after g out Done true (sym ok) refl _ refl refl

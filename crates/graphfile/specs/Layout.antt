@@ -1,5 +1,5 @@
 -- What stands where in a graph file (01, "Two files, contents first": Graph).
-use mathlib.Core.List.{List, [], _∷_}
+use mathlib.Core.List.{List, [], _∷_, _++_}
 use Prim.Native.Nat.{ℕ, zero, suc, _+_, _*_}
 use lib.ListN.{getD}
 use Rattle.sets.specs.declared.set.Set.{Set}
@@ -10,44 +10,70 @@ use Rattle.engine.specs.Markings.{stateOf, markingOf}
 use Rattle.engine.specs.Relations.{relationCount, headOf}
 use Rattle.engine.specs.Enabled.{graphAt}
 use Rattle.sets.specs.Files.{numberAt}
+use Rattle.bytes.specs.Numbers.{numberLength}
+use Rattle.bytes.specs.Sets.{setLength, setAt}
 
--- the two letters and the edition
+-- the two letters, B and G, and the edition
 abbrev pub letters : List ℕ
-letters = 66 ∷ 71 ∷ 1 ∷ []
+letters = 66 ∷ 71 ∷ []
 
--- the letters, the edition, A, four sets of 8 bytes, four entries of 4
+abbrev pub edition : ℕ
+edition = 1
+
+-- what a file opens with: both
+abbrev pub mark : List ℕ
+mark = letters ++ (edition ∷ [])
+
+-- then A; then four sets: events, executed, pending, included
+abbrev pub activitiesPlace : ℕ
+activitiesPlace = 3
+
+abbrev pub eventsPlace : ℕ
+eventsPlace = 4
+
+abbrev pub executedPlace : ℕ
+executedPlace = eventsPlace + setLength
+
+-- how many bytes executed, pending and included have
+abbrev pub stateLength : ℕ
+stateLength = 3 * setLength
+
+-- then an entry for each relation: an offset and a number of rows
+abbrev pub entriesPlace : ℕ
+entriesPlace = executedPlace + stateLength
+
+abbrev pub entryLength : ℕ
+entryLength = 2 * numberLength
+
+-- all that stands before the rows: 52 bytes
 abbrev pub headLength : ℕ
-headLength = 52
+headLength = entriesPlace + entryLength * relationCount
 
--- a key, and a set of 8 bytes
+-- a key and a set: 9 bytes
 abbrev pub rowLength : ℕ
-rowLength = 9
+rowLength = 1 + setLength
 
 -- A
 abbrev pub activitiesIn : List ℕ → ℕ
-activitiesIn bytes = getD bytes 3 0
-
--- the set in the 8 bytes from a place on
-abbrev pub setAt : List ℕ → ℕ → Set
-setAt bytes at = record { bits = numberAt 8 bytes at }
+activitiesIn bytes = getD bytes activitiesPlace 0
 
 abbrev pub eventsIn : List ℕ → Set
-eventsIn bytes = setAt bytes 4
+eventsIn bytes = setAt bytes eventsPlace
 
 -- executed, pending, included: all that a file holds of its marking
 abbrev pub stateAt : List ℕ → ℕ → State
-stateAt bytes at = stateOf (setAt bytes at) (setAt bytes (at + 8)) (setAt bytes (at + 16))
+stateAt bytes at = stateOf (setAt bytes at) (setAt bytes (at + setLength)) (setAt bytes (at + 2 * setLength))
 
 abbrev pub stateIn : List ℕ → State
-stateIn bytes = stateAt bytes 12
+stateIn bytes = stateAt bytes executedPlace
 
 -- a marking by itself: executed, pending, included, enabled (02, 6/12)
 abbrev pub markingAt : List ℕ → ℕ → Marking
-markingAt bytes at = markingOf (stateAt bytes at) (setAt bytes (at + 24))
+markingAt bytes at = markingOf (stateAt bytes at) (setAt bytes (at + stateLength))
 
 -- A, the events and such a marking from a place on
 abbrev pub headAt : List ℕ → ℕ → Head
-headAt bytes at = headOf (getD bytes at 0) (setAt bytes (at + 1)) (markingAt bytes (at + 9))
+headAt bytes at = headOf (getD bytes at 0) (setAt bytes (at + 1)) (markingAt bytes (at + (1 + setLength)))
 
 -- A, the events and the marking of a file whose relations are these tables
 abbrev pub headIn : List ℕ → List ℕ → Head
@@ -55,10 +81,10 @@ headIn bytes tables = graphAt (activitiesIn bytes) (eventsIn bytes) (stateIn byt
 
 -- entry r: an offset, then the number of rows
 abbrev pub offsetIn : List ℕ → ℕ → ℕ
-offsetIn bytes r = numberAt 2 bytes (36 + 4 * r)
+offsetIn bytes r = numberAt numberLength bytes (entriesPlace + entryLength * r)
 
 abbrev pub countIn : List ℕ → ℕ → ℕ
-countIn bytes r = numberAt 2 bytes (38 + 4 * r)
+countIn bytes r = numberAt numberLength bytes (entriesPlace + numberLength + entryLength * r)
 
 -- f 0 + f 1 + .. : n numbers
 unfoldable pub sumOf : (ℕ → ℕ) → ℕ → ℕ

@@ -1,6 +1,6 @@
--- A marking by itself, as 32 bytes: executed, pending, included, enabled (02, 6/12).
+-- A marking by itself, in four sets of bytes: executed, pending, included, enabled (02, 6/12).
 use mathlib.Core.List.{List, _++_}
-use Prim.Native.Nat.{ℕ, _+_}
+use Prim.Native.Nat.{ℕ, _+_, _*_}
 use lib.Dec.{ltb}
 use lib.ListN.{length}
 use lib.Seq.{sets}
@@ -8,11 +8,12 @@ use Rattle.sets.specs.Tests.{when_then_else_}
 use Rattle.engine.specs.Markings.{emptyMarking}
 use Rattle.engine.specs.declared.marking.Marking.{Marking}
 use Rattle.graphfile.specs.Layout.{markingAt}
-use Rattle.graphfile.specs.Writing.{setBytes, stateBytes}
+use Rattle.bytes.specs.Sets.{setLength, setBytes}
+use Rattle.graphfile.specs.Writing.{stateBytes}
 
--- how many bytes a marking has
+-- how many bytes a marking has: 32
 abbrev pub markingLength : ℕ
-markingLength = 32
+markingLength = 4 * setLength
 
 -- what a file holds of it, and the set of enabled activities
 unfoldable pub markingBytes : Marking → List ℕ

@@ -5,7 +5,7 @@ use Prim.Native.Nat.{ℕ, zero, suc, _+_, _*_}
 use lib.Dec.{eqb, ltb}
 use lib.ListN.{length}
 use Rattle.sets.specs.Tests.{_or_, non, when_then_else_}
-use Rattle.sets.specs.Members.{mem, those, isEmpty, within}
+use Rattle.sets.specs.Members.{width, mem, those, isEmpty, within}
 use Rattle.sets.specs.declared.set.Set.{Set}
 use Rattle.sets.specs.declared.answer.Answer.{Answer}
 use Rattle.sets.specs.declared.answer.Answer.the-variants.{Done, TooShort, WrongLetters, AboveLimit, WrongOffset, Outside, BadRow}
@@ -14,17 +14,17 @@ use Rattle.engine.specs.Relations.{relationCount}
 use Rattle.sets.specs.Answers.{thenAsk, firstRefusal}
 use Rattle.sets.specs.Sizes.{mostActivities}
 use Rattle.sets.specs.Files.{opensWith}
-use Rattle.graphfile.specs.Layout.{letters, headLength, rowLength, activitiesIn, eventsIn, stateIn, offsetIn, countIn, earlierRows, keyIn, rowIn, endOf}
+use Rattle.graphfile.specs.Layout.{mark, headLength, rowLength, activitiesIn, eventsIn, stateIn, offsetIn, countIn, earlierRows, keyIn, rowIn, endOf}
 
--- the limit on a relation's rows, whatever A is
+-- the limit on a relation's rows, whatever A is: 64
 abbrev pub mostRows : ℕ
-mostRows = 64
+mostRows = width
 
 -- 2; 3 for A; 5 for an event not below A, then for the marking, of which a file holds executed, pending
 -- and included
 unfoldable pub judgedHead : List ℕ → Answer
 judgedHead bytes =
-    when non (opensWith letters bytes) then WrongLetters
+    when non (opensWith mark bytes) then WrongLetters
     else when ltb mostActivities (activitiesIn bytes) then AboveLimit
     else when non (within (eventsIn bytes) (those (λ a. ltb a (activitiesIn bytes)))) then Outside
     else when non (stateWithin (eventsIn bytes) (stateIn bytes)) then Outside

@@ -18,10 +18,9 @@ use Rattle.engine.specs.Relations.{relationCount}
 use Rattle.engine.specs.Judged.{judged}
 use Rattle.graphfile.specs.declared.writer.Written.{Written}
 use Rattle.sets.specs.Files.{littleEndian}
-use Rattle.graphfile.specs.Layout.{letters, rowLength, sumOf}
-
-abbrev pub setBytes : Set → List ℕ
-setBytes s = littleEndian 8 (s .bits)
+use Rattle.bytes.specs.Numbers.{numberLength}
+use Rattle.bytes.specs.Sets.{setBytes}
+use Rattle.graphfile.specs.Layout.{mark, rowLength, sumOf}
 
 -- the row of an activity: a key and a set; nothing where the set is empty
 unfoldable pub rowOf : ℕ → Set → List ℕ
@@ -50,9 +49,9 @@ rowCount rows = countFrom rows width 0
 abbrev pub rowsBefore : List ℕ → ℕ → ℕ
 rowsBefore tables r = sumOf (λ k. rowCount (tableAt tables k)) r
 
--- an entry: 9 times the earlier rows, and the number of rows
+-- an entry: the bytes of the earlier rows, and the number of rows
 abbrev pub entryBytes : ℕ → ℕ → List ℕ
-entryBytes earlier count = littleEndian 2 (rowLength * earlier) ++ littleEndian 2 count
+entryBytes earlier count = littleEndian numberLength (rowLength * earlier) ++ littleEndian numberLength count
 
 -- the entries of the relations before r
 unfoldable pub entriesBytes : List ℕ → ℕ → List ℕ
@@ -70,24 +69,38 @@ stateBytes s = setBytes (s .executed) ++ setBytes (s .pending) ++ setBytes (s .i
 
 -- the letters, the edition, A and the four sets
 unfoldable pub headBytes : Head → List ℕ
-headBytes h = letters ++ (h .activities ∷ []) ++ setBytes (h .events) ++ stateBytes (h .opening .state)
+headBytes h = mark ++ (h .activities ∷ []) ++ setBytes (h .events) ++ stateBytes (h .opening .state)
 
 -- the whole file
 unfoldable pub bytesOf : Graph → List ℕ
 bytesOf g = headBytes (g .head) ++ entriesBytes (g .relations) relationCount ++ relationsBytes (g .relations) relationCount
 
+-- so many bytes for the file: 7 where they are too few
+abbrev pub judgedRoom : Graph → ℕ → Answer
+judgedRoom g space = when ltb space (length (bytesOf g)) then BufferTooSmall else Done
+
 -- a write into so many bytes: 3, 5 and 16 for the graph, then 7
 unfoldable pub judgedWrite : Graph → ℕ → Answer
-judgedWrite g space = thenAsk (judged g) (when ltb space (length (bytesOf g)) then BufferTooSmall else Done)
+judgedWrite g space = thenAsk (judged g) (judgedRoom g space)
 
--- the answer, and the file's length; 0 where refused
+-- what goes with an answer: the file's length; 0 where refused
+abbrev pub writtenFor : Answer → Graph → Written
+writtenFor a g = record { answer = a; length = when isDone a then length (bytesOf g) else 0 }
+
+-- and the buffer then: the file, then what was there; all as it was where refused
+abbrev pub bufferFor : Answer → Graph → List ℕ → List ℕ
+bufferFor a g buffer = when isDone a then bytesOf g ++ drop (length (bytesOf g)) buffer else buffer
+
+-- a write, and the buffer after it
 unfoldable pub writtenOf : Graph → ℕ → Written
-writtenOf g space =
-    record {
-      answer = judgedWrite g space;
-      length = when isDone (judgedWrite g space) then length (bytesOf g) else 0;
-    }
+writtenOf g space = writtenFor (judgedWrite g space) g
 
--- the buffer after it: the file, then what was there; all as it was where refused
 unfoldable pub fileAfter : Graph → List ℕ → List ℕ
-fileAfter g buffer = when isDone (judgedWrite g (length buffer)) then bytesOf g ++ drop (length (bytesOf g)) buffer else buffer
+fileAfter g buffer = bufferFor (judgedWrite g (length buffer)) g buffer
+
+-- the same where nobody judges the graph
+unfoldable pub unjudgedOf : Graph → ℕ → Written
+unjudgedOf g space = writtenFor (judgedRoom g space) g
+
+unfoldable pub unjudgedAfter : Graph → List ℕ → List ℕ
+unjudgedAfter g buffer = bufferFor (judgedRoom g (length buffer)) g buffer

@@ -2,11 +2,14 @@
 ghost use mathlib.Core.Path.{_≡_};
 ghost use Prim.Native.Nat.{_+_, _*_, _≤_, _<_};
 ghost use lib.ListN.{length};
-ghost use Rattle.graphfile.specs.Layout.{headLength, rowLength, setAt, stateAt, stateIn, markingAt, headAt, headIn, offsetIn, countIn, earlierRows, keyIn, rowIn};
+ghost use Rattle.graphfile.specs.Layout.{headLength, rowLength, stateLength, stateAt, stateIn, markingAt, headAt, headIn, offsetIn, countIn, earlierRows, keyIn, rowIn};
 ghost use Rattle.graphfile.specs.Markings.{markingLength};
 ghost use Rattle.graphfile.specs.Heads.{loneHeadLength};
 ghost use Rattle.engine.specs.Relations.{relationCount};
-use crate::number::number_at;
+use bytes::number::LENGTH as NUMBER;
+use bytes::number_at;
+use bytes::set::LENGTH as SET;
+use bytes::set_at;
 use engine::Head;
 use engine::Marking;
 use engine::Relations;
@@ -15,14 +18,12 @@ use engine::enabled;
 use engine::graph::KINDS;
 use sets::Set;
 
-// The two letters and the edition.
-pub const LETTERS: [u8; 3] = *b"BG\x01";
+// The two letters and the edition, and both: what a file opens with.
+const LETTERS: [u8; 2] = *b"BG";
 
-// The bytes before the first row.
-pub const HEAD: usize = 52;
+const EDITION: u8 = 1;
 
-// The bytes of a row: a key and a set.
-pub const ROW: usize = 9;
+pub const MARK: [u8; 3] = [LETTERS[0], LETTERS[1], EDITION];
 
 // How many relations: conditions, responses, includes, excludes.
 pub const RELATIONS: usize = KINDS as usize;
@@ -32,33 +33,39 @@ pub const ACTIVITIES: usize = 3;
 
 pub const EVENTS: usize = 4;
 
-pub const EXECUTED: usize = 12;
+pub const EXECUTED: usize = EVENTS + SET;
+
+// The bytes of a state, and where pending and included stand in it, after executed.
+pub const STATE: usize = 3 * SET;
+
+pub const PENDING: usize = SET;
+
+pub const INCLUDED: usize = 2 * SET;
+
+// Where the marking stands in a head by itself, after A and the events.
+const MARKING: usize = 1 + SET;
 
 // The bytes of an entry, and where the first one's offset and number of rows stand.
-pub const ENTRY: usize = 4;
+pub const ENTRY: usize = 2 * NUMBER;
 
-pub const OFFSETS: usize = 36;
+pub const OFFSETS: usize = EXECUTED + STATE;
 
-pub const COUNTS: usize = 38;
+pub const COUNTS: usize = OFFSETS + NUMBER;
 
-// The set in 8 bytes from a place on.
-pub(crate) fn set_at(bytes: &[u8], at: usize) -> Set
-    requires { ⌜ at + 8 ≤ length (now bytes) ⌝ }
-    ensures { λ r. ⌜ r ≡ setAt (now (bytes .entry)) at ⌝ }
-{
-    Set {
-        bits: number_at(bytes, at, 8),
-    }
-}
+// The bytes before the first row.
+pub const HEAD: usize = OFFSETS + ENTRY * RELATIONS;
 
-// What a file holds of a marking, in 24 bytes from a place on: executed, pending, included.
+// The bytes of a row: a key and a set.
+pub const ROW: usize = 1 + SET;
+
+// What a file holds of a marking, from a place on: executed, pending, included.
 fn state_at(bytes: &[u8], at: usize) -> State
-    requires { ⌜ at + 24 ≤ length (now bytes) ⌝ }
+    requires { ⌜ at + stateLength ≤ length (now bytes) ⌝ }
     ensures { λ r. ⌜ r ≡ stateAt (now (bytes .entry)) at ⌝ }
 {
     let executed = set_at(bytes, at);
-    let pending = set_at(bytes, at + 8);
-    let included = set_at(bytes, at + 16);
+    let pending = set_at(bytes, at + PENDING);
+    let included = set_at(bytes, at + INCLUDED);
     State::of(executed, pending, included)
 }
 
@@ -69,14 +76,14 @@ pub(crate) fn state_in(bytes: &[u8]) -> State
     state_at(bytes, EXECUTED)
 }
 
-// A marking by itself, in 32 bytes from a place on: the enabled activities too.
+// A marking by itself, from a place on: the enabled activities too.
 pub(crate) fn marking_at(bytes: &[u8], at: usize) -> Marking
     requires { ⌜ at + markingLength ≤ length (now bytes) ⌝ }
     ensures { λ r. ⌜ r ≡ markingAt (now (bytes .entry)) at ⌝ }
 {
     Marking {
         state: state_at(bytes, at),
-        enabled: set_at(bytes, at + 24),
+        enabled: set_at(bytes, at + STATE),
     }
 }
 
@@ -88,7 +95,7 @@ pub(crate) fn head_at(bytes: &[u8], at: usize) -> Head
     Head {
         activities: bytes[at],
         events: set_at(bytes, at + 1),
-        opening: marking_at(bytes, at + 9),
+        opening: marking_at(bytes, at + MARKING),
     }
 }
 
@@ -110,7 +117,7 @@ pub(crate) fn offset_in(bytes: &[u8], r: usize) -> usize
     requires { ⌜ (r < relationCount) × (headLength ≤ length (now bytes)) ⌝ }
     ensures { λ n. ⌜ n ≡ offsetIn (now (bytes .entry)) r ⌝ }
 {
-    number_at(bytes, OFFSETS + ENTRY * r, 2) as usize
+    number_at(bytes, OFFSETS + ENTRY * r) as usize
 }
 
 pub(crate) fn count_in(bytes: &[u8], r: usize) -> usize
@@ -118,7 +125,7 @@ pub(crate) fn count_in(bytes: &[u8], r: usize) -> usize
     ensures { λ n. ⌜ n ≡ countIn (now (bytes .entry)) r ⌝ }
     ensures { λ n. ⌜ n < 65536 ⌝ }
 {
-    number_at(bytes, COUNTS + ENTRY * r, 2) as usize
+    number_at(bytes, COUNTS + ENTRY * r) as usize
 }
 
 // How many rows the relations before r have.

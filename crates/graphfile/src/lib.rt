@@ -2,7 +2,6 @@
 pub mod head;
 mod layout;
 pub mod marking;
-mod number;
 pub mod reader;
 mod refusal;
 pub mod writer;
@@ -13,3 +12,4 @@ pub use reader::read;
 pub use reader::read_bare;
 pub use writer::Written;
 pub use writer::write;
+pub use writer::write_unjudged;

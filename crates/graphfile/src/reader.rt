@@ -11,6 +11,7 @@ ghost use Rattle.graphfile.specs.Refusals.{judgedRow, judgedRelation, ju
 ghost use Rattle.graphfile.specs.Held.{filled, withRelation, relationsIn, bareOf, readOf};
 use crate::layout;
 use crate::refusal;
+use bytes::set_at;
 use engine::Graph;
 use engine::Head;
 use engine::Relations;
@@ -34,7 +35,7 @@ fn take_rows(bytes: &[u8], r: u8, count: usize, first: usize, held: &mut Relatio
     ensures { λ a. ⌜ a ≡ firstRefusal count (judgedRow (now (bytes .entry)) first) ⌝ }
     ensures { λ a. ⌜ (a ≡ Done → now (held .exit) ≡ filled (now (bytes .entry)) (now (held .entry)) r count first) ⌝ }
 {
-    let events = layout::set_at(bytes, layout::EVENTS);
+    let events = set_at(bytes, layout::EVENTS);
     let mut j = 0;
     while j < count {
         let key = Activity(layout::key_in(bytes, first + j));
@@ -108,7 +109,7 @@ pub fn read_bare(bytes: &[u8]) -> Bare
     let mut state = State::EMPTY;
     let answer = take(bytes, &mut relations);
     if answer.is_done() {
-        events = layout::set_at(bytes, layout::EVENTS);
+        events = set_at(bytes, layout::EVENTS);
         state = layout::state_in(bytes);
     } else {
         relations = [0; KINDS as usize * WIDTH];

@@ -7,27 +7,29 @@ ghost use Rattle.engine.specs.Relations.{relationCount};
 ghost use Rattle.sets.specs.Answers.{firstRefusal};
 ghost use Rattle.graphfile.specs.Refusals.{judgedHead, judgedEntry, judgedEnd, judgedBeforeRows, rises, rowAnswer};
 use crate::layout;
+use bytes::set_at;
 use engine::judge::state_within;
 use sets::Activity;
 use sets::Answer;
 use sets::Set;
+use sets::activity::WIDTH;
 use sets::opening;
 
 // The greatest number of rows of a relation, whatever A is.
-const MOST_ROWS: usize = 64;
+const MOST_ROWS: usize = WIDTH;
 
 fn judge_head(bytes: &[u8]) -> Answer
     requires { ⌜ headLength ≤ length (now bytes) ⌝ }
     ensures { λ r. ⌜ r ≡ judgedHead (now (bytes .entry)) ⌝ }
 {
-    if !opening::opens_with(&layout::LETTERS, bytes) {
+    if !opening::opens_with(&layout::MARK, bytes) {
         return Answer::WrongLetters;
     }
     let activities = bytes[layout::ACTIVITIES];
     if Activity::LIMIT < activities {
         return Answer::AboveLimit;
     }
-    let events = layout::set_at(bytes, layout::EVENTS);
+    let events = set_at(bytes, layout::EVENTS);
     if !events.is_within(Set::below(activities)) {
         return Answer::Outside;
     }

@@ -7,11 +7,13 @@ ghost use lib.Seq.{sets};
 ghost use Rattle.sets.specs.Members.{width};
 ghost use Rattle.sets.specs.Tables.{tableAt};
 ghost use Rattle.engine.specs.Relations.{relationCount, graphOf};
-ghost use Rattle.graphfile.specs.Layout.{letters, headLength, rowLength};
+ghost use Rattle.graphfile.specs.Layout.{mark, eventsPlace, entriesPlace, stateLength, entryLength, headLength, rowLength};
 ghost use Rattle.graphfile.specs.Writing.{rowsFor, rowOf, rowCount, rowsBefore, relationBytes};
-ghost use Rattle.graphfile.specs.Writing.{entryBytes, entriesBytes, stateBytes, headBytes, relationsBytes, bytesOf, writtenOf, fileAfter};
+ghost use Rattle.graphfile.specs.Writing.{entryBytes, entriesBytes, stateBytes, headBytes, relationsBytes, bytesOf, writtenOf, fileAfter, unjudgedOf, unjudgedAfter};
 use crate::layout;
-use crate::number::put_number;
+use bytes::number::LENGTH as NUMBER;
+use bytes::put_number;
+use bytes::put_set;
 use engine::Graph;
 use engine::Head;
 use engine::Relations;
@@ -78,7 +80,7 @@ fn put_row(out: &mut [u8], at: usize, key: Activity, s: Set) -> usize
         return at;
     }
     out[at] = key.0;
-    put_number(out, at + 1, 8, s.bits);
+    put_set(out, at + 1, s);
     at + layout::ROW
 }
 
@@ -100,10 +102,10 @@ fn put_rows(out: &mut [u8], at: usize, relations: &Relations, r: u8) -> usize
 
 // Stores the letters, the edition and A.
 fn put_letters(out: &mut [u8], activities: u8)
-    requires { ⌜ 4 ≤ length (now out) ⌝ }
-    ensures { λ _. ⌜ now (out .exit) ≡ sets (now (out .entry)) 0 (letters ++ (activities ∷ [])) ⌝ }
+    requires { ⌜ eventsPlace ≤ length (now out) ⌝ }
+    ensures { λ _. ⌜ now (out .exit) ≡ sets (now (out .entry)) 0 (mark ++ (activities ∷ [])) ⌝ }
 {
-    let wanted = layout::LETTERS;
+    let wanted = layout::MARK;
     out[0] = wanted[0];
     out[1] = wanted[1];
     out[2] = wanted[2];
@@ -112,12 +114,12 @@ fn put_letters(out: &mut [u8], activities: u8)
 
 // Stores what a file holds of a marking: executed, pending, included.
 pub(crate) fn put_state(out: &mut [u8], at: usize, s: State)
-    requires { ⌜ at + 24 ≤ length (now out) ⌝ }
+    requires { ⌜ at + stateLength ≤ length (now out) ⌝ }
     ensures { λ _. ⌜ now (out .exit) ≡ sets (now (out .entry)) at (stateBytes s) ⌝ }
 {
-    put_number(out, at, 8, s.executed.bits);
-    put_number(out, at + 8, 8, s.pending.bits);
-    put_number(out, at + 16, 8, s.included.bits);
+    put_set(out, at, s.executed);
+    put_set(out, at + layout::PENDING, s.pending);
+    put_set(out, at + layout::INCLUDED, s.included);
 }
 
 // Stores the letters, the edition, A and the four sets.
@@ -126,23 +128,23 @@ fn put_head(out: &mut [u8], head: Head)
     ensures { λ _. ⌜ now (out .exit) ≡ sets (now (out .entry)) 0 (headBytes head) ⌝ }
 {
     put_letters(out, head.activities);
-    put_number(out, layout::EVENTS, 8, head.events.bits);
+    put_set(out, layout::EVENTS, head.events);
     put_state(out, layout::EXECUTED, head.opening.state);
 }
 
 // Stores an entry: where the relation's rows begin, counted in bytes from the first row, and how many there are.
 fn put_entry(out: &mut [u8], at: usize, earlier: usize, count: usize)
-    requires { ⌜ (at + 4 ≤ length (now out)) × (earlier ≤ width * relationCount) × (count ≤ width) ⌝ }
+    requires { ⌜ (at + entryLength ≤ length (now out)) × (earlier ≤ width * relationCount) × (count ≤ width) ⌝ }
     ensures { λ _. ⌜ now (out .exit) ≡ sets (now (out .entry)) at (entryBytes earlier count) ⌝ }
 {
-    put_number(out, at, 2, (layout::ROW * earlier) as u64);
-    put_number(out, at + 2, 2, count as u64);
+    put_number(out, at, (layout::ROW * earlier) as u16);
+    put_number(out, at + NUMBER, count as u16);
 }
 
 // Stores the four entries.
 fn put_entries(out: &mut [u8], relations: &Relations)
     requires { ⌜ headLength ≤ length (now out) ⌝ }
-    ensures { λ _. ⌜ now (out .exit) ≡ sets (now (out .entry)) 36 (entriesBytes (now (relations .entry)) relationCount) ⌝ }
+    ensures { λ _. ⌜ now (out .exit) ≡ sets (now (out .entry)) entriesPlace (entriesBytes (now (relations .entry)) relationCount) ⌝ }
 {
     let mut earlier = 0;
     let mut r: u8 = 0;
@@ -182,6 +184,26 @@ fn put_file(out: &mut [u8], head: Head, relations: &Relations)
     put_relations(out, relations);
 }
 
+// Writes the file of a graph that nobody judges here, for callers that have it from a reader or a miner. Of a graph that is refused when it is
+// judged, the bytes are no graph file.
+pub fn write_unjudged(head: Head, relations: &Relations, out: &mut [u8]) -> Written
+    ensures { λ r. ⌜ r ≡ unjudgedOf (graphOf head (now (relations .entry))) (length (now (out .entry))) ⌝ }
+    ensures { λ _. ⌜ now (out .exit) ≡ unjudgedAfter (graphOf head (now (relations .entry))) (now (out .entry)) ⌝ }
+{
+    let length = layout::HEAD + layout::ROW * row_total(relations);
+    if out.len() < length {
+        return Written {
+            answer: Answer::BufferTooSmall,
+            length: 0,
+        };
+    }
+    put_file(out, head, relations);
+    Written {
+        answer: Answer::Done,
+        length,
+    }
+}
+
 // Writes the file of a graph into the first bytes of a buffer.
 pub fn write(g: Graph, out: &mut [u8]) -> Written
     ensures { λ r. ⌜ r ≡ writtenOf g (length (now (out .entry))) ⌝ }
@@ -192,13 +214,5 @@ pub fn write(g: Graph, out: &mut [u8]) -> Written
     if !answer.is_done() {
         return Written { answer, length: 0 };
     }
-    let length = layout::HEAD + layout::ROW * row_total(&g.relations);
-    if out.len() < length {
-        return Written {
-            answer: Answer::BufferTooSmall,
-            length: 0,
-        };
-    }
-    put_file(out, head, &g.relations);
-    Written { answer, length }
+    write_unjudged(head, &g.relations, out)
 }

@@ -28,7 +28,7 @@ use Rattle.engine.specs.declared.replay.Walked.{Walked}
 use Rattle.graphfile.specs.Refusals.{judgedFile}
 use Rattle.graphfile.specs.Held.{relationsIn, graphIn, bareOf, readOf}
 use Rattle.graphfile.specs.Layout.{eventsIn, stateIn}
-use Rattle.graphfile.proofs.Codec.{Bytes}
+use Rattle.bytes.proofs.Codec.{Bytes}
 use Rattle.graphfile.proofs.RoundTrips.{file-graph}
 use Rattle.graphfile.specs.Writing.{writtenOf, fileAfter}
 use Rattle.graphfile.specs.declared.reader.Reading.{Reading}

@@ -21,7 +21,7 @@ use Rattle.graphfile.specs.Held.{graphIn, readOf}
 use Rattle.graphfile.specs.Writing.{bytesOf, judgedWrite, writtenOf, fileAfter}
 use Rattle.graphfile.specs.declared.reader.Reading.{Reading}
 use Rattle.graphfile.specs.declared.writer.Written.{Written}
-use Rattle.graphfile.proofs.Codec.{Bytes}
+use Rattle.bytes.proofs.Codec.{Bytes}
 use Rattle.graphfile.proofs.Accepted.{accepted}
 use Rattle.graphfile.proofs.FileBack.{file-back, graph-back}
 use Rattle.graphfile.proofs.GraphFile.{Machine}

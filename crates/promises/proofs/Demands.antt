@@ -58,7 +58,7 @@ use Rattle.graphfile.specs.Held.{graphIn, readOf}
 use Rattle.graphfile.specs.Writing.{bytesOf, judgedWrite, writtenOf, fileAfter}
 use Rattle.graphfile.specs.declared.reader.Reading.{Reading}
 use Rattle.graphfile.specs.declared.writer.Written.{Written}
-use Rattle.graphfile.proofs.Codec.{Bytes}
+use Rattle.bytes.proofs.Codec.{Bytes}
 use Rattle.graphfile.proofs.GraphFile.{Machine}
 use Rattle.graphfile.proofs.RoundTrips.{written-then-read, read-then-written}
 use Rattle.rules.specs.declared.Profile.{Profile}

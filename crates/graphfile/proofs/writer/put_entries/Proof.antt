@@ -5,6 +5,7 @@ use lib.ListN.{length}
 use lib.Seq.{sets}
 use Rattle.sets.specs.Members.{width}
 use Rattle.engine.specs.Relations.{relationCount}
+use Rattle.graphfile.specs.Layout.{entriesPlace}
 use Rattle.graphfile.specs.Writing.{rowsBefore, entriesBytes}
 use Rattle.graphfile.proofs.Places.{counting}
 use Rattle.graphfile.proofs.RowStores.{kept-length}
@@ -15,7 +16,7 @@ use Rattle.graphfile.proofs.writer.put_entries.Tie as tie
 abbrev Inv-loop : tie.InvT-loop
 Inv-loop out₀ relations earlier₀ r₀ out earlier r =
     (r ≤ relationCount) × (length out ≡ length out₀) × (earlier ≡ rowsBefore relations r) × (earlier ≤ width * r)
-    × (out ≡ sets out₀ 36 (entriesBytes relations r))
+    × (out ≡ sets out₀ entriesPlace (entriesBytes relations r))
 
 abbrev μ-loop : tie.MeasureT-loop
 μ-loop out₀ relations earlier₀ r₀ out earlier r = relationCount - r
