@@ -4,3 +4,4 @@ pub mod Parts
 pub mod Rooms
 pub mod NumberLaws
 pub mod SetLaws
+pub mod Editions

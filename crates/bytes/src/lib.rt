@@ -1,4 +1,5 @@
-// What the files of this house share: numbers and sets as bytes, in a lent slice of them (01, "Sizes").
+// What the files of this house share: editions, and numbers and sets as bytes, in a lent slice of them (01, "Sizes").
+pub mod edition;
 pub mod number;
 pub mod room;
 pub mod set;

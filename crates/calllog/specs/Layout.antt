@@ -5,9 +5,9 @@ use Rattle.sets.specs.Sizes.{mostTraces, mostEvents}
 use lib.ListN.{getD}
 use Rattle.sets.specs.Files.{numberAt}
 
--- the two letters, B and L, and the edition
+-- the two letters, B and L
 abbrev pub letters : List ℕ
-letters = 66 ∷ 76 ∷ 1 ∷ []
+letters = 66 ∷ 76 ∷ []
 
 -- how many bytes stand before the entries, and how many an entry has
 abbrev pub headSize : ℕ

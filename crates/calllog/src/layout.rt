@@ -4,15 +4,12 @@ ghost use Prim.Native.Nat.{_+_, _≤_, _<_};
 ghost use lib.ListN.{length, getD};
 ghost use Rattle.sets.specs.Files.{numberAt};
 ghost use Rattle.calllog.specs.Layout.{activitiesIn, tracesIn, offsetAt, lengthAt, bodiesStart};
-use sets::Activity;
 use sets::Place;
 
-// The two letters and the edition that a log opens with.
-pub const LETTERS: [u8; 3] = *b"BL\x01";
+// The two letters that a log opens with; the edition comes after them.
+pub const LETTERS: [u8; 2] = *b"BL";
 
-// The greatest A, T, length of a trace and number of events.
-pub const MOST_ACTIVITIES: u8 = Activity::LIMIT;
-
+// The greatest T, length of a trace and number of events.
 pub const MOST_TRACES: u16 = 1024;
 
 pub const LONGEST_TRACE: u16 = Place::LIMIT as u16;

@@ -7,7 +7,7 @@ use native.Mathlib.Omega.{arith}
 use lib.ListN.{length, length-replicate}
 use Rattle.sets.specs.Tests.{_and_, non}
 use Rattle.sets.specs.Members.{width, mem, those, someBelow}
-use Rattle.sets.specs.Rows.{Relation, inRow, noRows, rowsOf, rowsFor, turned}
+use Rattle.sets.specs.Rows.{Relation, rowWords, inRow, noRows, rowsOf, rowsFor, turned}
 use Rattle.sets.specs.Tables.{noTables, tableAt, withTable}
 use Rattle.sets.specs.declared.set.Set.{Set}
 use Rattle.sets.proofs.RowLaws.{in-rowsOf, rowsOf-ext, length-rowsOf}
@@ -73,18 +73,18 @@ seven-by L events tally t left₀ left t′ h₀ l h r hr =
 
 -- ---- the rows of a stage are rows of the width
 
-length-for : (events : Set) (r : ℕ → ℕ → Bool) → length (rowsFor events r) ≡ width
+length-for : (events : Set) (r : ℕ → ℕ → Bool) → length (rowsFor events r) ≡ rowWords
 unfolding rowsFor
 length-for events r = length-rowsOf _
 
 module _ (L : Traces) (events : Set) (tally : List ℕ) where
-  length-includes : (p : Profile) → length (includesSix p events tally L) ≡ width
+  length-includes : (p : Profile) → length (includesSix p events tally L) ≡ rowWords
   length-includes Full =
       ap length (through-rowsOf (letIn (neverOf events tally)) _ (λ r σ. forward-rowsOf (letIn (neverOf events tally)) r [] σ)
       (turned (chainsOf events tally)) L) ∙ length-rowsOf _
   length-includes Light = length-rowsOf _
 
-  length-excludes : (p : Profile) → length (excludesSix p events tally) ≡ width
+  length-excludes : (p : Profile) → length (excludesSix p events tally) ≡ rowWords
   length-excludes Full = length-for events _
   length-excludes Light = length-rowsOf _
 
@@ -105,7 +105,7 @@ module _ (L : Traces) (events : Set) (tally : List ℕ) where
     abbrev let-in : List ℕ → List ℕ
     let-in rows = through (λ r σ. forward (gains (letIn never)) r [] σ) rows L
 
-    six-held : length t ≡ relationCount * width → length (let-in (tableAt t 2)) ≡ width
+    six-held : length t ≡ relationCount * rowWords → length (let-in (tableAt t 2)) ≡ rowWords
         → Held t₃ (tableAt t 0) never (let-in (tableAt t 2)) (rowsFor events (inEither (tableAt t 3) never))
     six-held long li =
         let one = held-r _ _ _ _ _ t₁ never (held-any t long) (length-for events _) h₁ in
@@ -122,7 +122,7 @@ module _ (L : Traces) (events : Set) (tally : List ℕ) where
     pub six-length : length t₃ ≡ length t
     six-length = put-long t₂ t₃ 3 _ h₃ ∙ put-long t₁ t₂ 2 _ h₂ ∙ put-long t t₁ 1 _ h₁
 
-    module _ (p : Profile) (e : p ≡ Full) (long : length t ≡ relationCount * width) (hi : tableAt t 2 ≡ includesSix Light events tally L) where
+    module _ (p : Profile) (e : p ≡ Full) (long : length t ≡ relationCount * rowWords) (hi : tableAt t 2 ≡ includesSix Light events tally L) where
       full-held : Held t₃ (tableAt t 0) never (let-in (tableAt t 2)) (rowsFor events (inEither (tableAt t 3) never))
       full-held = six-held long (ap (λ (x : List ℕ). length (let-in x)) hi ∙ length-includes Full)
 
@@ -135,7 +135,7 @@ module _ (L : Traces) (events : Set) (tally : List ℕ) where
           ∙ ap (λ (x : List ℕ). rowsFor events (inEither x never)) hx
           ∙ ap (λ (q : Profile). excludesSix q events tally) (sym e)
 
-  module _ (t : List ℕ) (p : Profile) (e : p ≡ Light) (long : length t ≡ relationCount * width)
+  module _ (t : List ℕ) (p : Profile) (e : p ≡ Light) (long : length t ≡ relationCount * rowWords)
       (hi : tableAt t 2 ≡ includesSix Light events tally L) where
     pub light-includes : tableAt t 2 ≡ includesSix p events tally L
     light-includes = hi ∙ ap (λ (q : Profile). includesSix q events tally L) (sym e)
@@ -164,12 +164,12 @@ module _ (L : Traces) (events : Set) (tally : List ℕ) where
     pub eight-by : (t t₁ t₂ t₃ t₄ t₅ t₆ t₇ : List ℕ) → t₁ ≡ withTable t 2 (rowsOf (turned (chainsOf events tally)))
         → t₂ ≡ withTable t₁ 3 excludedOf → t₃ ≡ withTable t₂ 3 (rowsOf (turned (withTable noRows 0 (tableAt t₂ 3))))
         → length t₄ ≡ length t₃
-        → (length t₃ ≡ relationCount * width → tableAt t₃ 2 ≡ includesSix Light events tally L → tableAt t₄ 2 ≡ includesSix p events tally L)
-        → (length t₃ ≡ relationCount * width → tableAt t₃ 2 ≡ includesSix Light events tally L
+        → (length t₃ ≡ relationCount * rowWords → tableAt t₃ 2 ≡ includesSix Light events tally L → tableAt t₄ 2 ≡ includesSix p events tally L)
+        → (length t₃ ≡ relationCount * rowWords → tableAt t₃ 2 ≡ includesSix Light events tally L
         → tableAt t₃ 3 ≡ excludesSix Light events tally → tableAt t₄ 3 ≡ excludesSix p events tally)
         → ((r : Relation) → tableAt t₄ 3 ≡ rowsOf r → t₅ ≡ withTable t₄ 3 (sevenFrom events tally (tableAt t₄ 2) (tableAt t₄ 3) L))
         → t₆ ≡ withTable t₅ 0 eightOf → t₇ ≡ withTable t₆ 1 answersOf
-        → length t ≡ relationCount * width → t₇ ≡ fourTables eightOf answersOf (includesSix p events tally L) afterSeven
+        → length t ≡ relationCount * rowWords → t₇ ≡ fourTables eightOf answersOf (includesSix p events tally L) afterSeven
     eight-by t t₁ t₂ t₃ t₄ t₅ t₆ t₇ h₁ h₂ h₃ l₄ i₄ x₄ h₅ h₆ h₇ long =
         let three = held-i _ _ _ _ _ t₁ _ (held-any t long) (length-rowsOf _) h₁ in
         let excluded = held-x _ _ _ _ _ t₂ _ three (length-for events _) h₂ in
@@ -195,9 +195,9 @@ unfolding event
 events-by L r h = h
 
 pub tally-by : (L : Traces) (events : Set) (p : Profile) (none tally t t′ : List ℕ) → none ≡ noTables tableCount → tally ≡ through noted none L
-    → (length t ≡ relationCount * width → t′
+    → (length t ≡ relationCount * rowWords → t′
     ≡ fourTables (eightOf L events tally p) (answersOf L events tally p) (includesSix p events tally L) (afterSeven L events tally p))
-    → length t ≡ relationCount * width → t′
+    → length t ≡ relationCount * rowWords → t′
     ≡ fourTables (eightOf L events (tallied L) p) (answersOf L events (tallied L) p) (includesSix p events (tallied L) L)
     (afterSeven L events (tallied L) p)
 tally-by L events p none tally t t′ h₀ ht h long =
@@ -223,7 +223,7 @@ module _ (A : ℕ) (L : Traces) (p : Profile) (events : Set) (t₁ t₂ t₃ : L
       (through (λ r σ. forward (gains (missed events i x)) r [] σ) noRows L))
 
   pub found-by : events ≡ those (event L)
-      → (length (noTables relationCount) ≡ relationCount * width → t₁ ≡ fourTables eight (answersOf L events (tallied L) p) included excluding)
+      → (length (noTables relationCount) ≡ relationCount * rowWords → t₁ ≡ fourTables eight (answersOf L events (tallied L) p) included excluding)
       → t₂ ≡ withTable t₁ 0
       (nineFrom (withTable noRows 0 (tableAt t₁ 0)) (withTable noRows 0 (tableAt t₁ 2)) (withTable noRows 0 (tableAt t₁ 3)))
       → t₃ ≡ withTable t₂ 0 (rowsFor events (reducedOf (withTable noRows 0 (tableAt t₂ 0))))
@@ -231,7 +231,7 @@ module _ (A : ℕ) (L : Traces) (p : Profile) (events : Set) (t₁ t₂ t₃ : L
   unfolding graphFound
   found-by hv h₁ h₂ h₃ hs ho =
       let four = eight-four L events (tallied L) p in
-      let is = h₁ (length-replicate {A = ℕ} (relationCount * width) 0) in
+      let is = h₁ (length-replicate {A = ℕ} (relationCount * rowWords) 0) in
       let one : Held t₁ eight (answersOf L events (tallied L) p) included excluding = subst (λ (x : List ℕ). Held x eight
       (answersOf L events (tallied L) p) included excluding) (sym is) four in
       let nine = held-c _ _ _ _ _ t₂ (nineFrom eight included excluding) one (length-for events _)

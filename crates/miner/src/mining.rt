@@ -3,8 +3,8 @@
 ghost use mathlib.Core.Path.{_≡_};
 ghost use Prim.Native.Nat.{_*_};
 ghost use lib.ListN.{length};
-ghost use Rattle.sets.specs.Members.{width, those};
-ghost use Rattle.sets.specs.Rows.{rowsFor};
+ghost use Rattle.sets.specs.Members.{those};
+ghost use Rattle.sets.specs.Rows.{rowWords, rowsFor};
 ghost use Rattle.sets.specs.Tables.{tableAt, withTable};
 ghost use Rattle.engine.specs.Relations.{relationCount};
 ghost use Rattle.rules.specs.declared.Profile.the-variants.{Light};
@@ -30,7 +30,7 @@ use rules::Profile;
 use sets::Answer;
 use sets::Rows;
 use sets::Set;
-use sets::activity::WIDTH;
+use sets::rows::WORDS;
 use sets::tables;
 use steps::reduce;
 use steps::relations;
@@ -76,10 +76,10 @@ fn put_six<'a>(
     out: &mut Relations,
 )
     ensures { λ _. ⌜ length (now (out .exit)) ≡ length (now (out .entry)) ⌝ }
-    ensures { λ _. ⌜ (length (now (out .entry)) ≡ relationCount * width
+    ensures { λ _. ⌜ (length (now (out .entry)) ≡ relationCount * rowWords
         → tableAt (now (out .entry)) 2 ≡ includesSix Light events (now (tally .entry)) (walked (now (bytes .entry)) traces 0)
         → tableAt (now (out .exit)) 2 ≡ includesSix profile events (now (tally .entry)) (walked (now (bytes .entry)) traces 0)) ⌝ }
-    ensures { λ _. ⌜ (length (now (out .entry)) ≡ relationCount * width
+    ensures { λ _. ⌜ (length (now (out .entry)) ≡ relationCount * rowWords
         → tableAt (now (out .entry)) 2 ≡ includesSix Light events (now (tally .entry)) (walked (now (bytes .entry)) traces 0)
         → tableAt (now (out .entry)) 3 ≡ excludesSix Light events (now (tally .entry))
         → tableAt (now (out .exit)) 3 ≡ excludesSix profile events (now (tally .entry))) ⌝ }
@@ -103,7 +103,7 @@ fn put_eight<'a>(
     profile: Profile,
     out: &mut Relations,
 )
-    ensures { λ _. ⌜ (length (now (out .entry)) ≡ relationCount * width → now (out .exit) ≡ fourTables
+    ensures { λ _. ⌜ (length (now (out .entry)) ≡ relationCount * rowWords → now (out .exit) ≡ fourTables
         (rowsFor events (reducedOf (conditionsOf events (now (tally .entry)))))
         (rowsFor events (reducedOf (responsesOf events (now (tally .entry)))))
         (includesSix profile events (now (tally .entry)) (walked (now (bytes .entry)) traces 0))
@@ -122,7 +122,7 @@ fn put_eight<'a>(
 // The same of a log's first traces; it gives their events. The tally, the largest of all, is gone when it returns.
 fn tables_eight(bytes: &[u8], traces: usize, profile: Profile, out: &mut Relations) -> Set
     ensures { λ r. ⌜ r ≡ those (event (walked (now (bytes .entry)) traces 0)) ⌝ }
-    ensures { λ r. ⌜ (length (now (out .entry)) ≡ relationCount * width → now (out .exit) ≡ fourTables
+    ensures { λ r. ⌜ (length (now (out .entry)) ≡ relationCount * rowWords → now (out .exit) ≡ fourTables
         (rowsFor r (reducedOf (conditionsOf r (tallied (walked (now (bytes .entry)) traces 0)))))
         (rowsFor r (reducedOf (responsesOf r (tallied (walked (now (bytes .entry)) traces 0)))))
         (includesSix profile r (tallied (walked (now (bytes .entry)) traces 0)) (walked (now (bytes .entry)) traces 0))
@@ -140,7 +140,7 @@ fn tables_eight(bytes: &[u8], traces: usize, profile: Profile, out: &mut Relatio
 fn graph_found(bytes: &[u8], activities: u8, traces: usize, profile: Profile) -> Graph
     ensures { λ r. ⌜ r ≡ graphFound activities (walked (now (bytes .entry)) traces 0) profile ⌝ }
 {
-    let mut found: Relations = [0; KINDS as usize * WIDTH];
+    let mut found: Relations = [0; KINDS as usize * WORDS];
     let events = tables_eight(bytes, traces, profile, &mut found);
     conditions::put_nine(bytes, traces, events, &mut found);
     conditions::put_ten(events, &mut found);

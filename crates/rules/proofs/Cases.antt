@@ -26,6 +26,7 @@ use Rattle.engine.specs.Judged.{stateWithin, rowWithin, rowsWithin, relationsWi
 use Rattle.engine.specs.Replay.{enabledOf, steppedOf, replayFrom, replayOf}
 use Rattle.engine.proofs.Examples.{table3, table3-after}
 use Rattle.sets.specs.Files.{valueOf, numberAt, opensWith}
+use Rattle.bytes.specs.Editions.{editionFor, opensFile, beyond}
 use Rattle.calllog.specs.Layout.{activitiesIn, tracesIn, offsetAt, lengthAt, bodiesStart, eventsBefore}
 use Rattle.sets.specs.Answers.{firstRefusal}
 use Rattle.calllog.specs.Judged.{allBelow, judgedHead, judgedEntry, judgedBodies, judgedContents, judgedLog}
@@ -154,7 +155,7 @@ same0 : map asked part0 ≡ map wanted part0
 unfolding part0 file L listing G
     _and_ _or_ non bit mem those bitsOf someBelow leastBelow everyBelow isEmpty within rowAt tableAt withRowIn inRow listFrom rowsOf tablesOf
     waits blocker enabled after accepting stateWithin rowWithin rowsWithin relationsWithin graphWithin judgedFor judgedWith enabledOf steppedOf replayFrom replayOf
-    opensWith valueOf numberAt activitiesIn tracesIn offsetAt lengthAt bodiesStart eventsBefore
+    opensWith opensFile editionFor beyond valueOf numberAt activitiesIn tracesIn offsetAt lengthAt bodiesStart eventsBefore
     firstRefusal allBelow judgedHead judgedEntry judgedBodies judgedContents judgedLog tracesFrom logOf
     _has_ _beginsWith_ atEachFrom atSomeFrom everyTrace someTrace
     noPair noRelations smallestSource _without_ event someEvent _with_ atMostOnce precedes answers chained together before followed between alternates beforeFirst

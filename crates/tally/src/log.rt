@@ -9,7 +9,7 @@ ghost use Rattle.tally.specs.Passes.{through, walked};
 ghost use Rattle.tally.specs.Tallies.{tableCount, noted};
 use crate::passes;
 use sets::Set;
-use sets::activity::WIDTH;
+use sets::rows::WORDS;
 
 // Row t: what stands before some t.
 pub const BEFORE: u8 = 0;
@@ -27,13 +27,13 @@ pub const UNALTERNATED: u8 = 5;
 pub const FOLLOWED: u8 = 6;
 
 // Seven tables of rows, one after another.
-pub type Tally = [u64; 7 * WIDTH];
+pub type Tally = [u64; 7 * WORDS];
 
 // The tally of no trace.
 pub fn empty() -> Tally
     ensures { λ r. ⌜ r ≡ noTables tableCount ⌝ }
 {
-    [0; 7 * WIDTH]
+    [0; 7 * WORDS]
 }
 
 // The facts of one trace. It gives the events so far with those of the trace.
