@@ -92,7 +92,7 @@ module _ (bytes : List ℕ) where
   accepts a =
       let w = a .whole in
       let head : judgedHead bytes ≡ Done =
-      sym (head-done bytes _ refl (a .long) _ _ refl refl _ refl (λ i. not (a .named i)) _ refl (within-both _ _ (a .activities) (a .edition)) (a .traces) (omega arith)) in
+      sym (head-done bytes _ refl (a .long) _ _ refl refl _ refl (λ i. not (a .named i)) _ refl (within-both _ _ (a .activities) (a .edition)) _ refl (a .traces) (omega arith)) in
       ask-on _ _ head
       ∙ ask-on _ _
       (no-refusal (entryOf bytes) (tracesIn bytes) (λ k l. sym (entry-done _ _ _ (a .lengths k l) (a .totals k l) (a .offsets k l))))

@@ -6,7 +6,7 @@ ghost use Rattle.sets.specs.Tables.{noTables};
 ghost use Rattle.sets.specs.Answers.{firstRefusal};
 ghost use Rattle.sets.specs.declared.answer.Answer.the-variants.{Done};
 ghost use Rattle.engine.specs.Relations.{relationCount};
-ghost use Rattle.graphfile.specs.Layout.{headLength, rowLength, endOf};
+ghost use Rattle.graphfile.specs.Layout.{rowPlace, endOf};
 ghost use Rattle.graphfile.specs.Refusals.{judgedRow, judgedRelation, judgedFile};
 ghost use Rattle.graphfile.specs.Held.{filled, withRelation, relationsIn, bareOf, readOf};
 use crate::layout;
@@ -20,7 +20,7 @@ use engine::graph::KINDS;
 use sets::Activity;
 use sets::Answer;
 use sets::Set;
-use sets::activity::WIDTH;
+use sets::rows::WORDS;
 use sets::tables;
 
 // What a read gives: the answer, and the graph; the empty graph where the file is refused.
@@ -31,11 +31,11 @@ pub struct Reading {
 
 // So many rows of the file, each put at its key into table r, up to the first that is refused.
 fn take_rows(bytes: &[u8], r: u8, count: usize, first: usize, held: &mut Relations) -> Answer
-    requires { ⌜ headLength + rowLength * (first + count) ≤ length (now bytes) ⌝ }
+    requires { ⌜ (first + count ≤ 65536 * relationCount) × (rowPlace (now bytes) (first + count) ≤ length (now bytes)) ⌝ }
     ensures { λ a. ⌜ a ≡ firstRefusal count (judgedRow (now (bytes .entry)) first) ⌝ }
     ensures { λ a. ⌜ (a ≡ Done → now (held .exit) ≡ filled (now (bytes .entry)) (now (held .entry)) r count first) ⌝ }
 {
-    let events = set_at(bytes, layout::EVENTS);
+    let events = set_at(bytes, layout::EVENTS, layout::is_wide(bytes));
     let mut j = 0;
     while j < count {
         let key = Activity(layout::key_in(bytes, first + j));
@@ -104,15 +104,16 @@ pub struct Bare {
 pub fn read_bare(bytes: &[u8]) -> Bare
     ensures { λ r. ⌜ r ≡ bareOf (now (bytes .entry)) ⌝ }
 {
-    let mut relations: Relations = [0; KINDS as usize * WIDTH];
+    let mut relations: Relations = [0; KINDS as usize * WORDS];
     let mut events = Set::EMPTY;
     let mut state = State::EMPTY;
     let answer = take(bytes, &mut relations);
     if answer.is_done() {
-        events = set_at(bytes, layout::EVENTS);
-        state = layout::state_in(bytes);
+        let wide = layout::is_wide(bytes);
+        events = set_at(bytes, layout::EVENTS, wide);
+        state = layout::state_in(bytes, wide);
     } else {
-        relations = [0; KINDS as usize * WIDTH];
+        relations = [0; KINDS as usize * WORDS];
     }
     Bare {
         answer,
@@ -126,13 +127,13 @@ pub fn read_bare(bytes: &[u8]) -> Bare
 pub fn read(bytes: &[u8]) -> Reading
     ensures { λ r. ⌜ r ≡ readOf (now (bytes .entry)) ⌝ }
 {
-    let mut relations: Relations = [0; KINDS as usize * WIDTH];
+    let mut relations: Relations = [0; KINDS as usize * WORDS];
     let mut head = Head::EMPTY;
     let answer = take(bytes, &mut relations);
     if answer.is_done() {
         head = layout::head_in(bytes, &relations);
     } else {
-        relations = [0; KINDS as usize * WIDTH];
+        relations = [0; KINDS as usize * WORDS];
     }
     Reading {
         answer,

@@ -1,4 +1,4 @@
--- No listing is longer than the longest: 50 bytes for the first line, 8 for a pair, 16 for a trace. Assumes nothing.
+-- No listing is longer than the longest: 55 bytes for the first line, 10 for a pair, 16 for a trace. Assumes nothing.
 use mathlib.Core.Path.{_≡_, refl, ap}
 use mathlib.Core.Bool.{Bool, true, false}
 use mathlib.Core.List.{List, [], _∷_, List·Memᴰ, List·Memᴰ·head, List·Memᴰ·tail}
@@ -31,24 +31,23 @@ use Rattle.report.specs.Lines.{line, C, R, I, E}
 use Rattle.report.specs.Pairs.{passing, withEach, pairsFrom, pairCount}
 use Rattle.report.specs.Listing.{firstLine, pairLine, pairLines, traceLine, traceLines, relationLines, linesOf, refusedLine}
 use Rattle.report.specs.Listing.{listingOf, longestListing, longestRefused}
-use Rattle.report.proofs.Figures.{one-figure, two-figures, three-figures, four-figures}
-use Rattle.report.proofs.PairLaws.{pairs-most}
+use Rattle.report.proofs.Figures.{one-figure, two-figures, three-figures, four-figures, at-most}
 use Rattle.report.proofs.LineLaws.{lines-append}
 
--- ---- pairs: a letter and two numbers below 64
+-- ---- pairs: a letter and two numbers below 128
 
 module _ (letter : List ℕ) (one : length letter ≡ 1) where
-  pair-most : (s t : ℕ) → s < width → t < width → length (pairLine letter (record { source = s; target = t })) ≤ 8
+  pair-most : (s t : ℕ) → s < width → t < width → length (pairLine letter (record { source = s; target = t })) ≤ 10
   unfolding pairLine line
-  pair-most s t hs ht = simp length-append (omega (arith, two-figures s (omega arith), two-figures t (omega arith)))
+  pair-most s t hs ht = simp length-append (omega (arith, three-figures s (omega arith), three-figures t (omega arith)))
 
-  row-most : (p : ℕ → Bool) (s n a : ℕ) → s < width → a + n ≤ width → length (pairLines letter (withEach s (passing p n a))) ≤ 8 * n
+  row-most : (p : ℕ → Bool) (s n a : ℕ) → s < width → a + n ≤ width → length (pairLines letter (withEach s (passing p n a))) ≤ 10 * n
   unfolding passing pairLines
   row-most p s zero a h l = omega arith
   row-most p s (suc n) a h l = by (p a) (row-most p s n (suc a) h (omega (arith, add-suc a n, suc-add a n)))
     where
-      by : (b : Bool) → length (pairLines letter (withEach s (passing p n (suc a)))) ≤ 8 * n
-          → length (pairLines letter (withEach s (when b then a ∷ passing p n (suc a) else passing p n (suc a)))) ≤ 8 * suc n
+      by : (b : Bool) → length (pairLines letter (withEach s (passing p n (suc a)))) ≤ 10 * n
+          → length (pairLines letter (withEach s (when b then a ∷ passing p n (suc a) else passing p n (suc a)))) ≤ 10 * suc n
       by true k =
           omega (
             arith,
@@ -57,7 +56,7 @@ module _ (letter : List ℕ) (one : length letter ≡ 1) where
           )
       by false k = omega arith
 
-  relation-most : (r : Relation) (n s : ℕ) → s + n ≤ width → length (pairLines letter (pairsFrom r n s)) ≤ 512 * n
+  relation-most : (r : Relation) (n s : ℕ) → s + n ≤ width → length (pairLines letter (pairsFrom r n s)) ≤ 1280 * n
   unfolding pairsFrom pairLines
   relation-most r zero s l = omega arith
   relation-most r (suc n) s l =
@@ -69,7 +68,7 @@ module _ (letter : List ℕ) (one : length letter ≡ 1) where
         relation-most r n (suc s) (omega (arith, add-suc s n, suc-add s n)),
       )
 
-relations-most : (g : Graph) → length (relationLines g) ≤ 131072
+relations-most : (g : Graph) → length (relationLines g) ≤ 655360
 unfolding relationLines
 relations-most g =
     let q = relationsOf g in
@@ -136,18 +135,18 @@ traces-most f k (σ ∷ L) l h =
 
 -- ---- the first line
 
-first-most : (g : Graph) (n : ℕ) → n ≤ mostTraces → length (firstLine g n) ≤ 50
+first-most : (g : Graph) (n : ℕ) → n ≤ mostTraces → length (firstLine g n) ≤ 55
 unfolding firstLine line
 first-most g n l =
     let q = relationsOf g in
     simp length-append
     (omega (
       arith,
-      two-figures (countBelow width (mem (g .head .events))) (omega (arith, count-le width (mem (g .head .events)))),
-      four-figures (pairCount (q .conditions)) (omega (arith, pairs-most (q .conditions) width 0)),
-      four-figures (pairCount (q .responses)) (omega (arith, pairs-most (q .responses) width 0)),
-      four-figures (pairCount (q .includes)) (omega (arith, pairs-most (q .includes) width 0)),
-      four-figures (pairCount (q .excludes)) (omega (arith, pairs-most (q .excludes) width 0)),
+      three-figures (countBelow width (mem (g .head .events))) (omega (arith, count-le width (mem (g .head .events)))),
+      at-most 5 (pairCount (q .conditions)),
+      at-most 5 (pairCount (q .responses)),
+      at-most 5 (pairCount (q .includes)),
+      at-most 5 (pairCount (q .excludes)),
       four-figures n (omega arith),
     ))
 

@@ -70,10 +70,10 @@ listingOf bytes p =
     when isDone (logOf bytes .answer) then linesOf (minedGraph (logOf bytes .activities) (logOf bytes .traces) p) (logOf bytes .traces)
     else refusedLine (logOf bytes .answer)
 
--- no listing is longer: 50 bytes for the first line (events 64 C 4096 R 4096 I 4096 E 4096 traces 1024), 8 for each of 4 × 4,096 pairs
--- (C 63 63), 16 for each of 1,024 traces (T 1023 512 10 1): 50 + 131,072 + 16,384
+-- no listing is longer: 55 bytes for the first line (events 128 C 16384 R 16384 I 16384 E 16384 traces 1024), 10 for each of 4 × 16,384 pairs
+-- (C 127 127), 16 for each of 1,024 traces (T 1023 512 10 1): 55 + 655,360 + 16,384
 abbrev pub longestListing : ℕ
-longestListing = 147506
+longestListing = 671799
 
 -- the line of a refusal has a number of at most two figures: refused 12
 abbrev pub longestRefused : ℕ

@@ -18,7 +18,7 @@ use sets::rows;
 use sets::tables;
 
 // No listing has more bytes: a buffer of this size is always enough.
-pub const LONGEST: usize = 147506;
+pub const LONGEST: usize = 671799;
 
 const REFUSED: [u8; 7] = *b"refused";
 
