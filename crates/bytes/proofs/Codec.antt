@@ -8,7 +8,7 @@ use lib.Arith.{lt-one, digits-lt}
 use lib.Dec.{lit<}
 use lib.ListN.{length, getD, take, drop, set}
 use lib.Seq.{drop-cons, getD-drop, sets}
-use Rattle.sets.specs.Files.{littleEndian, valueOf, numberAt}
+use Rattle.bytes.specs.Numbers.{littleEndian, valueOf, numberAt}
 
 -- ---- reading: from the highest byte down
 

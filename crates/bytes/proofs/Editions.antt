@@ -9,7 +9,7 @@ use lib.Dec.{T, eqb, ltb}
 use Rattle.sets.specs.Tests.{_and_, _or_, non, when_then_else_}
 use Rattle.sets.specs.Members.{word}
 use Rattle.sets.specs.Sizes.{mostActivities}
-use Rattle.sets.specs.Files.{opensWith}
+use Rattle.bytes.specs.Opens.{opensWith}
 use Rattle.sets.proofs.Tests.{neither, T→true, true→T, F→false, false→F, non-false}
 use Rattle.bytes.specs.Editions.{narrowEdition, wideEdition, editionFor, editionIn, opensFile, beyond}
 

@@ -4,4 +4,5 @@ pub mod Parts
 pub mod Rooms
 pub mod NumberLaws
 pub mod SetLaws
+pub mod Opens
 pub mod Editions

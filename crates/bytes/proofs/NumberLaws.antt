@@ -1,19 +1,33 @@
 -- Numbers in bytes: what is read where bytes are missing, what is stored, and what is read, put down again. Assumes nothing.
 use mathlib.Core.Path.{_≡_, refl, sym, ap, _∙_, subst}
 use mathlib.Core.Bool.{Bool, true, false, not}
-use mathlib.Core.List.{List}
-use Prim.Native.Nat.{ℕ, _+_, _*_, _^_, _≤_, _<_}
+use mathlib.Core.List.{List, [], _∷_}
+use Prim.Native.Nat.{ℕ, zero, suc, _+_, _*_, _^_, _≤_, _<_}
 use native.Mathlib.Omega.{arith}
 use borrow.Author.Tests.{le-ltb, ltb-true, not-true, not-false}
 use lib.Dec.{ltb}
 use lib.ListN.{length, getD, take, drop, List·getD-eq-default}
 use lib.Seq.{sets, length-sets}
 use Rattle.sets.specs.Tests.{when_then_else_}
-use Rattle.sets.specs.Files.{littleEndian, valueOf, numberAt}
-use Rattle.sets.proofs.Files.{two-bytes}
-use Rattle.bytes.specs.Numbers.{numberLength, numberPut}
+use Rattle.bytes.specs.Numbers.{littleEndian, valueOf, numberAt, numberLength, numberPut}
 use Rattle.bytes.proofs.Codec.{Bytes, bytes-drop, bytes-take, value-number, number-value, value-below}
 use Rattle.bytes.proofs.Parts.{part, length-part}
+
+-- ---- a number of two bytes, byte by byte, where a missing byte counts as 0
+
+at-start : (bytes : List ℕ) → valueOf (take 2 bytes) ≡ getD bytes 0 0 + 256 * getD bytes 1 0
+unfolding valueOf
+at-start [] = refl
+at-start (x ∷ []) = refl
+at-start (x ∷ y ∷ bytes) = omega arith
+
+pub two-bytes : (bytes : List ℕ) (i : ℕ) → numberAt 2 bytes i ≡ getD bytes i 0 + 256 * getD bytes (i + 1) 0
+unfolding numberAt
+two-bytes bytes zero = at-start bytes
+two-bytes [] (suc i) = at-start []
+two-bytes (x ∷ bytes) (suc i) =
+    let next : suc i + 1 ≡ suc (i + 1) = omega arith in
+    two-bytes bytes i ∙ ap (λ (n : ℕ). getD bytes i 0 + 256 * getD (x ∷ bytes) n 0) (sym next)
 
 -- ---- ways through the code
 

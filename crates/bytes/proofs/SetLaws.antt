@@ -11,7 +11,7 @@ use lib.ListN.{length, getD, take, drop, length-append}
 use lib.Seq.{sets, length-sets, take-add, take-at, drop-at, drop-drop}
 use Rattle.sets.specs.Tests.{when_then_else_}
 use Rattle.sets.specs.Members.{mem, noSet}
-use Rattle.sets.specs.Files.{littleEndian, valueOf, numberAt}
+use Rattle.bytes.specs.Numbers.{littleEndian, valueOf, numberAt}
 use Rattle.sets.specs.declared.set.Set.{Set}
 use Rattle.sets.proofs.Tests.{false→F}
 use Rattle.sets.proofs.Members.{Whole, whole-fits, whole-low, those-mem, mem-none, none-high, low-alone}

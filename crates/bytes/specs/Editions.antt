@@ -8,7 +8,7 @@ use lib.ListN.{getD}
 use Rattle.sets.specs.Tests.{_and_, _or_, non, when_then_else_}
 use Rattle.sets.specs.Members.{word}
 use Rattle.sets.specs.Sizes.{mostActivities}
-use Rattle.sets.specs.Files.{opensWith}
+use Rattle.bytes.specs.Opens.{opensWith}
 
 abbrev pub narrowEdition : ℕ
 narrowEdition = 1

@@ -7,7 +7,7 @@ use lib.ListN.{length}
 use lib.Seq.{sets}
 use Rattle.sets.specs.Tests.{when_then_else_}
 use Rattle.sets.specs.Members.{width, word, mem, noSet}
-use Rattle.sets.specs.Files.{littleEndian, numberAt}
+use Rattle.bytes.specs.Numbers.{littleEndian, numberAt}
 use Rattle.sets.specs.declared.set.Set.{Set}
 
 -- how many bytes a machine word has

@@ -2,9 +2,9 @@
 ghost use mathlib.Core.Path.{_≡_};
 ghost use Rattle.bytes.specs.Editions.{editionFor, editionIn, opensFile, beyond};
 use crate::number::byte_at;
+use crate::opening::opens_with;
 use sets::Activity;
 use sets::activity::WORD;
-use sets::opening::opens_with;
 
 pub const NARROW: u8 = 1;
 

@@ -3,8 +3,7 @@ ghost use mathlib.Core.Path.{_≡_};
 ghost use Prim.Native.Nat.{_+_, _^_, _≤_, _<_};
 ghost use lib.ListN.{length, getD};
 ghost use lib.Seq.{sets};
-ghost use Rattle.sets.specs.Files.{littleEndian, numberAt};
-ghost use Rattle.bytes.specs.Numbers.{numberLength, numberPut};
+ghost use Rattle.bytes.specs.Numbers.{littleEndian, numberAt, numberLength, numberPut};
 use crate::room;
 
 // How many bytes a number of a file has.

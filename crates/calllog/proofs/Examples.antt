@@ -5,7 +5,8 @@ use Prim.Native.Nat.{ℕ}
 use Rattle.sets.specs.Tests.{_and_, _or_, non}
 use Rattle.sets.specs.Answers.{numberOf, firstRefusal}
 use Rattle.sets.specs.declared.answer.Answer.the-variants.{Done}
-use Rattle.sets.specs.Files.{valueOf, numberAt, opensWith}
+use Rattle.bytes.specs.Numbers.{valueOf, numberAt}
+use Rattle.bytes.specs.Opens.{opensWith}
 use Rattle.bytes.specs.Editions.{editionFor, opensFile, beyond}
 use Rattle.calllog.specs.Layout.{activitiesIn, tracesIn, offsetAt, lengthAt, bodiesStart, eventsBefore}
 use Rattle.calllog.specs.Judged.{allBelow, judgedHead, judgedEntry, judgedBodies, judgedContents, judgedLog}

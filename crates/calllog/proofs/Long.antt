@@ -13,8 +13,9 @@ use Rattle.sets.specs.Tests.{_and_, _or_, non, when_then_else_}
 use Rattle.sets.specs.Answers.{isDone, thenAsk, firstRefusal}
 use Rattle.sets.specs.declared.answer.Answer.{Answer}
 use Rattle.sets.specs.declared.answer.Answer.the-variants.{Done, TooShort, WrongLetters, AboveLimit}
-use Rattle.sets.specs.Files.{numberAt, opensWith}
-use Rattle.sets.proofs.Files.{two-bytes}
+use Rattle.bytes.specs.Numbers.{numberAt}
+use Rattle.bytes.specs.Opens.{opensWith}
+use Rattle.bytes.proofs.NumberLaws.{two-bytes}
 use Rattle.bytes.specs.Editions.{narrowEdition, wideEdition, editionIn, opensFile, beyond}
 use Rattle.calllog.specs.Layout.{letters, headSize, longestLog, activitiesIn, tracesIn, offsetAt, lengthAt, bodiesStart, eventsBefore}
 use Rattle.sets.specs.Sizes.{mostTraces}

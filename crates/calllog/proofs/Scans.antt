@@ -1,4 +1,4 @@
--- Bytes read one by one: past the end, two at a time, and in a loop against a recursive definition. Assumes nothing.
+-- Bytes read one by one: two that are there, and in a loop against a recursive definition. Assumes nothing.
 use mathlib.Core.Path.{_≡_, refl, sym, ap, ap₂, _∙_}
 use mathlib.Core.Bool.{Bool, true, false, _&&_}
 use mathlib.Core.List.{List}
@@ -6,24 +6,18 @@ use Prim.Native.Nat.{ℕ, suc, _+_, _*_, _≤_, _<_}
 use native.Mathlib.Numerals.{add-one}
 use native.Mathlib.Omega.{arith}
 use lib.Dec.{ltb}
-use lib.ListN.{length, getD, drop, List·getD-eq-default, drop-of-length-le}
+use lib.ListN.{length, getD, drop, drop-of-length-le}
 use lib.Seq.{drop-cons}
 use Rattle.sets.specs.Tests.{_and_}
 use Rattle.sets.proofs.Tests.{true-and, and-true}
-use Rattle.sets.specs.Files.{numberAt}
-use Rattle.sets.proofs.Files.{two-bytes}
+use Rattle.bytes.specs.Numbers.{numberAt, numberLength}
+use Rattle.bytes.proofs.NumberLaws.{two-bytes}
 use Rattle.calllog.specs.Judged.{allBelow}
 
--- ---- past the end, and two bytes
+-- ---- two bytes
 
-pub past : (bytes : List ℕ) (i : ℕ) → length bytes ≤ i → 0 ≡ getD bytes i 0
-past bytes i h = sym (List·getD-eq-default bytes 0 h)
-
-pub number-is : (bytes : List ℕ) (i low high : ℕ) → low ≡ getD bytes i 0 → high ≡ getD bytes (i + 1) 0 → low + 256 * high ≡ numberAt 2 bytes i
+pub number-is : (bytes : List ℕ) (i low high : ℕ) → low ≡ getD bytes i 0 → high ≡ getD bytes (i + 1) 0 → low + 256 * high ≡ numberAt numberLength bytes i
 number-is bytes i low high l h = ap₂ (λ (x y : ℕ). x + 256 * y) l h ∙ sym (two-bytes bytes i)
-
-pub number-past : (bytes : List ℕ) (i : ℕ) → length bytes ≤ i → 0 ≡ numberAt 2 bytes i
-number-past bytes i h = number-is bytes i 0 0 (past bytes i h) (past bytes (i + 1) (omega arith))
 
 -- ---- bytes that are all below a, byte by byte
 

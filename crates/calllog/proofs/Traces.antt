@@ -14,7 +14,7 @@ use Rattle.sets.specs.Answers.{isDone}
 use Rattle.sets.specs.declared.answer.Answer.the-variants.{Done}
 use Rattle.calllog.specs.Layout.{activitiesIn, tracesIn, offsetAt, lengthAt, bodiesStart, eventsBefore}
 use Rattle.calllog.specs.Judged.{judgedLog, allBelow}
-use Rattle.calllog.specs.Logs.{Log, startAt, traceAt, tracesFrom, logOf, noPart, wherePart, partOf, foundOf}
+use Rattle.calllog.specs.Logs.{Log, startAt, traceAt, tracesFrom, logOf, noPart, wherePart, partOf, partAt, foundOf}
 use Rattle.calllog.specs.Written.{endToEnd, WithinLimits}
 use Rattle.calllog.specs.declared.trace.Part.{Part}
 use Rattle.calllog.specs.declared.trace.Found.{Found}
@@ -58,6 +58,13 @@ module _ (bytes : List ℕ) (d : judgedLog bytes ≡ Done) where
       ∙ length-take-le (lengthAt bytes k) (drop (startAt bytes k) bytes) (omega (arith, length-drop (startAt bytes k) bytes))
 
 -- ---- for callers: no log has to be judged again, and none has to be accepted
+
+-- what the code cuts out, from a part's start to its end
+pub part-cut : (bytes : List ℕ) (k : ℕ) (p : Part) → p ≡ partOf bytes k → take (p .start + p .length - p .start) (drop (p .start) bytes)
+    ≡ partAt bytes k
+part-cut bytes k p e =
+    let same : p .start + p .length - p .start ≡ p .length = omega arith in
+    ap (λ (m : ℕ). take m (drop (p .start) bytes)) same ∙ ap (λ (q : Part). take (q .length) (drop (q .start) bytes)) e
 
 -- a part is within the bytes, whatever they are, so a caller may always take it out of its slice
 pub part-within : (bytes : List ℕ) (k : ℕ) (p : Part) → p ≡ partOf bytes k → p .start + p .length ≤ length bytes

@@ -11,8 +11,9 @@ use lib.Dec.{eqb, ltb}
 use Rattle.sets.specs.Tests.{_and_, _or_, when_then_else_}
 use Rattle.sets.specs.Members.{word}
 use Rattle.sets.specs.declared.answer.Answer.the-variants.{Done}
-use Rattle.sets.specs.Files.{numberAt, opensWith}
-use Rattle.sets.proofs.Files.{two-bytes}
+use Rattle.bytes.specs.Numbers.{numberAt}
+use Rattle.bytes.specs.Opens.{opensWith}
+use Rattle.bytes.proofs.NumberLaws.{two-bytes}
 use Rattle.bytes.specs.Editions.{narrowEdition, wideEdition, editionFor, editionIn, opensFile}
 use Rattle.calllog.specs.Layout.{letters, headSize, entrySize, activitiesIn, tracesIn, offsetAt, lengthAt, bodiesStart, eventsBefore}
 use Rattle.calllog.specs.Judged.{judgedLog, allBelow}

@@ -3,7 +3,7 @@ use mathlib.Core.List.{List, [], _∷_}
 use Prim.Native.Nat.{ℕ, zero, suc, _+_, _*_}
 use Rattle.sets.specs.Sizes.{mostTraces, mostEvents}
 use lib.ListN.{getD}
-use Rattle.sets.specs.Files.{numberAt}
+use Rattle.bytes.specs.Numbers.{numberAt, numberLength}
 
 -- the two letters, B and L
 abbrev pub letters : List ℕ
@@ -11,10 +11,10 @@ letters = 66 ∷ 76 ∷ []
 
 -- how many bytes stand before the entries, and how many an entry has
 abbrev pub headSize : ℕ
-headSize = 6
+headSize = 4 + numberLength
 
 abbrev pub entrySize : ℕ
-entrySize = 4
+entrySize = 2 * numberLength
 
 -- a log has at most this many bytes: 36,870
 abbrev pub longestLog : ℕ
@@ -26,14 +26,14 @@ activitiesIn bytes = getD bytes 3 0
 
 -- T
 unfoldable pub tracesIn : List ℕ → ℕ
-tracesIn bytes = numberAt 2 bytes 4
+tracesIn bytes = numberAt numberLength bytes 4
 
 -- entry k: an offset, then a length
 unfoldable pub offsetAt : List ℕ → ℕ → ℕ
-offsetAt bytes k = numberAt 2 bytes (headSize + entrySize * k)
+offsetAt bytes k = numberAt numberLength bytes (headSize + entrySize * k)
 
 unfoldable pub lengthAt : List ℕ → ℕ → ℕ
-lengthAt bytes k = numberAt 2 bytes (headSize + entrySize * k + 2)
+lengthAt bytes k = numberAt numberLength bytes (headSize + entrySize * k + numberLength)
 
 -- where the first body byte stands
 unfoldable pub bodiesStart : List ℕ → ℕ

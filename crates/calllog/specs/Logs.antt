@@ -59,6 +59,10 @@ wherePart bytes k =
 unfoldable pub partOf : List ℕ → ℕ → Part
 partOf bytes k = when ltb k (tracesIn bytes) then wherePart bytes k else noPart
 
+-- the bytes of part k, judged or not: of an accepted log trace k
+abbrev pub partAt : List ℕ → ℕ → List ℕ
+partAt bytes k = take (partOf bytes k .length) (drop (partOf bytes k .start) bytes)
+
 abbrev pub foundAs : Answer → Part → Found
 foundAs a p = record { answer = a; start = p .start; length = p .length }
 

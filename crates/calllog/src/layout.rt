@@ -2,8 +2,11 @@
 ghost use mathlib.Core.Path.{_≡_};
 ghost use Prim.Native.Nat.{_+_, _≤_, _<_};
 ghost use lib.ListN.{length, getD};
-ghost use Rattle.sets.specs.Files.{numberAt};
+ghost use Rattle.bytes.specs.Numbers.{numberAt, numberLength};
 ghost use Rattle.calllog.specs.Layout.{activitiesIn, tracesIn, offsetAt, lengthAt, bodiesStart};
+use bytes::byte_at;
+use bytes::number::LENGTH as NUMBER;
+use bytes::number_at;
 use sets::Place;
 
 // The two letters that a log opens with; the edition comes after them.
@@ -17,37 +20,16 @@ pub const LONGEST_TRACE: u16 = Place::LIMIT as u16;
 pub const MOST_EVENTS: u32 = 32768;
 
 // How many bytes stand before the entries, and how many an entry has.
-pub const HEAD_SIZE: usize = 6;
+pub const HEAD_SIZE: usize = TRACES_AT + NUMBER;
 
-pub const ENTRY_SIZE: usize = 4;
+pub const ENTRY_SIZE: usize = 2 * NUMBER;
 
 // Where A and T stand, and an entry's length within it.
 const ACTIVITIES_AT: usize = 3;
 
 const TRACES_AT: usize = 4;
 
-const LENGTH_AT: usize = 2;
-
-fn byte_at(bytes: &[u8], i: usize) -> u8
-    ensures { λ r. ⌜ r ≡ getD (now (bytes .entry)) i 0 ⌝ }
-{
-    if i < bytes.len() {
-        return bytes[i];
-    }
-    0
-}
-
-// A number of two bytes.
-fn number_at(bytes: &[u8], i: usize) -> u16
-    ensures { λ r. ⌜ r ≡ numberAt 2 (now (bytes .entry)) i ⌝ }
-{
-    if bytes.len() <= i {
-        return 0;
-    }
-    let low = byte_at(bytes, i);
-    let high = byte_at(bytes, i + 1);
-    low as u16 + 256 * (high as u16)
-}
+const LENGTH_AT: usize = NUMBER;
 
 fn present_byte(bytes: &[u8], i: usize) -> u8
     requires { ⌜ i < length (now bytes) ⌝ }
@@ -56,10 +38,10 @@ fn present_byte(bytes: &[u8], i: usize) -> u8
     bytes[i]
 }
 
-// A number of two bytes that are there.
+// A number whose bytes are there: judging looks at every entry, and asks once for all of them.
 fn present_number(bytes: &[u8], i: usize) -> u16
     requires { ⌜ i + 1 < length (now bytes) ⌝ }
-    ensures { λ r. ⌜ r ≡ numberAt 2 (now (bytes .entry)) i ⌝ }
+    ensures { λ r. ⌜ r ≡ numberAt numberLength (now (bytes .entry)) i ⌝ }
 {
     let low = present_byte(bytes, i);
     let high = present_byte(bytes, i + 1);

@@ -2,7 +2,7 @@
 ghost use mathlib.Core.Path.{_≡_};
 ghost use Prim.Native.Nat.{_<_};
 ghost use Rattle.calllog.specs.Layout.{tracesIn};
-ghost use Rattle.calllog.specs.Logs.{partOf, wherePart, foundOf, askedOf};
+ghost use Rattle.calllog.specs.Logs.{partOf, partAt, wherePart, foundOf, askedOf};
 use crate::judge;
 use crate::layout;
 use sets::Answer;
@@ -43,6 +43,16 @@ pub fn trace_part(bytes: &[u8], k: usize) -> Part
         return Part::NONE;
     }
     entry_part(bytes, k as u16)
+}
+
+// Trace k itself, as a part of the caller's bytes: what every walk over a log cuts out. It is empty where there is no such trace.
+pub fn trace_at(bytes: &[u8], k: usize) -> &[u8]
+    ensures { λ r. ⌜ now r ≡ partAt (now (bytes .entry)) k ⌝ }
+{
+    let p = trace_part(bytes, k);
+    let start = p.start;
+    let end = start + p.length;
+    &bytes[start..end]
 }
 
 // The part of the bytes that entry k names, where they have all of it.

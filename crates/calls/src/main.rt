@@ -26,25 +26,10 @@ fn say_steps(steps: &[u8]) {
     say(b"\n");
 }
 
-// The first bytes as a call.
-fn say_first(bytes: &[u8], length: usize) {
-    if length <= bytes.len() {
-        say_steps(&bytes[0..length]);
-    }
-}
-
-// A part of the bytes as a call. Every call of a judged log is within its bytes (crates/calllog/proofs/Traces.antt).
-fn say_part(bytes: &[u8], start: usize, length: usize) {
-    if start <= bytes.len() {
-        say_first(&bytes[start..], length);
-    }
-}
-
 fn say_calls(log: &[u8], traces: usize) {
     let mut k: usize = 0;
     while k < traces {
-        let part = calllog::trace::trace_part(log, k);
-        say_part(log, part.start, part.length);
+        say_steps(calllog::trace::trace_at(log, k));
         k += 1;
     }
 }

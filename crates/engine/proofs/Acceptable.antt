@@ -7,8 +7,8 @@ use Prim.Native.Nat.{ℕ, _≤_, _<_}
 use borrow.Author.Tests.{ltb-false, lt-ltb, le-ltb}
 use lib.Dec.{T, ltb, eqb→eq, lit≤}
 use lib.ListN.{length}
-use Rattle.sets.specs.Tests.{_or_, when_then_else_}
-use Rattle.sets.specs.Members.{width, mem, those, within}
+use Rattle.sets.specs.Tests.{_and_, _or_, non, when_then_else_}
+use Rattle.sets.specs.Members.{width, bit, bitsOf, mem, those, everyBelow, isEmpty, within}
 use Rattle.sets.specs.Rows.{rowAt, inRow}
 use Rattle.sets.specs.Tables.{tableAt}
 use Rattle.sets.specs.Answers.{isDone}
@@ -22,10 +22,10 @@ use Rattle.sets.proofs.Below.{every-e}
 use Rattle.engine.specs.declared.marking.State.{State}
 use Rattle.engine.specs.declared.marking.Marking.{Marking}
 use Rattle.engine.specs.declared.graph.Graph.{Graph}
-use Rattle.engine.specs.Relations.{relationCount, inTables, relationsOf}
+use Rattle.engine.specs.Relations.{relationCount, inTables, relationsOf, emptyGraph}
 use Rattle.engine.specs.Steps.{enabled, after}
 use Rattle.engine.specs.Judged.{stateWithin, rowWithin, rowsWithin, relationsWithin, graphWithin, trueOn, found, judgedFor, judged, judgedWith}
-use Rattle.engine.specs.Enabled.{marked, graphAt}
+use Rattle.engine.specs.Enabled.{enabledSet, marked, isTrue, graphAt}
 use Rattle.sets.specs.Sizes.{mostActivities, longestTrace}
 use Rattle.engine.specs.Replay.{enabledOf, nextMarking, steppedOf, ending, replayFrom, replayOf}
 use Rattle.engine.specs.Markings.{emptyMarking}
@@ -178,3 +178,9 @@ module _ (g : Graph) (h : judged g ≡ Done) where
         inside = after-inside g (judged-within g 0 h) m e l ev k;
         truthful = marked-true (g .head .events) (relationsOf g) (after (relationsOf g) m e);
       }
+
+-- the empty graph is no reason to refuse
+pub empty-judged : judged emptyGraph ≡ Done
+unfolding judgedFor found isTrue enabledSet enabled graphWithin relationsWithin rowsWithin rowWithin stateWithin within isEmpty everyBelow bitsOf bit mem those
+    _and_ _or_ non rowAt tableAt
+empty-judged = refl

@@ -17,7 +17,7 @@ use Rattle.sets.proofs.Order.{none-refuses, no-refusal}
 use Rattle.sets.proofs.Tests.{T→true, non-false}
 use Rattle.engine.specs.Judged.{stateWithin}
 use Rattle.sets.specs.Sizes.{mostActivities}
-use Rattle.sets.specs.Files.{opensWith}
+use Rattle.bytes.specs.Opens.{opensWith}
 use Rattle.engine.specs.Relations.{relationCount}
 use Rattle.graphfile.specs.Layout.{mark, headLength, rowLength, activitiesIn, eventsIn, stateIn, offsetIn, countIn}
 use Rattle.graphfile.specs.Layout.{earlierRows, endOf}

@@ -15,14 +15,14 @@ use Rattle.sets.specs.Members.{width, mem, noSet, isEmpty}
 use Rattle.sets.specs.Rows.{noRows, rowAt, withRow}
 use Rattle.sets.specs.Tables.{tableAt}
 use Rattle.sets.specs.Sizes.{mostActivities}
-use Rattle.sets.specs.Files.{littleEndian}
+use Rattle.bytes.specs.Numbers.{littleEndian, numberLength}
 use Rattle.sets.specs.declared.set.Set.{Set}
 use Rattle.sets.specs.declared.answer.Answer.the-variants.{Done}
 use Rattle.sets.proofs.Tests.{split, T→true, true→T, false→F, and-i, or-r, eqb-of}
 use Rattle.sets.proofs.Below.{every-i}
 use Rattle.sets.proofs.Members.{mem-none, empty-noSet, within-i, whole-low}
 use Rattle.sets.proofs.RowLaws.{row-none, row-put-other, length-put}
-use Rattle.sets.proofs.Files.{opens-is}
+use Rattle.bytes.proofs.Opens.{opens-is}
 use Rattle.engine.specs.Relations.{relationCount}
 use Rattle.engine.specs.Judged.{rowWithin, rowsWithin, relationsWithin, graphWithin, judgedFor, judged}
 use Rattle.engine.proofs.Acceptable.{judged-at}
@@ -33,7 +33,6 @@ use Rattle.graphfile.specs.Held.{relationsIn, graphIn}
 use Rattle.graphfile.specs.Writing.{rowOf, rowsFrom, rowCount, rowsBefore, entryBytes, entriesBytes, stateBytes}
 use Rattle.graphfile.specs.Writing.{headBytes}
 use Rattle.graphfile.specs.Writing.{relationBytes, relationsBytes, bytesOf}
-use Rattle.bytes.specs.Numbers.{numberLength}
 use Rattle.bytes.specs.Sets.{setLength, setBytes, setAt}
 use Rattle.bytes.proofs.Codec.{Bytes}
 use Rattle.bytes.proofs.Parts.{part, meet, length-part, part-whole, part-one}

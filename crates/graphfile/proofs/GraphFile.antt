@@ -13,7 +13,8 @@ use Rattle.sets.specs.Tests.{_and_, when_then_else_}
 use Rattle.sets.specs.Members.{width, those, isEmpty, within}
 use Rattle.sets.specs.Rows.{rowAt, noRows}
 use Rattle.sets.specs.Tables.{tableAt}
-use Rattle.sets.specs.Files.{littleEndian, opensWith}
+use Rattle.bytes.specs.Numbers.{littleEndian, numberLength}
+use Rattle.bytes.specs.Opens.{opensWith}
 use Rattle.sets.specs.declared.set.Set.{Set}
 use Rattle.sets.specs.declared.answer.Answer.the-variants.{Done}
 use Rattle.sets.proofs.Tests.{T→true, F→false, split, either}
@@ -29,7 +30,6 @@ use Rattle.engine.specs.declared.marking.State.{State}
 use Rattle.engine.specs.declared.graph.Graph.{Graph}
 use Rattle.engine.specs.Judged.{stateWithin, rowWithin, rowsWithin, graphWithin, judged}
 use Rattle.engine.proofs.Acceptable.{judged-activities, judged-within, judged-true, events-inside, opening-inside, rows-inside}
-use Rattle.bytes.specs.Numbers.{numberLength}
 use Rattle.bytes.specs.Sets.{setLength, setBytes}
 use Rattle.bytes.proofs.Parts.{part}
 use Rattle.bytes.proofs.NumberLaws.{number-read}

@@ -14,7 +14,7 @@ use Rattle.sets.specs.declared.answer.Answer.{Answer}
 use Rattle.sets.specs.declared.answer.Answer.the-variants.{Done, TooShort, WrongLetters, AboveLimit, WrongOffset, Outside, BadRow}
 use Rattle.engine.specs.Judged.{stateWithin}
 use Rattle.sets.specs.Sizes.{mostActivities}
-use Rattle.sets.specs.Files.{opensWith}
+use Rattle.bytes.specs.Opens.{opensWith}
 use Rattle.engine.specs.declared.marking.State.{State}
 use Rattle.engine.specs.Relations.{relationCount}
 use Rattle.graphfile.specs.Layout.{mark, headLength, rowLength, activitiesIn, eventsIn, stateIn, offsetIn, countIn}

@@ -11,7 +11,7 @@ use lib.Dec.{ltb}
 use lib.ListN.{length, take, drop, length-append}
 use lib.Seq.{sets, length-sets, drop-drop}
 use Rattle.sets.specs.Tests.{when_then_else_}
-use Rattle.sets.specs.Files.{littleEndian}
+use Rattle.bytes.specs.Numbers.{littleEndian}
 use Rattle.sets.proofs.Members.{Whole}
 use Rattle.bytes.specs.Sets.{setLength, setBytes, setAt, setPut}
 use Rattle.bytes.proofs.Parts.{part, follow, Apart, drop-stored}

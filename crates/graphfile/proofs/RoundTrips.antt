@@ -21,7 +21,7 @@ use Rattle.engine.specs.declared.graph.Graph.{Graph}
 use Rattle.engine.specs.Judged.{judged}
 use Rattle.graphfile.specs.declared.reader.Reading.{Reading}
 use Rattle.graphfile.specs.declared.writer.Written.{Written}
-use Rattle.sets.specs.Files.{littleEndian}
+use Rattle.bytes.specs.Numbers.{littleEndian}
 use Rattle.bytes.specs.Sets.{setBytes}
 use Rattle.graphfile.specs.Layout.{headLength, rowLength, sumOf}
 use Rattle.graphfile.specs.Refusals.{judgedFile}

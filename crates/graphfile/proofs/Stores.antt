@@ -16,8 +16,7 @@ use Rattle.engine.specs.declared.marking.State.{State}
 use Rattle.engine.specs.declared.graph.Head.{Head}
 use Rattle.engine.specs.declared.graph.Graph.{Graph}
 use Rattle.engine.specs.Relations.{relationCount}
-use Rattle.sets.specs.Files.{littleEndian}
-use Rattle.bytes.specs.Numbers.{numberLength, numberPut}
+use Rattle.bytes.specs.Numbers.{littleEndian, numberLength, numberPut}
 use Rattle.bytes.specs.Sets.{setLength, setBytes, setPut}
 use Rattle.bytes.proofs.Codec.{length-number}
 use Rattle.bytes.proofs.Parts.{follow}

@@ -11,8 +11,7 @@ use Rattle.engine.specs.declared.graph.Head.{Head}
 use Rattle.engine.specs.Markings.{stateOf, markingOf}
 use Rattle.engine.specs.Relations.{relationCount, headOf}
 use Rattle.engine.specs.Enabled.{graphAt}
-use Rattle.sets.specs.Files.{numberAt}
-use Rattle.bytes.specs.Numbers.{numberLength}
+use Rattle.bytes.specs.Numbers.{numberAt, numberLength}
 use Rattle.bytes.specs.Sets.{setLength, setAt}
 use Rattle.bytes.specs.Editions.{wideEdition, editionFor, editionIn}
 

@@ -18,8 +18,7 @@ use Rattle.engine.specs.declared.graph.Graph.{Graph}
 use Rattle.engine.specs.Relations.{relationCount}
 use Rattle.engine.specs.Judged.{judged}
 use Rattle.graphfile.specs.declared.writer.Written.{Written}
-use Rattle.sets.specs.Files.{littleEndian}
-use Rattle.bytes.specs.Numbers.{numberLength}
+use Rattle.bytes.specs.Numbers.{littleEndian, numberLength}
 use Rattle.bytes.specs.Sets.{setBytes}
 use Rattle.bytes.specs.Editions.{editionFor}
 use Rattle.graphfile.specs.Layout.{letters, wideFor, rowsLength, sumOf}

@@ -24,9 +24,8 @@ use Rattle.engine.specs.declared.graph.Graph.{Graph}
 use Rattle.engine.specs.declared.replay.Replayed.{Replayed}
 use Rattle.engine.specs.declared.replay.Walked.{Walked}
 use Rattle.engine.proofs.Acceptable.{replay-judged}
-use Rattle.calllog.specs.Logs.{logOf, partOf, judgedOf}
+use Rattle.calllog.specs.Logs.{logOf, partOf, partAt, judgedOf}
 use Rattle.calllog.specs.declared.judge.Judged.{Judged}
-use Rattle.calllog.specs.declared.trace.Part.{Part}
 use Rattle.calllog.proofs.Traces.{part-trace, read-within}
 use Rattle.marks.specs.declared.replays.Replays.{Replays}
 use Rattle.marks.specs.Marks.{isYes, traceNumber, judgedBoth}
@@ -35,13 +34,10 @@ use Rattle.marks.proofs.Asking.{replays-refused, replays-small, replays
 
 -- ---- one trace
 
-pub part-ended : (head : Head) (tables log : List ℕ) (k : ℕ) (p : Part) (r : Walked) → p ≡ partOf log k
-    → r ≡ walkedOf (replayFrom (head .events) (inTables tables) (head .opening .state) 0 (take (p .start + p .length - p .start) (drop (p .start) log)))
-    → r ≡ walkedOf (partReplay head tables log k)
-part-ended head tables log k p r e h =
-    let same : p .start + p .length - p .start ≡ p .length = omega arith in
-    let run : List ℕ → Walked = λ σ. walkedOf (replayFrom (head .events) (inTables tables) (head .opening .state) 0 σ) in
-    h ∙ ap (λ (m : ℕ). run (take m (drop (p .start) log))) same ∙ ap (λ (q : Part). run (take (q .length) (drop (q .start) log))) e
+pub part-ended : (head : Head) (tables log : List ℕ) (k : ℕ) (σ : List ℕ) (r : Walked) → σ ≡ partAt log k
+    → r ≡ walkedOf (replayFrom (head .events) (inTables tables) (head .opening .state) 0 σ) → r ≡ walkedOf (partReplay head tables log k)
+part-ended head tables log k σ r e h =
+    h ∙ ap (λ (l : List ℕ). walkedOf (replayFrom (head .events) (inTables tables) (head .opening .state) 0 l)) e
 
 module _ (r : Walked) (d : Bool) (hd : d ≡ isDone (r .answer)) where
   pub no-yes : not d ≡ true → false ≡ (isDone (r .answer) and r .accepting)

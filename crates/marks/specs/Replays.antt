@@ -14,7 +14,7 @@ use Rattle.engine.specs.Replay.{replayFrom, replayOf}
 use Rattle.engine.specs.declared.graph.Head.{Head}
 use Rattle.engine.specs.declared.graph.Graph.{Graph}
 use Rattle.engine.specs.declared.replay.Replayed.{Replayed}
-use Rattle.calllog.specs.Logs.{logOf, partOf}
+use Rattle.calllog.specs.Logs.{logOf, partAt}
 use Rattle.marks.specs.declared.replays.Replays.{Replays}
 use Rattle.marks.specs.Marks.{isYes, traceNumber, judgedBoth}
 
@@ -49,4 +49,4 @@ replaysAfter g log buffer =
 -- what a replay gives of part k of the bytes, whether they were judged or not
 abbrev pub partReplay : Head → List ℕ → List ℕ → ℕ → Replayed
 partReplay head tables log k =
-    replayFrom (head .events) (inTables tables) (head .opening .state) 0 (take (partOf log k .length) (drop (partOf log k .start) log))
+    replayFrom (head .events) (inTables tables) (head .opening .state) 0 (partAt log k)

@@ -41,10 +41,8 @@ pub(crate) fn judge_after(first: Answer, head: Head, relations: &Relations) -> A
 fn replay_part<'a>(head: Head, relations: &'a Relations, log: &'a [u8], k: usize) -> Walked
     ensures { λ r. ⌜ r ≡ walkedOf (partReplay head (now (relations .entry)) (now (log .entry)) k) ⌝ }
 {
-    let p = calllog::trace::trace_part(log, k);
-    let start = p.start;
-    let end = start + p.length;
-    replay::walk(head.events, relations, head.opening.state, &log[start..end])
+    let trace = calllog::trace::trace_at(log, k);
+    replay::walk(head.events, relations, head.opening.state, trace)
 }
 
 // Yes where it is done and accepting.

@@ -15,3 +15,4 @@ pub mod FromLog
 pub mod Losing
 pub mod Reopening
 pub mod Settling
+pub mod Given

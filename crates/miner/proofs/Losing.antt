@@ -54,10 +54,6 @@ module _ (rows : List ℕ) where
   pub less-more : (left left′ : List ℕ) (g h : Relation) → Less rows g left → Less left h left′ → Less rows (λ a x. g a x or h a x) left′
   less-more left left′ g h l m r hr = m (λ a x. r a x and non (g a x)) (l r hr) ∙ rowsOf-ext _ _ (λ a x la lx. non-or (r a x) (g a x) (h a x))
 
-  pub lost-row : (left : List ℕ) (k : ℕ) (gone row new : Set) → row ≡ rowAt rows k → new ≡ those (λ b. mem row b and non (mem gone b))
-      → left ≡ withRow rows k new → left ≡ withRow rows k (those (λ b. mem (rowAt rows k) b and non (mem gone b)))
-  lost-row left k gone row new hr hn hl = hl ∙ ap (withRow rows k) (hn ∙ ap (λ (s : Set). those (λ b. mem s b and non (mem gone b))) hr)
-
   -- row k loses a set
   pub less-row : (left : List ℕ) (k : ℕ) (gone : Set) → left ≡ withRow rows k (those (λ b. mem (rowAt rows k) b and non (mem gone b)))
       → Less rows (λ a x. eqb a k and mem gone x) left

@@ -16,12 +16,11 @@ use Rattle.sets.proofs.Below.{some-i}
 use Rattle.sets.proofs.MadeSets.{is-those, is-row, none}
 use Rattle.sets.proofs.RowLaws.{in-rowsOf, rowsOf-ext}
 use Rattle.sets.proofs.TableLaws.{table-rowsOf}
-use Rattle.calllog.specs.declared.trace.Part.{Part}
-use Rattle.calllog.specs.Logs.{partOf}
+use Rattle.calllog.specs.Logs.{partAt}
 use Rattle.rules.specs.Traces.{Traces, _has_, atSomeFrom, someTrace}
 use Rattle.tally.specs.Passes.{walked}
 use Rattle.tally.proofs.Turns.{pastAt, past-next, rest-next}
-use Rattle.tally.proofs.Walks.{walked-next, walked-end, walked-start, part-cut}
+use Rattle.tally.proofs.Walks.{walked-next, walked-end, walked-start}
 use Rattle.miner.specs.Facts.{Less, letInSince, reopenedIn, reopened}
 use Rattle.miner.proofs.Losing.{Same, Toward, less-none, less-row, toward-start, toward-next, toward-end, less-for}
 
@@ -131,14 +130,14 @@ module _ (includes : List ℕ) (u : ℕ) where
     pub walk-start : Walking 0 rows₀
     walk-start = toward-start rows₀ _ _ (λ a x la lx. ap (λ (L : Traces). reopened includes u L a x) (walked-start log n))
 
-    pub walk-next : (k : ℕ) (p : Part) (rows rows′ : List ℕ) → k < n → p ≡ partOf log k → Walking k rows
-        → Less rows (reopenedIn includes u (take (p .start + p .length - p .start) (drop (p .start) log))) rows′ → Walking (k + 1) rows′
+    pub walk-next : (k : ℕ) (σ rows rows′ : List ℕ) → k < n → σ ≡ partAt log k → Walking k rows
+        → Less rows (reopenedIn includes u σ) rows′ → Walking (k + 1) rows′
     unfolding someTrace
-    walk-next k p rows rows′ h e t l =
+    walk-next k σ rows rows′ h e t l =
         toward-next rows₀ _ rows rows′ _ _ _ t l
         (λ a x la lx.
         ap (λ (L : Traces). reopened includes u L a x) (walked-next log n k h)
-        ∙ ap (λ (σ : List ℕ). reopenedIn includes u σ a x or tracesToCome log n (k + 1) a x) (sym (part-cut log k p e)))
+        ∙ ap (λ (l : List ℕ). reopenedIn includes u l a x or tracesToCome log n (k + 1) a x) (sym e))
 
     module _ (F : Set) (k : ℕ) (rows : List ℕ) (t : Walking k rows) where
       pub walk-end : n ≤ k → (r : Relation) → rows₀ ≡ rowsFor F r

@@ -115,10 +115,8 @@ fn replay_log<'a>(
 {
     let mut k: usize = 0;
     while k < traces {
-        let p = calllog::trace::trace_part(log, k);
-        let start = p.start;
-        let end = start + p.length;
-        replay_trace(&log[start..end], events, includes, excludes, first, unmet);
+        let trace = calllog::trace::trace_at(log, k);
+        replay_trace(trace, events, includes, excludes, first, unmet);
         k += 1;
     }
 }

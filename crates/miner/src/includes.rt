@@ -134,10 +134,8 @@ fn let_in_log<'a>(log: &'a [u8], traces: usize, unfollowed: &'a Rows, out: &mut 
 {
     let mut k: usize = 0;
     while k < traces {
-        let p = calllog::trace::trace_part(log, k);
-        let start = p.start;
-        let end = start + p.length;
-        let_in_trace(&log[start..end], unfollowed, out);
+        let trace = calllog::trace::trace_at(log, k);
+        let_in_trace(trace, unfollowed, out);
         k += 1;
     }
 }

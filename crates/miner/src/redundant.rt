@@ -24,14 +24,6 @@ use steps::relations;
 use tally::Tally;
 use tally::log;
 
-// The activity's row loses the members of a set.
-fn lose(rows: &mut Rows, a: Activity, gone: Set)
-    ensures { λ _. ⌜ now (rows .exit) ≡ withRow (now (rows .entry)) (a .0) (those (λ b. mem (rowAt (now (rows .entry)) (a .0)) b and non (mem gone b))) ⌝ }
-{
-    let left = rows::row(rows, a).difference(gone);
-    rows::put(rows, a, left);
-}
-
 // The row of every member loses the same row of others.
 fn lose_rows(rows: &mut Rows, members: Set, gone: &Rows)
     ensures { λ _. ⌜ Less (now (rows .entry)) (λ a x. mem members a and inRow (now (gone .entry)) a x) (now (rows .exit)) ⌝ }
@@ -39,7 +31,7 @@ fn lose_rows(rows: &mut Rows, members: Set, gone: &Rows)
     let mut rest = members;
     while !rest.is_empty() {
         let a = rest.least();
-        lose(rows, a, rows::row(gone, a));
+        rows::lose(rows, a, rows::row(gone, a));
         rest = rest.without_least();
     }
 }
@@ -56,7 +48,7 @@ fn reopen_trace<'a>(trace: &'a [u8], u: Activity, held: &'a Relations, doubts: &
     while i < trace.len() {
         let e = Activity(trace[i]);
         if begun {
-            lose(doubts, e, since);
+            rows::lose(doubts, e, since);
             since = since.union(tables::row(held, INCLUDES, e));
         } else {
             begun = e.0 == u.0;
@@ -93,10 +85,8 @@ fn reopen_log<'a>(
         if none_doubted(doubts, members, k) {
             return;
         }
-        let p = calllog::trace::trace_part(log, k);
-        let start = p.start;
-        let end = start + p.length;
-        reopen_trace(&log[start..end], u, held, doubts);
+        let trace = calllog::trace::trace_at(log, k);
+        reopen_trace(trace, u, held, doubts);
         k += 1;
     }
 }

@@ -19,7 +19,7 @@ use Rattle.engine.specs.Markings.{emptyState}
 use Rattle.engine.specs.Relations.{relationCount, inTables, emptyGraph}
 use Rattle.engine.specs.Judged.{judged}
 use Rattle.engine.specs.Replay.{walkedOf, replayFrom, replayOf, steppedOf}
-use Rattle.engine.proofs.Acceptable.{replay-judged, replay-long}
+use Rattle.engine.proofs.Acceptable.{replay-judged, replay-long, empty-judged}
 use Rattle.engine.specs.declared.marking.Marking.{Marking}
 use Rattle.engine.specs.declared.step.Stepped.{Stepped}
 use Rattle.engine.specs.declared.graph.Graph.{Graph}
@@ -30,14 +30,17 @@ use Rattle.graphfile.specs.Held.{relationsIn, graphIn, bareOf, readOf}
 use Rattle.graphfile.specs.Layout.{eventsIn, stateIn}
 use Rattle.bytes.proofs.Codec.{Bytes}
 use Rattle.graphfile.proofs.RoundTrips.{file-graph}
-use Rattle.graphfile.specs.Writing.{writtenOf, fileAfter}
+use Rattle.graphfile.specs.Writing.{writtenOf, fileAfter, unjudgedOf, unjudgedAfter}
+use Rattle.graphfile.proofs.Writes.{unjudged-written, unjudged-after}
 use Rattle.graphfile.specs.declared.reader.Reading.{Reading}
 use Rattle.graphfile.specs.declared.reader.Bare.{Bare}
 use Rattle.graphfile.specs.declared.writer.Written.{Written}
 use Rattle.graphfile.specs.Markings.{markingLength, markingFrom, markingInto}
 use Rattle.rules.specs.declared.Profile.{Profile}
 use Rattle.rules.specs.declared.Profile.the-variants.{Full, Light}
+use Rattle.miner.specs.Mine.{minedOf}
 use Rattle.miner.specs.declared.mining.Mined.{Mined}
+use Rattle.miner.proofs.Given.{mined-judged}
 use Rattle.report.specs.declared.writer.Listed.{Listed}
 use Rattle.port.specs.Port.{packedOf, verdictOf, blockedOf, stepNumber, storedOf, putNumber, putBuffer, profileOf, inProfile, inProfileBuffer}
 use Rattle.port.specs.Port.{replayNumber, refusedStep, stepOf, openingAnswer, openingBytes}
@@ -76,16 +79,17 @@ module _ (a : Answer) (g : Graph) (out : List ℕ) (r : Bool) (hr : r ≡ isDone
   unfolding putBuffer
   put-kept h = sym (ap (λ (t : Bool). when t then fileAfter g out else out) (sym hr ∙ not-true r h))
 
-  pub put-done : (n : ℕ) (w : Written) → not r ≡ false → w ≡ writtenOf g (length out) → n ≡ packedOf (w .answer) (w .length) → n ≡ putNumber a g (length out)
+  pub put-done : (n : ℕ) (w : Written) → judged g ≡ Done → not r ≡ false → w ≡ unjudgedOf g (length out) → n ≡ packedOf (w .answer) (w .length)
+      → n ≡ putNumber a g (length out)
   unfolding putNumber
-  put-done n w h hw e =
+  put-done n w ok h hw e =
       e
-      ∙ ap (λ (x : Written). packedOf (x .answer) (x .length)) hw
+      ∙ ap (λ (x : Written). packedOf (x .answer) (x .length)) (hw ∙ unjudged-written g out ok)
       ∙ sym (ap (λ (t : Bool). when t then packedOf (writtenOf g (length out) .answer) (writtenOf g (length out) .length) else packedOf a 0) (sym hr ∙ not-false r h))
 
-  pub put-filled : (out′ : List ℕ) → not r ≡ false → out′ ≡ fileAfter g out → out′ ≡ putBuffer a g out
+  pub put-filled : (out′ : List ℕ) → judged g ≡ Done → not r ≡ false → out′ ≡ unjudgedAfter g out → out′ ≡ putBuffer a g out
   unfolding putBuffer
-  put-filled out′ h e = e ∙ sym (ap (λ (t : Bool). when t then fileAfter g out else out) (sym hr ∙ not-false r h))
+  put-filled out′ ok h e = e ∙ unjudged-after g out ok ∙ sym (ap (λ (t : Bool). when t then fileAfter g out else out) (sym hr ∙ not-false r h))
 
 pub ruleset putting = (put-refused, put-kept, put-done, put-filled)
 
@@ -104,6 +108,18 @@ module _ (r r′ : Reading) (e : r ≡ r′) where
 
   pub read-buffer : (out out′ : List ℕ) → out′ ≡ putBuffer (r .answer) (r .graph) out → out′ ≡ putBuffer (r′ .answer) (r′ .graph) out
   read-buffer out out′ h = h ∙ ap (λ (x : Reading). putBuffer (x .answer) (x .graph) out) e
+
+-- neither graph is one that a judge would refuse
+pub mined-ok : (log : List ℕ) (p : Profile) (m : Mined) → m ≡ minedOf log p → judged (m .graph) ≡ Done
+mined-ok log p m e = ap (λ (x : Mined). judged (x .graph)) e ∙ mined-judged log p
+
+pub read-ok : (file : List ℕ) (r : Reading) → Bytes file → r ≡ readOf file → judged (r .graph) ≡ Done
+unfolding readOf
+read-ok file r small e = ap (λ (x : Reading). judged (x .graph)) e ∙ by (isDone (judgedFile file)) refl
+  where
+    by : (b : Bool) → isDone (judgedFile file) ≡ b → judged (when b then graphIn file else emptyGraph) ≡ Done
+    by true h = file-graph file small (done-is (judgedFile file) h)
+    by false h = empty-judged
 
 pub ruleset carrying = (mined-number, mined-buffer, read-number, read-buffer)
 
@@ -142,15 +158,6 @@ number-as a a′ r e h = h ∙ ap numberOf e
 pub ruleset profiles = (no-profile, no-change, in-profile, in-buffer, number-as)
 
 -- ---- a replay
-
--- the graph that was read was judged by reading it
-pub read-judged : (file : List ℕ) (r : Reading) (d : Bool) → Bytes file → r ≡ readOf file → d ≡ isDone (r .answer) → not d ≡ false → judged (r .graph) ≡ Done
-unfolding readOf
-read-judged file r d small hr hd n =
-    let ok : judgedFile file ≡ Done = gone-on (r .answer) (judgedFile file) d (ap (λ (x : Reading). x .answer) hr) hd n in
-    ap (λ (x : Reading). judged (x .graph)) hr
-    ∙ ap (λ (a : Answer). judged (when isDone a then graphIn file else emptyGraph)) ok
-    ∙ file-graph file small ok
 
 module _ (file trace : List ℕ) (r : Bare) (hr : r ≡ bareOf file) (d : Bool) (hd : d ≡ isDone (r .answer)) where
   file-done : (t : Bool) → d ≡ t → isDone (readOf file .answer) ≡ t

@@ -7,6 +7,8 @@ ghost use Rattle.port.specs.Port.{packedOf, verdictOf, blockedOf, stepNu
 ghost use Rattle.port.specs.Port.{inProfileBuffer, mineNumber, mineBuffer, rewriteNumber, rewriteBuffer, replayNumber, listingNumber};
 ghost use Rattle.port.specs.Port.{summaryNumber, stepOf, stepBytes, openingAnswer, openingBytes};
 ghost use Rattle.sets.specs.Answers.{numberOf};
+ghost use Rattle.sets.specs.declared.answer.Answer.the-variants.{Done};
+ghost use Rattle.engine.specs.Judged.{judged};
 ghost use Rattle.report.specs.Listing.{listingAfter};
 ghost use Rattle.report.specs.Summary.{summaryAfter};
 
@@ -67,15 +69,16 @@ pub(crate) fn store(s: Stepped, marking: &mut [u8]) -> u64
     packed_blocker(answer, 0, false)
 }
 
-// What mining or reading gave, written as a file where it was done.
+// What mining or reading gave, written as a file where it was done. Such a graph is acceptable by a theorem, so it is not judged again.
 fn put(answer: Answer, g: Graph, out: &mut [u8]) -> u64
+    requires { ⌜ judged g ≡ Done ⌝ }
     ensures { λ r. ⌜ r ≡ putNumber answer g (length (now (out .entry))) ⌝ }
     ensures { λ _. ⌜ now (out .exit) ≡ putBuffer answer g (now (out .entry)) ⌝ }
 {
     if !answer.is_done() {
         return packed(answer, 0);
     }
-    let w = graphfile::write(g, out);
+    let w = graphfile::write_unjudged(g.head, &g.relations, out);
     let a = w.answer;
     packed(a, w.length)
 }

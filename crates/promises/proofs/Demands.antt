@@ -68,7 +68,8 @@ use Rattle.miner.specs.declared.mining.Mined.{Mined}
 use Rattle.promises.specs.Promised.{traceOf, judgedCopy, graphBack, fileBack, fileCopied}
 use Rattle.promises.specs.Demanded.{Refused, PairForPair, Stepping, InTurn, StopsAt, GoesThrough, Settles}
 use Rattle.promises.proofs.Contracts.{number-gives, number-said, blocker-gives, blocker-said, judge-log-gives, judge-log-said, mine-gives, mine-said, find-trace-gives, find-trace-said, ask-gives, ask-said, enabled-gives, enabled-said, step-gives, step-said, execute-gives, execute-said, accepting-gives, accepting-said, replay-gives, replay-said, write-gives, write-said, read-gives, read-said, graph-back-gives, graph-back-said, file-back-gives, file-back-said, replay-own-gives, replay-own-said, replay-none-gives, replay-none-said}
-use Rattle.promises.proofs.Own.{mined-answer, mined-graph, mined-nothing, mined-judged, mined-pending, own-through, none-through, finds}
+use Rattle.miner.proofs.Given.{mined-answer, mined-graph, mined-nothing, mined-judged}
+use Rattle.promises.proofs.Own.{mined-pending, own-through, none-through, finds}
 use Rattle.promises.proofs.Pairs.{pairs}
 use Rattle.promises.proofs.StepForStep.{stops-at, goes-through}
 use Rattle.promises.proofs.Early.{replay-runs, early-nothing}

@@ -61,7 +61,8 @@ use Rattle.desk.proofs.OnePlace.{stepped-marking}
 use Rattle.desk.specs.declared.requests.Opened.{Opened}
 use Rattle.promises.proofs.Contracts.{enabled-gives, enabled-said, step-gives, step-said, execute-gives, execute-said}
 use Rattle.promises.proofs.Contracts.{accepting-gives, accepting-said, replay-gives, replay-said, read-gives, read-said, write-gives, write-said, mine-gives, mine-said}
-use Rattle.promises.proofs.Own.{mined-judged, empty-judged}
+use Rattle.engine.proofs.Acceptable.{empty-judged}
+use Rattle.miner.proofs.Given.{mined-judged}
 use Rattle.promises.proofs.PlainEngine as plain
 use Rattle.promises.proofs.Desk as desk
 

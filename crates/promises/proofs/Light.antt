@@ -13,12 +13,12 @@ use lib.Seq.{getD-append-add, take-all}
 use Rattle.sets.specs.Tests.{_and_, non, when_then_else_}
 use Rattle.sets.specs.Members.{width, countBelow}
 use Rattle.sets.specs.Rows.{Relation, listFrom}
-use Rattle.sets.specs.Files.{opensWith}
+use Rattle.bytes.specs.Opens.{opensWith}
 use Rattle.sets.specs.Answers.{numberOf, isDone}
 use Rattle.sets.specs.declared.answer.Answer.{Answer}
 use Rattle.sets.specs.declared.answer.Answer.the-variants.{WrongArgument}
 use Rattle.sets.proofs.Tests.{and-l, and-r, false→F, F→false}
-use Rattle.sets.proofs.Files.{opens-is}
+use Rattle.bytes.proofs.Opens.{opens-is}
 use Rattle.sets.proofs.RowLaws.{getD-listFrom}
 use Rattle.engine.specs.Relations.{Relations}
 use Rattle.calllog.specs.Logs.{logOf}

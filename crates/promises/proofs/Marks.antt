@@ -54,7 +54,8 @@ use Rattle.marks.proofs.marks.mark_guesses.Reads as mark-guesses
 use Rattle.report.specs.Lines.{decimal, line}
 use Rattle.report.specs.Marks.{noneWord, measureLine}
 use Rattle.promises.proofs.Contracts.{Gives, Holding, mine-gives, mine-said}
-use Rattle.promises.proofs.Own.{mined-answer, mined-judged, own-through}
+use Rattle.miner.proofs.Given.{mined-answer, mined-judged}
+use Rattle.promises.proofs.Own.{own-through}
 
 -- ---- the four kinds are all there are
 

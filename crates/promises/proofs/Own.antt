@@ -39,24 +39,11 @@ use Rattle.rules.specs.declared.Profile.{Profile}
 use Rattle.rules.proofs.Demand3.{Through}
 use Rattle.rules.proofs.FromFile.{file-accepted, demand3-file}
 use Rattle.miner.specs.Mine.{minedOf}
+use Rattle.miner.proofs.Given.{mined-answer, mined-graph, mined-nothing}
 use Rattle.miner.specs.declared.mining.Mined.{Mined}
 use Rattle.promises.specs.Promised.{traceOf, ownReplay, OwnReplayed}
 
 -- ---- what the miner gives
-
-module _ (bytes : List ℕ) (p : Profile) where
-  pub mined-answer : minedOf bytes p .answer ≡ judgedLog bytes
-  unfolding minedOf
-  mined-answer = log-answer bytes
-
-  pub mined-graph : judgedLog bytes ≡ Done → minedOf bytes p .graph ≡ minedGraph (logOf bytes .activities) (logOf bytes .traces) p
-  unfolding minedOf
-  mined-graph d = ap (λ (a : Answer). when isDone a then minedGraph (logOf bytes .activities) (logOf bytes .traces) p else emptyGraph) (log-answer bytes ∙ d)
-
-  pub mined-nothing : isDone (judgedLog bytes) ≡ false → minedOf bytes p .graph ≡ emptyGraph
-  unfolding minedOf
-  mined-nothing n =
-      ap (λ (t : Bool). when t then minedGraph (logOf bytes .activities) (logOf bytes .traces) p else emptyGraph) (ap isDone (log-answer bytes) ∙ n)
 
 -- nothing is pending at its opening
 pub mined-pending : (bytes : List ℕ) (p : Profile) → minedOf bytes p .graph .head .opening .state .pending ≡ noSet
@@ -65,19 +52,6 @@ mined-pending bytes p =
     either (split (isDone (judgedLog bytes)))
     (λ y. ap (λ (g : Graph). g .head .opening .state .pending) (mined-graph bytes p (done-is _ (T→true _ y))))
     (λ n. ap (λ (g : Graph). g .head .opening .state .pending) (mined-nothing bytes p (F→false _ n)))
-
--- the empty graph is no reason to refuse
-pub empty-judged : judged emptyGraph ≡ Done
-unfolding judgedFor found isTrue enabledSet enabled graphWithin relationsWithin rowsWithin rowWithin stateWithin within isEmpty everyBelow bitsOf bit mem those
-    _and_ _or_ non rowAt tableAt
-empty-judged = refl
-
--- nor is any graph that the miner gives
-pub mined-judged : (bytes : List ℕ) (p : Profile) → judged (minedOf bytes p .graph) ≡ Done
-mined-judged bytes p =
-    either (split (isDone (judgedLog bytes)))
-    (λ y. ap judged (mined-graph bytes p (done-is _ (T→true _ y))) ∙ acceptable _ _ (file-accepted bytes) p)
-    (λ n. ap judged (mined-nothing bytes p (F→false _ n)) ∙ empty-judged)
 
 -- ---- the traces of a log
 

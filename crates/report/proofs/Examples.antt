@@ -12,7 +12,8 @@ use Rattle.engine.specs.declared.graph.Graph.{Graph}
 use Rattle.engine.specs.Steps.{waits, enabled, after, accepting}
 use Rattle.engine.specs.Relations.{relationsOf}
 use Rattle.engine.specs.Replay.{replayFrom}
-use Rattle.sets.specs.Files.{valueOf, numberAt, opensWith}
+use Rattle.bytes.specs.Numbers.{valueOf, numberAt}
+use Rattle.bytes.specs.Opens.{opensWith}
 use Rattle.bytes.specs.Editions.{editionFor, opensFile, beyond}
 use Rattle.calllog.specs.Layout.{activitiesIn, tracesIn, offsetAt, lengthAt, bodiesStart, eventsBefore}
 use Rattle.sets.specs.Answers.{firstRefusal}

@@ -3,9 +3,9 @@ ghost use mathlib.Core.Path.{_≡_};
 ghost use lib.ListN.{length};
 ghost use Rattle.report.specs.Choice.{says, choiceOf, refusedLength, refusedAfter};
 use crate::writer;
+use bytes::opens_with;
 use rules::Profile;
 use sets::Answer;
-use sets::opening::opens_with;
 
 // A listing in a profile, or a refusal.
 pub enum Choice {

@@ -76,10 +76,8 @@ pub(crate) fn put_traces<'a>(
     let mut next = at;
     let mut k: usize = 0;
     while k < traces {
-        let p = calllog::trace::trace_part(log, k);
-        let start = p.start;
-        let end = start + p.length;
-        next = put_trace(out, next, k, &log[start..end], head, relations);
+        let trace = calllog::trace::trace_at(log, k);
+        next = put_trace(out, next, k, trace, head, relations);
         k += 1;
     }
     next

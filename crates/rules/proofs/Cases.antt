@@ -25,7 +25,8 @@ use Rattle.engine.specs.Steps.{waits, blocker, enabled, after, accepting}
 use Rattle.engine.specs.Judged.{stateWithin, rowWithin, rowsWithin, relationsWithin, graphWithin, judgedFor, judgedWith}
 use Rattle.engine.specs.Replay.{enabledOf, steppedOf, replayFrom, replayOf}
 use Rattle.engine.proofs.Examples.{table3, table3-after}
-use Rattle.sets.specs.Files.{valueOf, numberAt, opensWith}
+use Rattle.bytes.specs.Numbers.{valueOf, numberAt}
+use Rattle.bytes.specs.Opens.{opensWith}
 use Rattle.bytes.specs.Editions.{editionFor, opensFile, beyond}
 use Rattle.calllog.specs.Layout.{activitiesIn, tracesIn, offsetAt, lengthAt, bodiesStart, eventsBefore}
 use Rattle.sets.specs.Answers.{firstRefusal}

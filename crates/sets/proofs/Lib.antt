@@ -12,4 +12,3 @@ pub mod Passing
 pub mod Loops
 pub mod Asking
 pub mod Order
-pub mod Files

@@ -170,12 +170,4 @@ module _ (rows : List ℕ) (all : Set) where
       (λ x lx. some-ext width (λ u. passed all rest u and inRow rows u x) (λ u. mem all u and inRow rows u x)
       (λ u l. ap (λ (t : Bool). t and inRow rows u x) (passed-all all rest r hr hn u l)))
 
--- the members are those that pass two tests
-pub through : (rows : List ℕ) (s out : Set) (p q : ℕ → Bool) → s ≡ those (λ u. p u and q u) → out ≡ those (inSome rows (mem s))
-    → Is out (λ x. someBelow width (λ u. p u and inRow rows u x and q u))
-through rows s out p q hs ho x lx =
-    is-those out (inSome rows (mem s)) ho x lx
-    ∙ some-ext width (λ u. mem s u and inRow rows u x) (λ u. p u and inRow rows u x and q u)
-    (λ u l. ap (λ (t : Bool). t and inRow rows u x) (is-those s (λ v. p v and q v) hs u l) ∙ and-last (p u) (q u) (inRow rows u x))
-
 pub ruleset members = (share-start, share-turn, share-end, union-start, union-turn, union-end, fewer-left)

@@ -9,7 +9,7 @@ use borrow.Author.Tests.{lt-ltb, le-ltb, ltb-true, ltb-false, eqb-true, eqb-fals
 use lib.Dec.{eqb, ltb}
 use lib.ListN.{length, getD, set, length-set, length-append, getD-replicate, List·getD-append}
 use lib.Seq.{ext-getD, getD-set-same, getD-set-other, getD-append-add}
-use Rattle.sets.specs.Tests.{_and_, _or_, when_then_else_}
+use Rattle.sets.specs.Tests.{_and_, _or_, non, when_then_else_}
 use Rattle.sets.specs.Members.{width, word, bitsOf, mem, those, noSet}
 use Rattle.sets.specs.Rows.{Relation, rowWords, noRows, rowAt, withRow, inRow, listFrom, rowsOf}
 use Rattle.sets.specs.declared.set.Set.{Set}
@@ -206,3 +206,8 @@ gain-rowsOf r k p =
         ap (λ (t : Bool). when t then (mem (rowAt (rowsOf r) k) b or p b) else r a b) e
         ∙ sym (or-false (r a b))
         ∙ ap (λ (t : Bool). r a b or t) (sym (false-and (p b)) ∙ ap (λ (t : Bool). t and p b) (sym e))
+
+-- a row that loses a set, read and put
+pub lost-row : (rows left : List ℕ) (k : ℕ) (gone row new : Set) → row ≡ rowAt rows k → new ≡ those (λ b. mem row b and non (mem gone b))
+    → left ≡ withRow rows k new → left ≡ withRow rows k (those (λ b. mem (rowAt rows k) b and non (mem gone b)))
+lost-row rows left k gone row new hr hn hl = hl ∙ ap (withRow rows k) (hn ∙ ap (λ (s : Set). those (λ b. mem s b and non (mem gone b))) hr)

@@ -1,7 +1,7 @@
 // Rows of sets, one for each activity: how a relation is kept. Only these functions read or write the numbers, so a wider
 // set changes this file and set.rt alone.
 ghost use mathlib.Core.Path.{_≡_};
-ghost use Rattle.sets.specs.Tests.{_and_, _or_};
+ghost use Rattle.sets.specs.Tests.{_and_, _or_, non};
 ghost use Rattle.sets.specs.Members.{mem, those};
 ghost use Rattle.sets.specs.Rows.{Relation, noRows, rowAt, withRow, rowsOf, turned};
 use crate::activity::Activity;
@@ -60,6 +60,14 @@ pub fn join(rows: &mut Rows, a: Activity, s: Set)
         rows[i] = new.low;
         rows[WIDTH + i] = new.high;
     }
+}
+
+// The activity's row loses the members of a set.
+pub fn lose(rows: &mut Rows, a: Activity, gone: Set)
+    ensures { λ _. ⌜ now (rows .exit) ≡ withRow (now (rows .entry)) (a .0) (those (λ b. mem (rowAt (now (rows .entry)) (a .0)) b and non (mem gone b))) ⌝ }
+{
+    let left = row(rows, a).difference(gone);
+    put(rows, a, left);
 }
 
 // The row of every member gains a set.

@@ -6,21 +6,15 @@ use mathlib.Core.List.{List, [], _∷_}
 use Prim.Native.Nat.{ℕ, suc, _+_, _-_, _≤_, _<_}
 use native.Mathlib.Omega.{arith}
 use native.Mathlib.Numerals.{add-one}
-use lib.ListN.{length, take, drop}
 use Rattle.sets.specs.Tests.{_or_}
 use Rattle.sets.specs.Members.{mem, those}
 use Rattle.sets.specs.declared.set.Set.{Set}
 use Rattle.sets.proofs.Members.{those-ext, those-of}
 use Rattle.sets.proofs.Tests.{or-assoc, or-false, false-or}
 use Rattle.sets.proofs.Members.{mem-none}
-use Rattle.calllog.specs.declared.trace.Part.{Part}
-use Rattle.calllog.specs.Logs.{partOf}
+use Rattle.calllog.specs.Logs.{partAt}
 use Rattle.rules.specs.Traces.{Traces, _has_, someTrace}
 use Rattle.tally.specs.Passes.{through, walked}
-
--- the part of the bytes that a walk passes at k
-abbrev pub partAt : List ℕ → ℕ → List ℕ
-partAt log k = take (partOf log k .length) (drop (partOf log k .start) log)
 
 module _ (log : List ℕ) (n k : ℕ) where
   pub walked-next : k < n → walked log (n - k) k ≡ partAt log k ∷ walked log (n - (k + 1)) (k + 1)
@@ -36,24 +30,16 @@ module _ (log : List ℕ) (n k : ℕ) where
 pub walked-start : (log : List ℕ) (n : ℕ) → walked log (n - 0) 0 ≡ walked log n 0
 walked-start log n = let same : n - 0 ≡ n = omega arith in ap (λ (m : ℕ). walked log m 0) same
 
--- what the code cuts out, from a part's start to its end
-pub part-cut : (log : List ℕ) (k : ℕ) (p : Part) → p ≡ partOf log k → take (p .start + p .length - p .start) (drop (p .start) log)
-    ≡ partAt log k
-part-cut log k p e =
-    let same : p .start + p .length - p .start ≡ p .length = omega arith in
-    ap (λ (m : ℕ). take m (drop (p .start) log)) same ∙ ap (λ (q : Part). take (q .length) (drop (q .start) log)) e
-
 -- a pass over each part
 module _ (pass : List ℕ → List ℕ → List ℕ) (log : List ℕ) (n : ℕ) (all : List ℕ) where
   pub through-start : (rows : List ℕ) → through pass rows (walked log n 0) ≡ all → through pass rows (walked log (n - 0) 0) ≡ all
   through-start rows h = ap (through pass rows) (walked-start log n) ∙ h
 
-  pub through-next : (k : ℕ) (p : Part) (rows rows′ : List ℕ) → k < n → p ≡ partOf log k
-      → rows′ ≡ pass rows (take (p .start + p .length - p .start) (drop (p .start) log))
+  pub through-next : (k : ℕ) (σ rows rows′ : List ℕ) → k < n → σ ≡ partAt log k → rows′ ≡ pass rows σ
       → through pass rows (walked log (n - k) k) ≡ all → through pass rows′ (walked log (n - (k + 1)) (k + 1)) ≡ all
   unfolding through
-  through-next k p rows rows′ h e hr inv =
-      ap (λ (r : List ℕ). through pass r (walked log (n - (k + 1)) (k + 1))) (hr ∙ ap (pass rows) (part-cut log k p e))
+  through-next k σ rows rows′ h e hr inv =
+      ap (λ (r : List ℕ). through pass r (walked log (n - (k + 1)) (k + 1))) (hr ∙ ap (pass rows) e)
       ∙ ap (through pass rows) (sym (walked-next log n k h))
       ∙ inv
 
@@ -74,14 +60,13 @@ pub union-seen : (σ : List ℕ) (events seen r : Set) → seen ≡ those (λ x.
 union-seen σ events seen r hs h = h ∙ those-of seen (λ x. σ has x) (λ a t. mem events a or t) hs
 
 module _ (log : List ℕ) (n k : ℕ) (all : Set) where
-  pub events-next : (p : Part) (events events′ : Set) → k < n → p ≡ partOf log k
-      → events′ ≡ those (λ x. mem events x or take (p .start + p .length - p .start) (drop (p .start) log) has x)
+  pub events-next : (σ : List ℕ) (events events′ : Set) → k < n → σ ≡ partAt log k → events′ ≡ those (λ x. mem events x or σ has x)
       → eventsFrom events (walked log (n - k) k) ≡ all → eventsFrom events′ (walked log (n - (k + 1)) (k + 1)) ≡ all
   unfolding someTrace
-  events-next p events events′ h e hv inv =
+  events-next σ events events′ h e hv inv =
       let L = walked log (n - (k + 1)) (k + 1) in
       those-of events′ (λ x. mem events x or partAt log k has x) (λ x t. t or someTrace L (λ σ. σ has x))
-      (hv ∙ ap (λ (σ : List ℕ). those (λ x. mem events x or σ has x)) (part-cut log k p e))
+      (hv ∙ ap (λ (l : List ℕ). those (λ x. mem events x or l has x)) e)
       ∙ those-ext (λ x. mem events x or partAt log k has x or someTrace L (λ σ. σ has x))
       (λ x. mem events x or someTrace (partAt log k ∷ L) (λ σ. σ has x))
       (λ x l. or-assoc (mem events x) (partAt log k has x) (someTrace L (λ σ. σ has x)))

@@ -8,7 +8,7 @@ use Rattle.sets.specs.Tests.{_or_, non}
 use Rattle.sets.specs.Members.{mem, those}
 use Rattle.sets.specs.Rows.{rowAt, withRow}
 use Rattle.sets.specs.Tables.{tableAt, withRowIn}
-use Rattle.calllog.specs.Logs.{partOf}
+use Rattle.calllog.specs.Logs.{partAt}
 use Rattle.rules.specs.Traces.{Traces, _has_, _beginsWith_, atSome}
 
 -- whether a place, by its activity, past and rest, puts x into the row of its activity
@@ -49,7 +49,7 @@ through pass kept (σ ∷ L) = through pass (pass kept σ) L
 -- n parts of a log's bytes, from part k on: of an accepted log its traces
 unfoldable pub walked : List ℕ → ℕ → ℕ → Traces
 walked bytes zero k = []
-walked bytes (suc n) k = take (partOf bytes k .length) (drop (partOf bytes k .start) bytes) ∷ walked bytes n (suc k)
+walked bytes (suc n) k = partAt bytes k ∷ walked bytes n (suc k)
 
 -- ---- the facts of the passes, each of a place with the activity e
 

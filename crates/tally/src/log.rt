@@ -55,10 +55,8 @@ pub fn note_traces(log: &[u8], traces: usize, tally: &mut Tally) -> Set
     let mut events = Set::EMPTY;
     let mut k: usize = 0;
     while k < traces {
-        let p = calllog::trace::trace_part(log, k);
-        let start = p.start;
-        let end = start + p.length;
-        events = note_trace(&log[start..end], events, tally);
+        let trace = calllog::trace::trace_at(log, k);
+        events = note_trace(trace, events, tally);
         k += 1;
     }
     events

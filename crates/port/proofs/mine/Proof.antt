@@ -1,5 +1,5 @@
 use borrow.Author.Needs.{needs}
-use Rattle.port.proofs.Packing.{carrying}
+use Rattle.port.proofs.Packing.{carrying, mined-ok}
 use Rattle.port.proofs.mine.Statement.{statement}
 use Rattle.port.proofs.mine.Tie as tie
 
@@ -11,6 +11,6 @@ mine-spec =
     tie.close
     (tie.spec
     (λ c κs. search needs)
-    (λ c κs. search needs)
+    (λ c κs. search (mined-ok, needs))
     (λ c. search needs)
     returns)

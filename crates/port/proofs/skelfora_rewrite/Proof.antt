@@ -1,5 +1,5 @@
 use borrow.Author.Needs.{needs}
-use Rattle.port.proofs.Packing.{carrying}
+use Rattle.port.proofs.Packing.{carrying, read-ok}
 use Rattle.port.proofs.skelfora_rewrite.Statement.{statement}
 use Rattle.port.proofs.skelfora_rewrite.Tie as tie
 
@@ -7,7 +7,7 @@ read-requires : tie.Need-read-requires
 read-requires c κs = search needs
 
 put-requires : tie.Need-put-requires
-put-requires c κs = search needs
+put-requires c κs = read-ok _ _ (λ k. c .before .before .shared-slice-known .given k .fits) (c .before .read .ensures)
 
 same-length : tie.Need-same-length
 same-length c = search needs

@@ -1,5 +1,5 @@
 use lib.Seq.{sets}
-use Rattle.sets.specs.Files.{littleEndian}
+use Rattle.bytes.specs.Numbers.{littleEndian}
 use Rattle.bytes.proofs.Codec.{writing}
 use Prim.Native.Nat.{_+_, _-_, _≤_}
 use mathlib.Core.Path.{_≡_}

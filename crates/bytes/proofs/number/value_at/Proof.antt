@@ -2,7 +2,7 @@ use native.Mathlib.Omega.{arith}
 use mathlib.Core.Path.{_≡_}
 use Prim.Native.Nat.{_+_, _-_, _*_, _^_, _≤_, _<_}
 use borrow.Author.Needs.{needs}
-use Rattle.sets.specs.Files.{numberAt}
+use Rattle.bytes.specs.Numbers.{numberAt}
 use Rattle.bytes.proofs.number.value_at.Statement.{statement}
 use Rattle.bytes.proofs.number.value_at.Tie as tie
 use Rattle.bytes.proofs.Codec.{reading, turn-fits}

@@ -1,10 +1,8 @@
 use mathlib.Core.Path.{refl}
 use mathlib.Core.List.{List, []}
 use Prim.Native.Nat.{ℕ, _-_, _≤_}
-use native.Mathlib.Omega.{arith}
 use borrow.Author.Needs.{needs}
 use Rattle.sets.specs.declared.set.Set.{Set}
-use Rattle.calllog.proofs.Traces.{part-within}
 use Rattle.tally.specs.Passes.{gains, forward}
 use Rattle.miner.specs.Facts.{beforeFirst, missed}
 use Rattle.tally.proofs.Walks.{Left, through-start, through-next, through-end}
@@ -27,9 +25,6 @@ abbrev μ-loop : tie.MeasureT-loop
 loop-holds : tie.Need-loop-holds Inv-loop μ-loop
 loop-holds c = (search needs, through-start ahead _ _ _ _ refl, through-start (waiting _ _ _) _ _ _ _ refl)
 
-add-end : tie.Need-add-end Inv-loop μ-loop
-add-end c = omega (arith, part-within _ _ _ (c .before .trace-part .ensures))
-
 loop-again : tie.Need-loop-again Inv-loop μ-loop
 loop-again c = (search needs, search (through-next, needs), search (through-next, needs))
 
@@ -43,5 +38,4 @@ returns c = (
 pub replay-log-spec : {M : Type 1} → statement M
 replay-log-spec =
     tie.close
-    (tie.spec Inv-loop μ-loop loop-holds (λ c κs. search needs) add-end (λ c. search needs) (λ c. search needs)
-    (λ c. search (part-within, needs)) (λ c κs. search needs) (λ c. search needs) (λ c. search needs) loop-again returns)
+    (tie.spec Inv-loop μ-loop loop-holds (λ c κs. search needs) (λ c κs. search needs) (λ c. search needs) (λ c. search needs) loop-again returns)

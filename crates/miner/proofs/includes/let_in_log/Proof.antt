@@ -1,9 +1,7 @@
 use mathlib.Core.Path.{refl}
 use mathlib.Core.List.{List, []}
 use Prim.Native.Nat.{ℕ, _-_, _≤_}
-use native.Mathlib.Omega.{arith}
 use borrow.Author.Needs.{needs}
-use Rattle.calllog.proofs.Traces.{part-within}
 use Rattle.tally.specs.Passes.{gains, forward}
 use Rattle.miner.specs.Facts.{letIn}
 use Rattle.tally.proofs.Walks.{Left, through-start, through-next, through-end}
@@ -22,9 +20,6 @@ abbrev μ-loop : tie.MeasureT-loop
 loop-holds : tie.Need-loop-holds Inv-loop μ-loop
 loop-holds c = (search needs, through-start (pass _) _ _ _ _ refl)
 
-add-end : tie.Need-add-end Inv-loop μ-loop
-add-end c = omega (arith, part-within _ _ _ (c .before .trace-part .ensures))
-
 loop-again : tie.Need-loop-again Inv-loop μ-loop
 loop-again c = (search needs, search (through-next, needs))
 
@@ -34,5 +29,4 @@ returns c = through-end (pass _) _ _ _ _ _ (c .loop-test .left) (c .before .loop
 pub let-in-log-spec : {M : Type 1} → statement M
 let-in-log-spec =
     tie.close
-    (tie.spec Inv-loop μ-loop loop-holds (λ c κs. search needs) add-end (λ c. search needs) (λ c. search needs)
-    (λ c. search (part-within, needs)) (λ c κs. search needs) (λ c. search needs) (λ c. search needs) loop-again returns)
+    (tie.spec Inv-loop μ-loop loop-holds (λ c κs. search needs) (λ c κs. search needs) (λ c. search needs) (λ c. search needs) loop-again returns)

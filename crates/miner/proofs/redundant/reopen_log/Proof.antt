@@ -1,8 +1,6 @@
 use Prim.Native.Nat.{_≤_, _-_}
-use native.Mathlib.Omega.{arith}
 use borrow.Author.Needs.{needs}
 use Rattle.sets.specs.Tables.{tableAt}
-use Rattle.calllog.proofs.Traces.{part-within}
 use Rattle.miner.proofs.Reopening.{Walking, walk-start, walk-next, walk-end, walk-short}
 use Rattle.miner.proofs.redundant.reopen_log.Statement.{statement}
 use Rattle.miner.proofs.redundant.reopen_log.Tie as tie
@@ -19,11 +17,11 @@ loop-holds c = (search needs, walk-start _ _ _ _ _)
 returns : tie.Need-returns Inv-loop μ-loop
 returns c = walk-short _ _ _ _ _ _ _ _ (c .before .before .before .before .loop .inv .1) _ _ (c .before .none-doubted .ensures) (c .if1 .taken)
 
-add-end : tie.Need-add-end Inv-loop μ-loop
-add-end c = omega (arith, part-within _ _ _ (c .before .trace-part .ensures))
-
 loop-again : tie.Need-loop-again Inv-loop μ-loop
-loop-again c = (search needs, search (walk-next, needs))
+loop-again c =
+    let cut = c .before .before in
+    let left = cut .before .before .before .before in
+    (search needs, walk-next _ _ _ _ _ _ _ _ _ (left .loop-test .taken) (cut .trace-at .ensures) (left .before .loop .inv .1) (c .reopen-trace .ensures))
 
 returns-2 : tie.Need-returns-2 Inv-loop μ-loop
 returns-2 c = walk-end _ _ _ _ _ _ _ _ (c .before .loop .inv .1) (c .loop-test .left)
@@ -31,5 +29,5 @@ returns-2 c = walk-end _ _ _ _ _ _ _ _ (c .before .loop .inv .1) (c .loop-test .
 pub reopen-log-spec : {M : Type 1} → statement M
 reopen-log-spec =
     tie.close
-    (tie.spec Inv-loop μ-loop loop-holds (λ c κs. search needs) returns (λ c κs. search needs) add-end (λ c. search needs)
-    (λ c. search needs) (λ c. search (part-within, needs)) (λ c κs. search needs) (λ c. search needs) (λ c. search needs) loop-again returns-2)
+    (tie.spec Inv-loop μ-loop loop-holds (λ c κs. search needs) returns (λ c κs. search needs) (λ c κs. search needs) (λ c. search needs)
+    (λ c. search needs) loop-again returns-2)

@@ -1,8 +1,6 @@
 use Prim.Native.Nat.{_-_, _≤_}
-use native.Mathlib.Omega.{arith}
 use Rattle.engine.specs.Relations.{inTables}
 use Rattle.engine.specs.Replay.{replayFrom}
-use Rattle.calllog.proofs.Traces.{part-within}
 use Rattle.tally.specs.Passes.{walked}
 use Rattle.report.specs.Listing.{traceLines}
 use borrow.Author.Needs.{needs}
@@ -20,12 +18,8 @@ Inv-loop out₀ at log traces head relations next₀ k₀ out next k =
 abbrev μ-loop : tie.MeasureT-loop
 μ-loop out₀ at log traces head relations next₀ k₀ out next k = traces - k
 
-add-end : tie.Need-add-end Inv-loop μ-loop
-add-end c = omega (arith, part-within _ _ _ (c .before .trace-part .ensures))
-
 pub put-traces-spec : {M : Type 1} → statement M
 put-traces-spec =
     tie.close
-    (tie.spec Inv-loop μ-loop (λ c. search (traces-start, needs)) (λ c κs. search needs) add-end (λ c. search needs) (λ c. search needs)
-    (λ c. search (part-within, needs)) (λ c κs. search (traces-room, needs)) (λ c. search needs) (λ c. search needs)
+    (tie.spec Inv-loop μ-loop (λ c. search (traces-start, needs)) (λ c κs. search needs) (λ c κs. search (traces-room, needs)) (λ c. search needs) (λ c. search needs)
     (λ c. search (traces-turn, needs)) (λ c. search needs) (λ c. search (traces-end, needs)))

@@ -3,14 +3,11 @@ use mathlib.Core.List.{List}
 use Prim.Native.Nat.{ℕ, _+_, _-_, _≤_, _<_}
 use native.Mathlib.Omega.{arith}
 use borrow.Author.Needs.{needs}
-use lib.ListN.{length, take, drop}
 use Rattle.sets.specs.Tests.{_or_}
 use Rattle.sets.specs.Members.{mem, those, noSet}
 use Rattle.sets.specs.declared.set.Set.{Set}
 use Rattle.sets.proofs.Members.{those-mem}
-use Rattle.calllog.specs.declared.trace.Part.{Part}
-use Rattle.calllog.specs.Logs.{partOf}
-use Rattle.calllog.proofs.Traces.{part-within}
+use Rattle.calllog.specs.Logs.{partAt}
 use Rattle.rules.specs.Traces.{_has_, someTrace}
 use Rattle.tally.specs.Passes.{walked}
 use Rattle.tally.specs.Tallies.{noted}
@@ -35,19 +32,16 @@ start log n t =
       left = through-start noted log n _ t refl;
     }
 
-module _ {log : List ℕ} {n : ℕ} {t₀ t : List ℕ} {events : Set} {k : ℕ} (inv : Walked log n t₀ t events k) (h : k < n) (part : Part)
-    (e : part ≡ partOf log k) where
-  abbrev σ : List ℕ
-  σ = take (part .start + part .length - part .start) (drop (part .start) log)
-
+module _ {log : List ℕ} {n : ℕ} {t₀ t : List ℕ} {events : Set} {k : ℕ} (inv : Walked log n t₀ t events k) (h : k < n) (σ : List ℕ)
+    (e : σ ≡ partAt log k) where
   turn : (t′ : List ℕ) (events′ : Set) → events′ ≡ those (λ x. mem events x or σ has x) → t′ ≡ noted t σ
       → Walked log n t₀ t′ events′ (k + 1)
   turn t′ events′ hv ht =
       record {
         reached = omega arith;
         a-set = events-set log n k events σ events events′ hv;
-        events-are = events-next log n k _ part events events′ h e hv (inv .events-are);
-        left = through-next noted log n _ k part t t′ h e ht (inv .left);
+        events-are = events-next log n k _ σ events events′ h e hv (inv .events-are);
+        left = through-next noted log n _ k σ t t′ h e ht (inv .left);
       }
 
 abbrev Inv-loop : tie.InvT-loop
@@ -59,14 +53,11 @@ abbrev μ-loop : tie.MeasureT-loop
 loop-holds : tie.Need-loop-holds Inv-loop μ-loop
 loop-holds c = start _ _ _
 
-add-end : tie.Need-add-end Inv-loop μ-loop
-add-end c = omega (arith, part-within _ _ _ (c .before .trace-part .ensures))
-
 loop-again : tie.Need-loop-again Inv-loop μ-loop
 loop-again c =
     let got = c .note-trace .ensures in
-    let part = c .before .before .before .before in
-    turn (part .before .before .loop .inv) (part .before .loop-test .taken) _ (part .trace-part .ensures) _ _ (got .0) (got .1)
+    let cut = c .before .before in
+    turn (cut .before .before .loop .inv) (cut .before .loop-test .taken) _ (cut .trace-at .ensures) _ _ (got .0) (got .1)
 
 returns : tie.Need-returns Inv-loop μ-loop
 returns c =
@@ -77,5 +68,4 @@ returns c =
 pub note-traces-spec : {M : Type 1} → statement M
 note-traces-spec =
     tie.close
-    (tie.spec Inv-loop μ-loop loop-holds (λ c κs. search needs) add-end (λ c. search needs) (λ c. search needs)
-    (λ c. search (part-within, needs)) (λ c κs. search needs) (λ c. search needs) (λ c. search needs) loop-again returns)
+    (tie.spec Inv-loop μ-loop loop-holds (λ c κs. search needs) (λ c κs. search needs) (λ c. search needs) (λ c. search needs) loop-again returns)

@@ -1,7 +1,7 @@
 use borrow.Author.Needs.{needs}
-use Rattle.miner.proofs.Losing.{lost-row}
-use Rattle.miner.proofs.redundant.lose.Statement.{statement}
-use Rattle.miner.proofs.redundant.lose.Tie as tie
+use Rattle.sets.proofs.RowLaws.{lost-row}
+use Rattle.sets.proofs.rows.lose.Statement.{statement}
+use Rattle.sets.proofs.rows.lose.Tie as tie
 
 returns : tie.Need-returns
 returns c = lost-row _ _ _ _ _ _ (c .before .before .before .row .ensures) (c .before .before .difference .ensures) (c .put .ensures)
