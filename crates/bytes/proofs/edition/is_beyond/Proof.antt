@@ -2,7 +2,6 @@ use borrow.Author.Needs.{needs}
 use Rattle.bytes.proofs.Editions.{editions}
 use Rattle.bytes.proofs.edition.is_beyond.Statement.{statement}
 use Rattle.bytes.proofs.edition.is_beyond.Tie as tie
-use Rattle.bytes.proofs.edition.edition_for.Reads as edition-for-reads
 
 returns : tie.Need-returns
 returns c = search (editions, needs)

@@ -2,8 +2,6 @@ use borrow.Author.Needs.{needs}
 use Rattle.bytes.proofs.Editions.{editions}
 use Rattle.bytes.proofs.edition.opens_file.Statement.{statement}
 use Rattle.bytes.proofs.edition.opens_file.Tie as tie
-use Rattle.bytes.proofs.edition.edition_in.Reads as edition-in-reads
-use Rattle.sets.proofs.opening.opens_with.Reads as opens-with-reads
 
 opens-with-requires : tie.Need-opens-with-requires
 opens-with-requires c κs = search needs

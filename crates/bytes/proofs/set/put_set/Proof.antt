@@ -2,9 +2,6 @@ use borrow.Author.Needs.{needs}
 use Rattle.bytes.proofs.SetLaws.{storing}
 use Rattle.bytes.proofs.set.put_set.Statement.{statement}
 use Rattle.bytes.proofs.set.put_set.Tie as tie
-use Rattle.bytes.proofs.number.put_value.Reads as put-value-reads
-use Rattle.bytes.proofs.room.too_few.Reads as too-few-reads
-use Rattle.bytes.proofs.set.length.Reads as length-reads
 
 length-requires : tie.Need-length-requires
 length-requires c κs = search needs

@@ -2,9 +2,6 @@ use borrow.Author.Needs.{needs}
 use Rattle.bytes.proofs.SetLaws.{reading}
 use Rattle.bytes.proofs.set.set_at.Statement.{statement}
 use Rattle.bytes.proofs.set.set_at.Tie as tie
-use Rattle.bytes.proofs.number.value_at.Reads as value-at-reads
-use Rattle.bytes.proofs.room.too_few.Reads as too-few-reads
-use Rattle.bytes.proofs.set.length.Reads as length-reads
 
 length-requires : tie.Need-length-requires
 length-requires c κs = search needs
