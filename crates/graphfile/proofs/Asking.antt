@@ -13,15 +13,15 @@ use Rattle.engine.specs.Relations.{relationCount}
 use Rattle.graphfile.specs.Layout.{headLength}
 use Rattle.graphfile.specs.Refusals.{judgedHead, judgedEntry, judgedEnd, judgedBeforeRows}
 
-pub front-short : (bytes : List ℕ) → length bytes < headLength → TooShort ≡ judgedBeforeRows bytes
+pub front-short : (bytes : List ℕ) → length bytes < headLength false → TooShort ≡ judgedBeforeRows bytes
 unfolding judgedBeforeRows
-front-short bytes l = rw (lt-ltb (length bytes) headLength l)
+front-short bytes l = rw (lt-ltb (length bytes) (headLength false) l)
 
-module _ (bytes : List ℕ) (long : headLength ≤ length bytes) (head : Answer) (d : Bool) (e : head ≡ judgedHead bytes) (t : d
+module _ (bytes : List ℕ) (long : headLength false ≤ length bytes) (head : Answer) (d : Bool) (e : head ≡ judgedHead bytes) (t : d
     ≡ isDone head) where
   front : judgedBeforeRows bytes ≡ thenAsk (judgedHead bytes) (thenAsk (firstRefusal relationCount (judgedEntry bytes)) (judgedEnd bytes))
   unfolding judgedBeforeRows
-  front = rw (le-ltb (length bytes) headLength long)
+  front = rw (le-ltb (length bytes) (headLength false) long)
 
   pub front-head : not d ≡ true → head ≡ judgedBeforeRows bytes
   front-head f = refused head _ d e t _ f ∙ sym front

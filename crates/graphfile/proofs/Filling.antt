@@ -23,7 +23,7 @@ use Rattle.engine.specs.declared.graph.Head.{Head}
 use Rattle.engine.specs.declared.graph.Graph.{Graph}
 use Rattle.graphfile.specs.declared.reader.Reading.{Reading}
 use Rattle.graphfile.specs.declared.reader.Bare.{Bare}
-use Rattle.graphfile.specs.Layout.{headLength, eventsIn, stateIn, headIn, countIn, earlierRows, keyIn, rowIn}
+use Rattle.graphfile.specs.Layout.{wideIn, headLength, eventsIn, stateIn, headIn, countIn, earlierRows, keyIn, rowIn}
 use Rattle.graphfile.specs.Refusals.{rises, rowAnswer, judgedRow, judgedBeforeRows, judgedRelation, judgedFile}
 use Rattle.graphfile.specs.Held.{filled, withRelation, relationsIn, graphIn, readOf, bareOf}
 use Rattle.graphfile.proofs.Judging.{row-judged}
@@ -130,7 +130,7 @@ module _ (bytes : List ℕ) (a : Answer) (d : Bool) (e : a ≡ judgedFile bytes)
       let said : isDone (judgedFile bytes) ≡ b = ap isDone (sym e) ∙ sym t ∙ q in
       λ i. record { answer = e i; graph = (h ∙ ap (λ (y : Bool). when y then graphIn bytes else emptyGraph) (sym said)) i }
 
-  pub read-long : d ≡ true → headLength ≤ length bytes
+  pub read-long : d ≡ true → headLength (wideIn bytes) ≤ length bytes
   read-long y = accepted bytes (sym e ∙ done-is a (sym t ∙ y)) .long
 
   pub read-refused : (tables : List ℕ) → d ≡ false → tables ≡ noTables relationCount

@@ -1,4 +1,5 @@
 -- The modules of `proofs/` that belong to no one function.
+pub mod RowLengths
 pub mod Places
 pub mod Asking
 pub mod Judging

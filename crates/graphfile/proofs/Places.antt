@@ -1,5 +1,6 @@
 -- What the reads at fixed places find. Assumes nothing.
 use mathlib.Core.Path.{_≡_, refl, sym, ap, ap₂, _∙_, subst}
+use mathlib.Core.Bool.{Bool}
 use mathlib.Core.List.{List}
 use Prim.Native.Nat.{ℕ, zero, suc, _+_, _-_, _*_, _≤_, _<_}
 use native.Mathlib.Nat.{zero-add, suc-add, le-refl, le-trans}
@@ -11,14 +12,15 @@ use Rattle.engine.specs.declared.marking.State.{State}
 use Rattle.engine.specs.Markings.{stateOf}
 use Rattle.engine.specs.Relations.{relationCount}
 use Rattle.bytes.specs.Sets.{setLength, setAt}
-use Rattle.graphfile.specs.Layout.{headLength, rowLength, countIn, sumOf, earlierRows, stateAt, endOf}
+use Rattle.graphfile.specs.Layout.{wideIn, countIn, sumOf, earlierRows, stateAt, rowPlace, endOf}
+use Rattle.graphfile.proofs.RowLengths.{rows-le}
 
 -- ---- a state
 
-pub state-is : (bytes : List ℕ) (at : ℕ) (x p i : Set) (m : State) → x ≡ setAt bytes at → p ≡ setAt bytes (at + setLength)
-    → i ≡ setAt bytes (at + 2 * setLength)
-    → m ≡ stateOf x p i → m ≡ stateAt bytes at
-state-is bytes at x p i m hx hp hi e = e ∙ λ k. stateOf (hx k) (hp k) (hi k)
+pub state-is : (wide : Bool) (bytes : List ℕ) (at n : ℕ) (x p i : Set) (m : State) → n ≡ setLength wide → x ≡ setAt wide bytes at
+    → p ≡ setAt wide bytes (at + n) → i ≡ setAt wide bytes (at + 2 * n) → m ≡ stateOf x p i → m ≡ stateAt wide bytes at
+state-is wide bytes at n x p i m hn hx hp hi e =
+    e ∙ (λ k. stateOf (hx k) ((hp ∙ ap (λ (j : ℕ). setAt wide bytes (at + j)) hn) k) ((hi ∙ ap (λ (j : ℕ). setAt wide bytes (at + 2 * j)) hn) k))
 
 -- ---- a sum: what a loop adds up, and that it only grows
 
@@ -57,5 +59,11 @@ sum-ext f g (suc n) e = ap₂ (λ (x y : ℕ). x + y) (sum-ext f g n (λ k l. e 
 
 -- a relation's rows end where the next one's begin, and that is at most where the last relation's end
 pub rows-end : (bytes : List ℕ) (r first count : ℕ) → r < relationCount → endOf bytes ≤ length bytes
-    → first ≡ earlierRows bytes r → count ≡ countIn bytes r → headLength + rowLength * (first + count) ≤ length bytes
-rows-end bytes r first count l h e f = omega (arith, sum-room (countIn bytes) r relationCount l)
+    → first ≡ earlierRows bytes r → count ≡ countIn bytes r → rowPlace bytes (first + count) ≤ length bytes
+rows-end bytes r first count l h e f =
+    let more : first + count ≤ earlierRows bytes relationCount = omega (arith, sum-room (countIn bytes) r relationCount l) in
+    omega (arith, rows-le (wideIn bytes) (first + count) (earlierRows bytes relationCount) more)
+
+-- no file says more rows than this
+pub rows-few : (r first count : ℕ) → r < relationCount → first ≤ 65536 * r → count < 65536 → first + count ≤ 65536 * relationCount
+rows-few r first count l h k = omega arith

@@ -22,13 +22,14 @@ use Rattle.engine.specs.Judged.{judged}
 use Rattle.graphfile.specs.declared.reader.Reading.{Reading}
 use Rattle.graphfile.specs.declared.writer.Written.{Written}
 use Rattle.bytes.specs.Numbers.{littleEndian}
+use Rattle.bytes.specs.Editions.{editionFor}
 use Rattle.bytes.specs.Sets.{setBytes}
-use Rattle.graphfile.specs.Layout.{headLength, rowLength, sumOf}
+use Rattle.graphfile.specs.Layout.{wideFor, headLength, rowsLength, sumOf}
 use Rattle.graphfile.specs.Refusals.{judgedFile}
 use Rattle.graphfile.specs.Held.{graphIn, readOf}
 use Rattle.graphfile.specs.Writing.{rowsBefore, rowOf, rowsFor, rowsFrom, countFrom, entriesBytes, stateBytes, headBytes}
 use Rattle.graphfile.specs.Writing.{relationsBytes}
-use Rattle.graphfile.specs.Writing.{bytesOf, judgedWrite, writtenOf, fileAfter}
+use Rattle.graphfile.specs.Writing.{bytesBy, bytesOf, judgedWrite, writtenOf, fileAfter}
 use Rattle.bytes.proofs.Codec.{Bytes}
 use Rattle.graphfile.proofs.Accepted.{accepted, done-then}
 use Rattle.graphfile.proofs.Stores.{length-file}
@@ -49,9 +50,10 @@ file-round bytes small ok = file-back bytes small (accepted bytes ok)
 pub file-graph : (bytes : List ℕ) → Bytes bytes → judgedFile bytes ≡ Done → judged (graphIn bytes) ≡ Done
 file-graph bytes small ok = graph-back bytes small (accepted bytes ok)
 
--- the length of a file: 52, and 9 for each row that is not empty
-pub file-length : (g : Graph) → length (bytesOf g) ≡ headLength + rowLength * rowsBefore (g .relations) relationCount
-file-length g = length-file g
+-- the length of a file: 52, and 9 for each row that is not empty; 84 and 17 where A is above 64
+pub file-length : (g : Graph)
+    → length (bytesOf g) ≡ headLength (wideFor (g .head .activities)) + rowsLength (wideFor (g .head .activities)) (rowsBefore (g .relations) relationCount)
+file-length g = length-file (wideFor (g .head .activities)) g
 
 -- ---- a write that is done, and a read that is
 
@@ -143,6 +145,6 @@ fileOfG =
     ∷ []
 
 pub file-of-G : (bytesOf exampleG ≡ fileOfG) × (length fileOfG ≡ 124)
-unfolding bytesOf headBytes stateBytes entriesBytes relationsBytes sumOf rowsFrom countFrom rowOf rowsFor setBytes littleEndian
+unfolding bytesBy rowsLength editionFor headBytes stateBytes entriesBytes relationsBytes sumOf rowsFrom countFrom rowOf rowsFor setBytes littleEndian
     rowAt tableAt tablesOf rowsOf listFrom isEmpty everyBelow bit bitsOf mem those non _and_ _or_
 file-of-G = (refl, refl)

@@ -69,17 +69,16 @@ unfoldable pub stateBytes : Bool → State → List ℕ
 stateBytes wide s = setBytes wide (s .executed) ++ setBytes wide (s .pending) ++ setBytes wide (s .included)
 
 -- the letters, the edition, A and the four sets
-unfoldable pub headBytes : Head → List ℕ
-headBytes h =
-    letters ++ (editionFor (h .activities) ∷ h .activities ∷ [])
-    ++ setBytes (wideFor (h .activities)) (h .events) ++ stateBytes (wideFor (h .activities)) (h .opening .state)
+unfoldable pub headBytes : Bool → Head → List ℕ
+headBytes wide h = letters ++ (editionFor (h .activities) ∷ h .activities ∷ []) ++ setBytes wide (h .events) ++ stateBytes wide (h .opening .state)
 
--- the whole file
-unfoldable pub bytesOf : Graph → List ℕ
-bytesOf g =
-    headBytes (g .head)
-    ++ entriesBytes (wideFor (g .head .activities)) (g .relations) relationCount
-    ++ relationsBytes (wideFor (g .head .activities)) (g .relations) relationCount
+-- the whole file, in either form
+unfoldable pub bytesBy : Bool → Graph → List ℕ
+bytesBy wide g = headBytes wide (g .head) ++ entriesBytes wide (g .relations) relationCount ++ relationsBytes wide (g .relations) relationCount
+
+-- in the form that goes with A
+abbrev pub bytesOf : Graph → List ℕ
+bytesOf g = bytesBy (wideFor (g .head .activities)) g
 
 -- so many bytes for the file: 7 where they are too few
 abbrev pub judgedRoom : Graph → ℕ → Answer

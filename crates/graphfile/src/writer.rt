@@ -10,7 +10,7 @@ ghost use Rattle.engine.specs.Relations.{relationCount, graphOf};
 ghost use Rattle.bytes.specs.Editions.{editionFor};
 ghost use Rattle.graphfile.specs.Layout.{letters, wideFor, eventsPlace, entriesPlace, stateLength, entryLength, headLength, rowsLength};
 ghost use Rattle.graphfile.specs.Writing.{rowsFor, rowOf, rowCount, rowsBefore, relationBytes};
-ghost use Rattle.graphfile.specs.Writing.{entryBytes, entriesBytes, stateBytes, headBytes, relationsBytes, bytesOf, writtenOf, fileAfter, unjudgedOf, unjudgedAfter};
+ghost use Rattle.graphfile.specs.Writing.{entryBytes, entriesBytes, stateBytes, headBytes, relationsBytes, bytesBy, writtenOf, fileAfter, unjudgedOf, unjudgedAfter};
 use crate::layout;
 use bytes::edition::edition_for;
 use bytes::number::LENGTH as NUMBER;
@@ -127,11 +127,10 @@ pub(crate) fn put_state(out: &mut [u8], at: usize, s: State, wide: bool)
 }
 
 // Stores the letters, the edition, A and the four sets.
-fn put_head(out: &mut [u8], head: Head)
-    requires { ⌜ headLength (wideFor (head .activities)) ≤ length (now out) ⌝ }
-    ensures { λ _. ⌜ now (out .exit) ≡ sets (now (out .entry)) 0 (headBytes head) ⌝ }
+fn put_head(out: &mut [u8], head: Head, wide: bool)
+    requires { ⌜ headLength wide ≤ length (now out) ⌝ }
+    ensures { λ _. ⌜ now (out .exit) ≡ sets (now (out .entry)) 0 (headBytes wide head) ⌝ }
 {
-    let wide = layout::wide_for(head.activities);
     put_letters(out, head.activities);
     put_set(out, layout::EVENTS, head.events, wide);
     put_state(
@@ -186,14 +185,12 @@ fn put_relations(out: &mut [u8], relations: &Relations, wide: bool)
     }
 }
 
-// Stores the file of a graph.
-fn put_file(out: &mut [u8], head: Head, relations: &Relations)
-    requires { ⌜ headLength (wideFor (head .activities)) + rowsLength (wideFor (head .activities)) (rowsBefore (now relations) relationCount)
-        ≤ length (now out) ⌝ }
-    ensures { λ _. ⌜ now (out .exit) ≡ sets (now (out .entry)) 0 (bytesOf (graphOf head (now (relations .entry)))) ⌝ }
+// Stores the file of a graph, in either form.
+fn put_file(out: &mut [u8], head: Head, relations: &Relations, wide: bool)
+    requires { ⌜ headLength wide + rowsLength wide (rowsBefore (now relations) relationCount) ≤ length (now out) ⌝ }
+    ensures { λ _. ⌜ now (out .exit) ≡ sets (now (out .entry)) 0 (bytesBy wide (graphOf head (now (relations .entry)))) ⌝ }
 {
-    let wide = layout::wide_for(head.activities);
-    put_head(out, head);
+    put_head(out, head, wide);
     put_entries(out, relations, wide);
     put_relations(out, relations, wide);
 }
@@ -212,7 +209,7 @@ pub fn write_unjudged(head: Head, relations: &Relations, out: &mut [u8]) -> Writ
             length: 0,
         };
     }
-    put_file(out, head, relations);
+    put_file(out, head, relations, wide);
     Written {
         answer: Answer::Done,
         length,

@@ -27,7 +27,7 @@ start : (log : List ℕ) (n : ℕ) (t : List ℕ) → Walked log n t t noSet 0
 start log n t =
     record {
       reached = omega arith;
-      a-set = those-mem noSet (omega arith);
+      a-set = those-mem noSet (omega arith, omega arith);
       events-are = events-start log n noSet refl;
       left = through-start noted log n _ t refl;
     }
