@@ -1,9 +1,27 @@
 -- How many bytes rows have, in either form: laws for `omega`, to which the product of two unknown numbers is closed. Assumes nothing.
-use mathlib.Core.Path.{_≡_, refl}
+use mathlib.Core.Path.{_≡_, refl, sym, ap}
 use mathlib.Core.Bool.{Bool, true, false}
 use Prim.Native.Nat.{ℕ, zero, suc, _+_, _*_, _≤_, _<_}
 use native.Mathlib.Omega.{arith}
+use Rattle.bytes.specs.Sets.{setLength}
 use Rattle.graphfile.specs.Layout.{rowLength, rowsLength}
+
+-- as the code has them, by the form
+module _ (wide : Bool) (n : ℕ) where
+  pub rows-wide : wide ≡ true → 17 * n ≡ rowsLength wide n
+  unfolding rowsLength
+  rows-wide w = ap (λ (b : Bool). rowLength b * n) (sym w)
+
+  pub rows-narrow : wide ≡ false → 9 * n ≡ rowsLength wide n
+  unfolding rowsLength
+  rows-narrow w = ap (λ (b : Bool). rowLength b * n) (sym w)
+
+pub ruleset lengths = (rows-wide, rows-narrow)
+
+-- no set has more bytes
+pub set-most : (wide : Bool) → setLength wide ≤ 16
+set-most true = omega arith
+set-most false = omega arith
 
 pub rows-none : (wide : Bool) → rowsLength wide 0 ≡ 0
 unfolding rowsLength

@@ -12,6 +12,7 @@ use bytes::edition::edition_for;
 use bytes::edition::edition_in;
 use bytes::number::LENGTH as NUMBER;
 use bytes::number_at;
+use bytes::set;
 use bytes::set::length;
 use bytes::set_at;
 use engine::Head;
@@ -35,6 +36,11 @@ pub const EVENTS: usize = 4;
 
 // The bytes of an entry: an offset and a number of rows.
 pub const ENTRY: usize = 2 * NUMBER;
+
+// The bytes of a row: a key and a set.
+const NARROW_ROW: usize = 1 + set::NARROW;
+
+const WIDE_ROW: usize = 1 + set::WIDE;
 
 // Whether a file has wide sets (02, 10/12).
 pub(crate) fn is_wide(bytes: &[u8]) -> bool
@@ -71,7 +77,10 @@ pub(crate) fn rows_length(wide: bool, n: usize) -> usize
     requires { ⌜ n ≤ 65536 * relationCount ⌝ }
     ensures { λ r. ⌜ r ≡ rowsLength wide n ⌝ }
 {
-    (1 + length(wide)) * n
+    if wide {
+        return WIDE_ROW * n;
+    }
+    NARROW_ROW * n
 }
 
 // Where row k stands.
