@@ -225,7 +225,7 @@ module _ (bytes : List ℕ) (small : Bytes bytes) (ok : Accepted bytes) where
       (meet bytes _ _ executed n (executed + n) n refl (set executed (omega arith)) (set (executed + n) (omega arith)))
       (set (executed + 2 * n) (omega arith)) in
       let size : n + n + n ≡ stateLength form = omega arith in
-      meet bytes _ _ 0 executed executed (stateLength form) refl events (state ∙ ap (part bytes executed) size)
+      meet bytes _ _ 0 executed executed (stateLength form) (omega arith) events (state ∙ ap (part bytes executed) size)
 
   entries-back : (r : ℕ) → r ≤ relationCount → entriesBytes form tables r ≡ part bytes (entriesPlace form) (entryLength * r)
   unfolding entriesBytes
@@ -254,8 +254,8 @@ module _ (bytes : List ℕ) (small : Bytes bytes) (ok : Accepted bytes) where
   unfolding bytesBy graphIn
   file-back =
       ap (λ (w : Bool). bytesBy w (graphIn bytes)) form-back
-      ∙ meet bytes _ _ 0 (headLength form) (headLength form) (rowsLength form (earlierRows bytes relationCount)) refl
-      (meet bytes _ _ 0 (entriesPlace form) (entriesPlace form) (entryLength * relationCount) refl head-back (entries-back relationCount (omega arith)))
+      ∙ meet bytes _ _ 0 (headLength form) (headLength form) (rowsLength form (earlierRows bytes relationCount)) (omega arith)
+      (meet bytes _ _ 0 (entriesPlace form) (entriesPlace form) (entryLength * relationCount) (omega arith) head-back (entries-back relationCount (omega arith)))
       (relations-back relationCount (omega arith))
       ∙ part-whole bytes (headLength form + rowsLength form (earlierRows bytes relationCount)) (omega (arith, ok .end))
 

@@ -165,12 +165,12 @@ module _ (bytes : List ℕ) (l : Bool) (hl : l ≡ opensFile letters bytes) wher
   head-letters n = rw (← hl, not-true l n)
 
   module _ (nl : not l ≡ false) (wide : Bool) (hw : wide ≡ wideIn bytes) (n : ℕ) (hn : n ≡ headLength wide) where
-    long-is : n ≡ headLength (wideIn bytes)
-    long-is = hn ∙ ap headLength hw
+    head-is : n ≡ headLength (wideIn bytes)
+    head-is = hn ∙ ap headLength hw
 
     pub head-short : length bytes < n → TooShort ≡ judgedHead bytes
     unfolding judgedHead non
-    head-short s = rw (← hl, not-false l nl, lt-ltb (length bytes) (headLength (wideIn bytes)) (omega (arith, long-is)))
+    head-short s = rw (← hl, not-false l nl, lt-ltb (length bytes) (headLength (wideIn bytes)) (omega (arith, head-is)))
 
     module _ (long : n ≤ length bytes) (e : ℕ) (he : e ≡ editionIn bytes) (b : Bool) (hb : b ≡ beyond e (activitiesIn bytes)) where
       is-beyond : beyond (editionIn bytes) (activitiesIn bytes) ≡ b
@@ -178,11 +178,11 @@ module _ (bytes : List ℕ) (l : Bool) (hl : l ≡ opensFile letters bytes) wher
 
       pub head-above : b ≡ true → AboveLimit ≡ judgedHead bytes
       unfolding judgedHead non
-      head-above t = rw (← hl, not-false l nl, le-ltb (length bytes) (headLength (wideIn bytes)) (omega (arith, long-is)), is-beyond, t)
+      head-above t = rw (← hl, not-false l nl, le-ltb (length bytes) (headLength (wideIn bytes)) (omega (arith, head-is)), is-beyond, t)
 
       pub head-sets : (a : Answer) → b ≡ false → a ≡ judgedSets bytes → a ≡ judgedHead bytes
       unfolding judgedHead non
       head-sets a t h =
-          h ∙ rw (← hl, not-false l nl, le-ltb (length bytes) (headLength (wideIn bytes)) (omega (arith, long-is)), is-beyond, t)
+          h ∙ rw (← hl, not-false l nl, le-ltb (length bytes) (headLength (wideIn bytes)) (omega (arith, head-is)), is-beyond, t)
 
 pub ruleset heads = (head-letters, head-short, head-above, head-sets)

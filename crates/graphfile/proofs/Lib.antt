@@ -1,5 +1,6 @@
 -- The modules of `proofs/` that belong to no one function.
 pub mod RowLengths
+pub mod Forms
 pub mod Places
 pub mod Asking
 pub mod Judging

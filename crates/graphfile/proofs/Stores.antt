@@ -5,7 +5,7 @@ use mathlib.Core.List.{List, [], _∷_, _++_}
 use Prim.Native.Nat.{ℕ, zero, suc, _+_, _*_, _≤_, _<_}
 use native.Mathlib.Numerals.{add-one}
 use native.Mathlib.Omega.{arith}
-use lib.ListN.{length, length-append}
+use lib.ListN.{length, set, length-append}
 use lib.Seq.{sets, length-sets}
 use Rattle.sets.specs.Tests.{when_then_else_}
 use Rattle.sets.specs.Members.{width, isEmpty}
@@ -98,6 +98,11 @@ entry-stored wide out mid end at earlier count long room hl e f =
     (ap (λ (n : ℕ). at + n) (sym (length-number numberLength long)))
     (number-stored out mid at long e (omega arith)) (number-stored mid end (at + numberLength) count f (omega arith))
     ∙ ap (λ (n : ℕ). sets out at (littleEndian numberLength n ++ littleEndian numberLength count)) hl
+
+-- the letters, the edition and A, byte by byte
+pub letters-stored : (out : List ℕ) (a e : ℕ) → e ≡ editionFor a
+    → set (set (set (set out 0 66) 1 71) 2 e) 3 a ≡ sets out 0 (letters ++ (editionFor a ∷ a ∷ []))
+letters-stored out a e h = ap (λ (n : ℕ). sets out 0 (letters ++ (n ∷ a ∷ []))) h
 
 -- three parts, each from the place where the one before it ends
 module _ (o o₁ o₂ o₃ a b c : List ℕ) (p p₁ p₂ : ℕ) (e₁ : p₁ ≡ p + length a) (e₂ : p₂ ≡ p₁ + length b)
