@@ -1,5 +1,5 @@
 -- The reader's loop over the rows of a relation, and what it reads put together. Assumes nothing.
-use mathlib.Core.Path.{_≡_, refl, sym, ap, _∙_}
+use mathlib.Core.Path.{_≡_, refl, sym, ap, _∙_, subst}
 use mathlib.Core.Bool.{Bool, true, false, not}
 use mathlib.Core.List.{List}
 use Prim.Native.Nat.{ℕ, suc, _+_, _-_, _≤_, _<_}
@@ -21,9 +21,10 @@ use Rattle.engine.specs.Markings.{emptyState, emptyMarking}
 use Rattle.engine.specs.Relations.{relationCount, headOf, graphOf, emptyGraph}
 use Rattle.engine.specs.declared.graph.Head.{Head}
 use Rattle.engine.specs.declared.graph.Graph.{Graph}
+use Rattle.bytes.specs.Sets.{setAt}
 use Rattle.graphfile.specs.declared.reader.Reading.{Reading}
 use Rattle.graphfile.specs.declared.reader.Bare.{Bare}
-use Rattle.graphfile.specs.Layout.{wideIn, headLength, eventsIn, stateIn, headIn, countIn, earlierRows, keyIn, rowIn}
+use Rattle.graphfile.specs.Layout.{wideIn, eventsPlace, headLength, eventsIn, stateIn, headIn, countIn, earlierRows, keyIn, rowIn}
 use Rattle.graphfile.specs.Refusals.{rises, rowAnswer, judgedRow, judgedBeforeRows, judgedRelation, judgedFile}
 use Rattle.graphfile.specs.Held.{filled, withRelation, relationsIn, graphIn, readOf, bareOf}
 use Rattle.graphfile.proofs.Judging.{row-judged}
@@ -165,3 +166,12 @@ module _ (bytes : List ℕ) (a : Answer) (d : Bool) (e : a ≡ judgedFile bytes)
       → (a ≡ Done → tables ≡ relationsIn bytes relationCount)
       → _≡_ {A = Bare} (record { answer = a; events = events; state = s; relations = tables }) (bareOf bytes)
   bare-taken events s tables y he hs ht = bare true events s tables y he hs (ht (done-is a (sym t ∙ y)))
+
+  -- as the code finds them, by the form
+  pub bare-found : (w : Bool) (events : Set) (s : State) (tables : List ℕ) → w ≡ wideIn bytes → d ≡ true → events ≡ setAt w bytes eventsPlace
+      → (w ≡ wideIn bytes → s ≡ stateIn bytes) → (a ≡ Done → tables ≡ relationsIn bytes relationCount)
+      → _≡_ {A = Bare} (record { answer = a; events = events; state = s; relations = tables }) (bareOf bytes)
+  bare-found w events s tables hw y he hs ht = bare-taken events s tables y (he ∙ ap (λ (b : Bool). setAt b bytes eventsPlace) hw) (hs hw) ht
+
+  pub read-room : (w : Bool) → w ≡ wideIn bytes → d ≡ true → headLength w ≤ length bytes
+  read-room w hw y = subst (λ (b : Bool). headLength b ≤ length bytes) (sym hw) (read-long y)

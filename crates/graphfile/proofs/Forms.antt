@@ -2,7 +2,7 @@
 use mathlib.Core.Path.{_≡_, refl, sym, ap, _∙_, subst}
 use mathlib.Core.Bool.{Bool, true, false}
 use mathlib.Core.List.{List}
-use Prim.Native.Nat.{ℕ, suc, _+_, _*_, _^_, _≤_, _<_}
+use Prim.Native.Nat.{ℕ, suc, _+_, _-_, _*_, _^_, _≤_, _<_}
 use native.Mathlib.Omega.{arith}
 use borrow.Author.Tests.{lt-ltb, le-ltb}
 use lib.Dec.{eqb}
@@ -156,9 +156,14 @@ module _ (bytes : List ℕ) (first count j : ℕ) (l : j < count) (room : rowPla
   pub key-there : rowPlace bytes (first + j) < length bytes
   key-there = omega (arith, row-there, rows-suc (wideIn bytes) (first + j))
 
+pub key-before : (bytes : List ℕ) (first j : ℕ) → (j ≡ 0 → ⊥) → rowPlace bytes (first + j) < length bytes → rowPlace bytes (first + j - 1) < length bytes
+key-before bytes first j n l =
+    let less : first + j - 1 ≤ first + j = omega arith in
+    omega (arith, rows-le (wideIn bytes) (first + j - 1) (first + j) less)
+
 pub events-found : (bytes : List ℕ) (w : Bool) (events : Set) → w ≡ wideIn bytes → events ≡ setAt w bytes eventsPlace → events ≡ eventsIn bytes
 events-found bytes w events hw h = h ∙ ap (λ (b : Bool). setAt b bytes eventsPlace) hw
 
-pub ruleset walking = (row-there, key-there, events-found)
+pub ruleset walking = (row-there, key-there, key-before, events-found)
 
 pub ruleset forms = (wide-by, form-by, count-at, offset-at, key-room, key-at, row-fits, row-at, head-room, head-long, head-in-is, state-in-is, marking-is, head-is, head-none, head-some, place-fits, entry-fits)

@@ -6,7 +6,7 @@ use mathlib.Core.Logic.{inl, inr}
 use mathlib.Core.List.{List, _++_}
 use Prim.Native.Nat.{ℕ, _+_, _*_, _≤_}
 use native.Mathlib.Omega.{arith}
-use borrow.Author.Tests.{le-ltb, not-true, not-false}
+use borrow.Author.Tests.{le-ltb, ltb-false, not-true, not-false}
 use lib.Dec.{ltb}
 use lib.ListN.{length, take, drop, length-append}
 use lib.Seq.{sets, length-sets, drop-drop}
@@ -15,7 +15,6 @@ use Rattle.bytes.specs.Numbers.{littleEndian}
 use Rattle.sets.proofs.Members.{Whole}
 use Rattle.bytes.specs.Sets.{setLength, Holds, setBytes, setAt, setPut}
 use Rattle.bytes.proofs.Parts.{part, follow, Apart, drop-stored}
-use Rattle.bytes.proofs.Rooms.{room, room-not}
 use Rattle.bytes.proofs.SetLaws.{length-set, set-stored, set-read, set-apart}
 use Rattle.engine.specs.Markings.{emptyMarking, stateOf, markingOf}
 use Rattle.engine.specs.declared.marking.Marking.{Marking}
@@ -29,6 +28,12 @@ use Rattle.graphfile.proofs.Stores.{length-state}
 module _ (wide : Bool) (bytes : List ℕ) (at : ℕ) (few : Bool) (n : ℕ) (hn : n ≡ markingLength wide) (e₀ : few ≡ ltb (length bytes) (at + n)) where
   e : few ≡ ltb (length bytes) (at + markingLength wide)
   e = e₀ ∙ ap (λ (k : ℕ). ltb (length bytes) (at + k)) hn
+
+  pub marking-room : few ≡ false → at + markingLength wide ≤ length bytes
+  marking-room h = ltb-false (length bytes) (at + markingLength wide) (sym e ∙ h)
+
+  pub marking-room-not : not few ≡ true → at + markingLength wide ≤ length bytes
+  marking-room-not h = marking-room (not-true few h)
 
   pub held-none : few ≡ true → emptyMarking ≡ markingHeld wide bytes at
   unfolding markingHeld
@@ -47,7 +52,7 @@ module _ (wide : Bool) (bytes : List ℕ) (at : ℕ) (few : Bool) (n : ℕ) (hn 
   unfolding markingPut
   put-some m bytes′ h k = k ∙ ap (λ (t : Bool). when t then bytes else sets bytes at (markingBytes wide m)) (sym (not-true few h) ∙ e)
 
-pub ruleset lone = (room, room-not, held-none, held-some, put-nothing, put-some)
+pub ruleset lone = (marking-room, marking-room-not, held-none, held-some, put-nothing, put-some)
 
 pub length-marking : (wide : Bool) (m : Marking) → length (markingBytes wide m) ≡ markingLength wide
 unfolding markingBytes

@@ -2,7 +2,7 @@
 use mathlib.Core.Path.{_≡_, refl, sym, ap, _∙_}
 use mathlib.Core.Bool.{Bool, true, false}
 use mathlib.Core.List.{List, [], _∷_, _++_}
-use Prim.Native.Nat.{ℕ, suc, _+_, _-_, _*_, _≤_, _<_}
+use Prim.Native.Nat.{ℕ, suc, _+_, _-_, _*_, _^_, _≤_, _<_}
 use native.Mathlib.Nat.{add-zero, zero-add}
 use native.Mathlib.Numerals.{add-one}
 use native.Mathlib.Omega.{arith}
@@ -57,6 +57,9 @@ module _ (wide : Bool) (s : Set) (e : Bool) (h : e ≡ isEmpty s) where
   place-one at n hn t = omega (arith, length-one t)
 
   module _ (t : e ≡ false) (at : ℕ) (out : List ℕ) (room : at + rowsLength wide (rowsFor s) ≤ length out) where
+    pub row-fits : (n : ℕ) → n ≡ setLength wide → length out < 2 ^ 64 → at + 1 + n < 2 ^ 64
+    row-fits n hn l = omega (arith, length-one t)
+
     pub room-key : at < length out
     room-key = omega (arith, length-one t)
 

@@ -1,28 +1,28 @@
 use borrow.Author.Needs.{needs}
-use Rattle.graphfile.proofs.Filling.{read-long, bare-taken, bare-refused}
+use Rattle.graphfile.proofs.Filling.{read-room, bare-found, bare-refused}
 use Rattle.graphfile.proofs.reader.read_bare.Statement.{statement}
 use Rattle.graphfile.proofs.reader.read_bare.Tie as tie
 
 take-requires : tie.Need-take-requires
-take-requires c κs = search (read-long, bare-taken, bare-refused, needs)
+take-requires c κs = search (read-room, bare-found, bare-refused, needs)
 
 is-done-requires : tie.Need-is-done-requires
-is-done-requires c κs = search (read-long, bare-taken, bare-refused, needs)
+is-done-requires c κs = search (read-room, bare-found, bare-refused, needs)
 
 is-wide-requires : tie.Need-is-wide-requires
-is-wide-requires c κs = search (read-long, bare-taken, bare-refused, needs)
+is-wide-requires c κs = search (read-room, bare-found, bare-refused, needs)
 
 set-at-requires : tie.Need-set-at-requires
-set-at-requires c κs = search (read-long, bare-taken, bare-refused, needs)
+set-at-requires c κs = search (read-room, bare-found, bare-refused, needs)
 
 state-in-requires : tie.Need-state-in-requires
-state-in-requires c κs = search (read-long, bare-taken, bare-refused, needs)
+state-in-requires c κs = search (read-room, bare-found, bare-refused, needs)
 
 returns : tie.Need-returns
-returns c = search (read-long, bare-taken, bare-refused, needs)
+returns c = search (read-room, bare-found, bare-refused, needs)
 
 returns-2 : tie.Need-returns-2
-returns-2 c = search (read-long, bare-taken, bare-refused, needs)
+returns-2 c = search (read-room, bare-found, bare-refused, needs)
 
 pub read-bare-spec : {M : Type 1} → statement M
 read-bare-spec =
