@@ -68,6 +68,9 @@ module _ (wide : Bool) (n long : ℕ) (e : long ≡ rowsLength wide n) where
   pub place-fits : (head : ℕ) → n ≤ 65536 * relationCount → head ≤ 84 → head + long < 2 ^ 64
   place-fits head l h = omega (arith, rows-most wide n)
 
+  pub file-fits : (head : ℕ) → n ≤ width * relationCount → head ≤ 84 → head + long < 2 ^ 64
+  file-fits head l h = omega (arith, rows-most wide n)
+
   pub entry-fits : n ≤ width * relationCount → long < 65536
   entry-fits l = omega (arith, rows-most wide n)
 
@@ -166,4 +169,4 @@ events-found bytes w events hw h = h ∙ ap (λ (b : Bool). setAt b bytes events
 
 pub ruleset walking = (row-there, key-there, key-before, events-found)
 
-pub ruleset forms = (wide-by, form-by, count-at, offset-at, key-room, key-at, row-fits, row-at, head-room, head-long, head-in-is, state-in-is, marking-is, head-is, head-none, head-some, place-fits, entry-fits)
+pub ruleset forms = (wide-by, form-by, count-at, offset-at, key-room, key-at, row-fits, row-at, head-room, head-long, head-in-is, state-in-is, marking-is, head-is, head-none, head-some, place-fits, file-fits, entry-fits)

@@ -67,6 +67,10 @@ module _ (g : Graph) (out : List ℕ) (rows head long : ℕ) (wide : Bool) (hw :
         ∙ sym (buffer-is g (judgedRoom g (length out)) true (ap isDone (enough l)) out),
   )
 
+pub file-room : (tables out : List ℕ) (rows head long : ℕ) (wide : Bool) → rows ≡ rowsBefore tables relationCount → head ≡ headLength wide
+    → long ≡ rowsLength wide rows → head + long ≤ length out → headLength wide + rowsLength wide (rowsBefore tables relationCount) ≤ length out
+file-room tables out rows head long wide hl hh hr l = omega (arith, hr ∙ ap (rowsLength wide) hl)
+
 -- ---- judged first
 
 module _ (g : Graph) (out : List ℕ) (a : Answer) (d : Bool) (e : a ≡ judged g) (t : d ≡ isDone a) where

@@ -19,7 +19,14 @@ state-in-requires : tie.Need-state-in-requires
 state-in-requires c κs = search (read-room, bare-found, bare-refused, needs)
 
 returns : tie.Need-returns
-returns c = search (read-room, bare-found, bare-refused, needs)
+returns c =
+    let set = c .before in
+    let wide = set .before in
+    let test = wide .before in
+    let done = test .before in
+    let took = done .before in
+    bare-found _ _ _ (took .take .ensures .0) (done .is-done .ensures) _ _ _ _ (wide .is-wide .ensures) (test .if1 .taken) (set .set-at .ensures) (c .state-in .ensures)
+    (took .take .ensures .1)
 
 returns-2 : tie.Need-returns-2
 returns-2 c = search (read-room, bare-found, bare-refused, needs)

@@ -25,13 +25,24 @@ is-done-requires-2 : tie.Need-is-done-requires-2
 is-done-requires-2 c κs = search needs
 
 returns-3 : tie.Need-returns-3
-returns-3 c = search (front-entries, needs)
+returns-3 c =
+    let entries = c .before .before in
+    let head = entries .before in
+    let first = head .before .before .before in
+    front-entries _ _ (first .before .head-length .ensures .0) (first .if1 .left) _ _ (head .before .before .judge-head .ensures) (head .before .is-done .ensures) (head .if2 .left)
+    _ _ (entries .judge-entries .ensures) (c .before .is-done2 .ensures) (c .if3 .taken)
 
 judge-end-requires : tie.Need-judge-end-requires
 judge-end-requires c κs = search (head-kept, needs)
 
 returns-4 : tie.Need-returns-4
-returns-4 c = search (front-end, needs)
+returns-4 c =
+    let left = c .before in
+    let entries = left .before .before in
+    let head = entries .before in
+    let first = head .before .before .before in
+    front-end _ _ (first .before .head-length .ensures .0) (first .if1 .left) _ _ (head .before .before .judge-head .ensures) (head .before .is-done .ensures) (head .if2 .left)
+    _ _ (entries .judge-entries .ensures) (left .before .is-done2 .ensures) (left .if3 .left) _ (c .judge-end .ensures)
 
 pub judge-before-rows-spec : {M : Type 1} → statement M
 judge-before-rows-spec =
