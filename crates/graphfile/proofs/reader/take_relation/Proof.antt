@@ -14,7 +14,7 @@ take-rows-requires : tie.Need-take-rows-requires
 take-rows-requires c κs = search (rows-end, rows-few, needs)
 
 returns : tie.Need-returns
-returns c = 
+returns c =
     let taken = c .take-rows .ensures in
     let count = c .before .before in
     relation-taken _ _ _ _ _ _ _ (count .before .earlier-rows .ensures .0) (count .count-in .ensures .0) (taken .0) (taken .1)

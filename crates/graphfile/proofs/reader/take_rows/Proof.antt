@@ -50,7 +50,7 @@ is-done-requires : tie.Need-is-done-requires Inv-loop μ-loop
 is-done-requires c κs = search needs
 
 returns : tie.Need-returns Inv-loop μ-loop
-returns c = 
+returns c =
     let done = c .before in
     let judged = done .before in
     let above = judged .before in
