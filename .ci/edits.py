@@ -13,7 +13,8 @@ proof refuses it; rt passes these two lines over:
 `refuses:` is a folder of the crate's proofs/, that of a function, or a file there, as `Cases.antt`; a second word names a theorem or a
 fact in it. A refusal counts only as an error right there that is no echo of another and no misfit of the proof's shape.
 
-    .ci/edits.py --fit [CRATE..]    only whether each `old:` text still stands where it says, once; needs no run of rt
+    .ci/edits.py --fit [CRATE..]    only whether each `old:` text still stands where it says, once, and docs/STATEMENTS.md names the
+                                    same wrong versions; needs no run of rt
     .ci/edits.py [CRATE..]          where each wrong version was refused
 """
 import collections
@@ -116,9 +117,6 @@ def named():
     return names
 
 
-STATED = named()
-
-
 def files(crates):
     for path in sorted(glob.glob(os.path.join(ROOT, "crates", "*", "must-fail", "*.edit"))):
         crate = path.split(os.sep)[-3]
@@ -126,10 +124,21 @@ def files(crates):
             yield crate, path
 
 
+def unnamed(crates):
+    """The wrong versions that are kept and not named in docs/STATEMENTS.md, and those named and not kept."""
+    stated, seen = named(), set()
+    for crate, path in files(crates):
+        seen.add(crate)
+        names = [w.name for w in wrongs(path)[0]]
+        yield from (f"docs/STATEMENTS.md does not name {name} of {os.path.relpath(path, ROOT)}" for name in names if name not in stated[crate])
+        stated[crate].difference_update(names)
+    yield from (f"docs/STATEMENTS.md: {name} is no kept wrong version of {crate}" for crate in sorted(seen) for name in sorted(stated[crate]))
+
+
 def fit(crates):
-    bad = [(path, fault) for crate, path in files(crates) for fault in misfits(crate, path)]
-    for path, fault in bad:
-        print(f"{os.path.relpath(path, ROOT)}: {fault}")
+    bad = [f"{os.path.relpath(path, ROOT)}: {fault}" for crate, path in files(crates) for fault in [*wrongs(path)[1], *misfits(crate, path)]]
+    bad += unnamed(crates)
+    print(*bad, sep="\n") if bad else None
     sys.exit(bool(bad))
 
 
@@ -137,17 +146,11 @@ def main(crates):
     kept, bad = collections.Counter(), 0
     for crate, path in files(crates):
         told, faults = judge(crate, path)
-        names = [w.name for w in wrongs(path)[0]]
-        faults += [f"docs/STATEMENTS.md does not name {name}" for name in names if name not in STATED[crate]]
-        STATED[crate].difference_update(names)
         print(*told, sep="\n") if told else None
         for fault in faults:
             print(f"crates/{crate}/must-fail/{os.path.basename(path)}: {fault}")
         kept[crate] += len(told)
         bad += len(faults)
-    for crate, name in ((c, name) for c in kept for name in sorted(STATED[c])):
-        print(f"docs/STATEMENTS.md: {name} is no kept wrong version of {crate}")
-        bad += 1
     print(f"wrong versions refused, each by its own proof: {sum(kept.values())} ({', '.join(f'{c} {n}' for c, n in kept.items())})")
     sys.exit(bad != 0)
 

@@ -108,11 +108,11 @@ def rows_of(crate, functions, names):
 
 def called(crate, symbol):
     """What a function's theorem is called after: calllog's `ask` is not the engine's, a table's `row` is not that of rows, and the plain
-    engine and the desk have a `step` of their own."""
+    engine and the desk have a `step` of their own, months a `join`."""
     parts = symbol.split("::")
     both = parts[-2][0].isupper() or parts[-2] in ("tables", "log")
     name = "-".join(parts[-2:] if both else parts[-1:]).replace("_", "-")
-    if crate in ("plain", "desk"):
+    if crate in ("plain", "desk", "months"):
         return f"{crate}-{name}"
     return "log-ask" if symbol == "calllog::trace::ask" else name
 
@@ -129,8 +129,10 @@ def outcome_of(symbol, said, modules, theorem):
     params = said["function"]["params"]
     places = ["s" + " .1" * i + " .0" for i, param in enumerate(params) if param["ty"]["name"].endswith("RefMut")]
     lent = bool(places)
-    gives = said["function"]["result"]["name"] != "unit"
-    if kind != {(True, True): "OnceLent", (True, False): "OnceLeft"}.get((lent, gives), "Once"):
+    result = said["function"]["result"]["name"]
+    gives = result != "unit"
+    plain = "OnceSeen" if "Ref" in result else "Once"  # of a reference the contract says what it shows
+    if kind != {(True, True): "OnceLent", (True, False): "OnceLeft"}.get((lent, gives), plain):
         faults.append(f"{PROMISES}/Outcomes.antt: the theorem of {symbol} is not of all that it gives and leaves")
     for place in places:
         if f"now ({place})" not in left:

@@ -9,12 +9,13 @@ long read(int file, void *bytes, size_t count);
 void *memset(void *bytes, int value, size_t count);
 
 enum { MINE, LISTING, REWRITE, REPLAY, STEP, PLAIN_STEP, PLAIN_ACCEPTING, PLAIN_REPLAY, FILL, SUMMARY, DESK_OPEN, DESK_STEP, DESK_CLOSE };
-enum { FINISH = DESK_CLOSE + 1, SHUT_BY, OPENING, MARKS, MARKS_TEXT, GUESSES_TEXT, REPLAYS, DESK_FINISH, FUNCTIONS, END = 255 };
+enum { FINISH = DESK_CLOSE + 1, SHUT_BY, OPENING, MARKS, MARKS_TEXT, GUESSES_TEXT, REPLAYS, DESK_FINISH, TALLY, TALLY_JOIN, TALLY_RELATIONS, FUNCTIONS, END = 255 };
 enum { ROOM = 1 << 18, PAST = 64, UNTOUCHED = 165 };
 
 static const char *const names[FUNCTIONS] = {"mine",         "listing", "rewrite", "replay",    "step",      "plain step", "plain accepting",
                                              "plain replay", "fill",    "summary", "desk open", "desk step", "desk close", "finish",
-                                             "shut by",      "opening", "marks", "marks text", "guesses text", "replays", "desk finish"};
+                                             "shut by",      "opening", "marks", "marks text", "guesses text", "replays", "desk finish",
+                                             "tally",        "tally join", "tally relations"};
 static uint8_t input[ROOM], beside[ROOM];
 static uint16_t memory[(ROOM + PAST) / 2], lists[4][ROOM / 2];
 static uint8_t *const lent = (uint8_t *)memory;
@@ -76,8 +77,10 @@ static int take_lists(void) {
     return 1;
 }
 
-/* What is lent has contents: a marking, or a desk's table. */
-static int is_altered(int function) { return function == STEP || function == PLAIN_STEP || (function >= DESK_OPEN && function <= DESK_CLOSE); }
+/* What is lent has contents: a marking, a desk's table, or a tally that is joined with another. */
+static int is_altered(int function) {
+    return function == STEP || function == PLAIN_STEP || (function >= DESK_OPEN && function <= DESK_CLOSE) || function == TALLY_JOIN;
+}
 
 static int is_plain(int function) { return function >= PLAIN_STEP && function <= PLAIN_REPLAY; }
 
@@ -107,6 +110,9 @@ static uint64_t call(int function, size_t n, size_t m, size_t room, uint8_t acti
     case MARKS_TEXT: return skelfora_marks_text(input, n, beside, place, beside + place, m - place, lent, room);
     case GUESSES_TEXT: return skelfora_guesses_text(input, n, beside, m, lent, room);
     case REPLAYS: return skelfora_replays(input, n, beside, m, lent, room);
+    case TALLY: return skelfora_tally(input, n, lent, room);
+    case TALLY_JOIN: return skelfora_tally_join(lent, room, input, n);
+    case TALLY_RELATIONS: return skelfora_tally_relations(input, n, activity, lent, room);
     default: return skelfora_step(input, n, lent, room, activity);
     }
 }
@@ -130,6 +136,8 @@ _Static_assert(SKELFORA_MARKING_SIZE == 4 * 8, "a marking has four sets");
 _Static_assert(SKELFORA_HEAD_SIZE == 1 + 8 + SKELFORA_MARKING_SIZE, "a head has A, the events and a marking");
 _Static_assert(SKELFORA_HEAD_STORED == SKELFORA_HEAD_SIZE - 8, "a file lacks one set of it");
 _Static_assert(SKELFORA_PLACE_SIZE == 1 + SKELFORA_MARKING_SIZE, "a place has a byte and a marking");
+_Static_assert(SKELFORA_TALLY_SIZE == 4608 * 8, "a tally has 4,608 sets");
+_Static_assert(SKELFORA_KNOWN_SIZE == 1 + 8 + 4 * 64 * 8, "A, the events and four relations");
 _Static_assert(SKELFORA_TABLE_ROOM == SKELFORA_PLACES * SKELFORA_PLACE_SIZE, "a table has 32 places");
 
 /* What the comparison with the judge does not try: a listing's buffer that is too short gets 7 and stays as it was. */

@@ -57,6 +57,8 @@ enum {
 #define SKELFORA_LISTING_ROOM 147506 /* a listing; skelfora_listing asks for no less */
 #define SKELFORA_SUMMARY_SIZE 128    /* a summary: a byte for each of 64 activities, twice */
 #define SKELFORA_MARKS_ROOM 98       /* the text of marks; the functions that write it ask for no less */
+#define SKELFORA_TALLY_SIZE 36864    /* a tally of months: 4,608 sets of 8 bytes; more bytes are not looked at */
+#define SKELFORA_KNOWN_SIZE 2057     /* what a tally gives: A, the events, 64 rows of 8 bytes for each of four relations */
 #define SKELFORA_TRACES_ROOM 1024    /* a byte for each trace of any log: labels, guesses, replays */
 #define SKELFORA_MARKING_SIZE 32     /* a marking: executed, pending, included, enabled, 8 bytes each */
 #define SKELFORA_HEAD_SIZE 41        /* a head: A, then events, then a marking */
@@ -78,6 +80,21 @@ uint64_t skelfora_listing(const uint8_t *log, size_t log_len, uint8_t profile, u
 /* Mines a log in a profile and counts its pairs: byte a of out is how many other events a is a condition for, byte 64 + a how many
  * others it excludes; 0 and 0 for what is no event. Gives the number; the log is judged before the room. */
 uint64_t skelfora_summary(const uint8_t *log, size_t log_len, uint8_t profile, uint8_t *out, size_t room);
+
+/* Months put together. A tally holds A and all that steps 1 to 8 of mining need to know of some traces: docs/FORMATS.md has its layout. */
+
+/* Fills the first SKELFORA_TALLY_SIZE bytes of tally with a log, whatever they held. Refusals: the log's, SKELFORA_BUFFER_TOO_SMALL,
+ * SKELFORA_ABOVE_LIMIT for its A above 64. Gives the number; refused, tally stays as it was. */
+uint64_t skelfora_tally(const uint8_t *log, size_t log_len, uint8_t *tally, size_t room);
+
+/* Joins another tally to the first, which then is that of the traces of both. Refusals: SKELFORA_BUFFER_TOO_SMALL where either has too few
+ * bytes, SKELFORA_ABOVE_LIMIT where either's A is above 64. Gives the number; refused, tally stays as it was. */
+uint64_t skelfora_tally_join(uint8_t *tally, size_t room, const uint8_t *other, size_t other_len);
+
+/* What a tally gives in a profile: into the first SKELFORA_KNOWN_SIZE bytes of out A, the events, and the rows of conditions, responses,
+ * includes and excludes after step 8; a condition stands in the row of its target. Refusals: SKELFORA_WRONG_ARGUMENT, the tally's
+ * SKELFORA_BUFFER_TOO_SMALL and SKELFORA_ABOVE_LIMIT, SKELFORA_BUFFER_TOO_SMALL for out. Gives the number; refused, out stays as it was. */
+uint64_t skelfora_tally_relations(const uint8_t *tally, size_t tally_len, uint8_t profile, uint8_t *out, size_t room);
 
 /* Reads a graph file and writes it again into the first bytes of out.
  * Gives number + 256 * length of the file. */

@@ -5,8 +5,8 @@ from command import Fault, reason
 FIGURES = b"0123456789"
 SPACE = b" \t\r\n"
 
-# One byte more than the most traces that a log can have, as text with a line each: a longer file is read no further.
-MOST = 8 * 1025
+# No file of labels is longer, however its text is spaced: a log has at most 1,024 traces.
+MOST = 1 << 20
 
 
 def read(path):
@@ -14,9 +14,11 @@ def read(path):
     The figures' own bytes, 48 to 57, are no labels, so no file of labels is taken for the other kind."""
     try:
         with open(path, "rb") as file:
-            data = file.read(MOST)
+            data = file.read(MOST + 1)
     except OSError as error:
         raise Fault(f"can't read {path}: {reason(error)}") from error
+    if len(data) > MOST:
+        raise Fault(f"{path} is no file of labels: it has more than {MOST:,} bytes")
     if data.strip(FIGURES + SPACE):
         return data
     return bytes(byte - FIGURES[0] for byte in data if byte in FIGURES)

@@ -11,14 +11,14 @@ from command import REFUSED, Command, Fault, Parser, say, write
 
 SAMPLE = os.path.join(program.ROOT, "data", "L.log")
 
-# The profiles that the program knows; it takes the first where none is named.
+# The profiles that the program knows. Where none is named it takes light (02, 11/12): that is the program's rule, and none is added here.
 PROFILES = ("full", "light")
 
 ABOUT = """\
 Mines a log and lists its graph: the proved program `listing` reads the log, and what it writes is printed as it is.
 
-  ./list calls.log                       the listing of a file
-  ./list light calls.log                 of its light graph: without the many exclusions and inclusions of step 6
+  ./list calls.log                       the listing of a file, of its light graph
+  ./list full calls.log                  of its full graph: with the many exclusions and inclusions of step 6
   ./list - <calls.log                    of standard input
   ./list --names calls.names calls.log   in sentences, with the steps' names (./log writes both files)
 
@@ -31,7 +31,7 @@ def parser():
     words = Parser(prog="./list", usage="./list [full|light] [--names FILE] [LOG]", description=ABOUT, epilog=STATUS)
     words.add_argument("--names", metavar="FILE", help="print sentences; line k of FILE, counted from 0, is the name of activity k")
     words.add_argument(
-        "given", metavar="[full|light] [LOG]", nargs="*", help="the profile, full where none is named; a log (docs/FORMATS.md), - is standard input"
+        "given", metavar="[full|light] [LOG]", nargs="*", help="the profile, light where none is named; a log (docs/FORMATS.md), - is standard input"
     )
     return words
 

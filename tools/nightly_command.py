@@ -1,4 +1,4 @@
-"""./nightly: for each log of a folder with labels beside it, its listing and the marks of its full graph."""
+"""./nightly: for each log of a folder with labels beside it, the listing of its full graph and the marks of that graph."""
 import os
 
 import labels
@@ -9,8 +9,8 @@ import program
 from command import REFUSED, Command, Fault, Parser, reason, say, write
 
 ABOUT = """\
-The nightly run: for each log of a folder (NAME.log) that has labels beside it (NAME.labels), a line with its name, its listing, and the
-marks of its full graph. Logs go by name. Those without labels are named in one line, on standard error.
+The nightly run: for each log of a folder (NAME.log) that has labels beside it (NAME.labels), a line with its name, the listing of its full
+graph, and the marks of that graph. Logs go by name. Those without labels are named in one line, on standard error.
 
   ./nightly calls      all logs of the folder calls"""
 
@@ -36,10 +36,10 @@ def logs(folder):
 
 
 def listed(library, path):
-    """The text of one log, and the number of what refused it, 0 where nothing did. The listing is asked for without an argument, which means
-    the full graph."""
+    """The text of one log, and the number of what refused it, 0 where nothing did. The listing is that of the graph which is marked, so the
+    profile is named: without an argument it would be light (02, 11/12)."""
     data, beside = logfile.read(path + LOG), labels.read(path + LABELS)
-    listing = program.run("listing", data)
+    listing = program.run("listing", data, ["full"])
     number = logfile.refusal(listing)
     if number:
         return listing, number

@@ -15,6 +15,9 @@ SET = 8
 Sets = namedtuple("Sets", "executed pending included enabled")
 MARKING = SET * len(Sets._fields)
 
+# A tally, and what is read from it: A, the events, and four relations of 64 rows (docs/FORMATS.md).
+TALLY, RELATIONS = 36864, 1 + SET + 4 * 64 * SET
+
 PLACES, PLACE = 32, 1 + MARKING
 NO_PLACE = 255
 
@@ -42,6 +45,9 @@ TAKEN = {
     "skelfora_desk_step": [*BYTES, *BYTES, ctypes.c_size_t, ctypes.c_uint8],
     "skelfora_desk_close": [*BYTES, *BYTES, ctypes.c_size_t],
     "skelfora_desk_finish": [*BYTES, *BYTES, ctypes.c_size_t, *BYTES],
+    "skelfora_tally": [*BYTES, *BYTES],
+    "skelfora_tally_join": [*BYTES, *BYTES],
+    "skelfora_tally_relations": [*BYTES, ctypes.c_uint8, *BYTES],
 }
 
 

@@ -37,8 +37,10 @@ def count(number, word):
 
 
 def heading(counts):
+    """A year's listing counts no calls."""
+    things = [count(counts[what], word) for what, word in (("events", "step"), ("traces", "call")) if what in counts]
     relations = [count(counts[letter], word) for letter, word in RELATIONS.items()]
-    return f"{count(counts['events'], 'step')}, {count(counts['traces'], 'call')}; {', '.join(relations)}"
+    return f"{', '.join(things)}; {', '.join(relations)}"
 
 
 def groups(pairs, names):

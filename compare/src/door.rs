@@ -63,6 +63,12 @@ pub struct Door {
     /// graph file, table, place, the four steps of the way (with fewer than four bytes 7)
     /// -> number; the table is only looked at
     pub desk_finish: fn(&[u8], &[u8], usize, &mut [u8]) -> u64,
+    /// log, tally -> number
+    pub tally: Fill,
+    /// tally, another beside it, which is only looked at -> number
+    pub tally_join: fn(&mut [u8], &[u8]) -> u64,
+    /// tally, profile, relations (with less room than `RELATIONS_ROOM` 7) -> number
+    pub tally_relations: Mining,
 }
 
 /// No listing is longer: four relations of 4,096 lines of 8 bytes, 1,024 lines of at
@@ -87,6 +93,12 @@ pub const NO_ACTIVITY: u8 = 255;
 
 /// A set in bytes.
 pub const SET: usize = 8;
+
+/// A tally (02, 12/12).
+pub const TALLY_ROOM: usize = 36_864;
+
+/// What a tally gives: A, the events, and the rows of four relations.
+pub const RELATIONS_ROOM: usize = 1 + SET + 4 * 64 * SET;
 
 /// A lent marking: executed, pending, included, enabled (02, 6/12).
 pub const MARKING: usize = 4 * SET;

@@ -27,6 +27,20 @@ mod sys {
             out: *mut u8,
             room: usize,
         ) -> u64;
+        pub fn skelfora_tally(log: *const u8, log_len: usize, tally: *mut u8, room: usize) -> u64;
+        pub fn skelfora_tally_join(
+            tally: *mut u8,
+            room: usize,
+            other: *const u8,
+            other_len: usize,
+        ) -> u64;
+        pub fn skelfora_tally_relations(
+            tally: *const u8,
+            tally_len: usize,
+            profile: u8,
+            out: *mut u8,
+            room: usize,
+        ) -> u64;
         pub fn skelfora_replay(
             file: *const u8,
             file_len: usize,
@@ -201,6 +215,21 @@ mod calls {
         unsafe { sys::skelfora_summary(log.as_ptr(), log.len(), profile, lent, room) }
     }
 
+    pub fn tally(log: &[u8], tally: &mut [u8]) -> u64 {
+        let (lent, room) = (tally.as_mut_ptr(), tally.len());
+        unsafe { sys::skelfora_tally(log.as_ptr(), log.len(), lent, room) }
+    }
+
+    pub fn tally_join(tally: &mut [u8], other: &[u8]) -> u64 {
+        let (lent, room) = (tally.as_mut_ptr(), tally.len());
+        unsafe { sys::skelfora_tally_join(lent, room, other.as_ptr(), other.len()) }
+    }
+
+    pub fn tally_relations(tally: &[u8], profile: u8, out: &mut [u8]) -> u64 {
+        let (lent, room) = (out.as_mut_ptr(), out.len());
+        unsafe { sys::skelfora_tally_relations(tally.as_ptr(), tally.len(), profile, lent, room) }
+    }
+
     pub fn replay(file: &[u8], trace: &[u8]) -> u64 {
         unsafe { sys::skelfora_replay(file.as_ptr(), file.len(), trace.as_ptr(), trace.len()) }
     }
@@ -359,6 +388,9 @@ pub fn door() -> Option<Door> {
         desk_step: calls::desk_step,
         desk_close: calls::desk_close,
         desk_finish: calls::desk_finish,
+        tally: calls::tally,
+        tally_join: calls::tally_join,
+        tally_relations: calls::tally_relations,
     })
 }
 

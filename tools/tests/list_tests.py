@@ -7,7 +7,7 @@ import sys
 from trial import ROOT, Gave, holds, log_bytes, read, same, test
 
 L = bytes([66, 76, 1, 3, 2, 0, 0, 0, 3, 0, 3, 0, 2, 0, 0, 1, 2, 0, 2])
-LISTING = b"""\
+FULL = b"""\
 events 3 C 2 R 2 I 1 E 4 traces 2
 C 0 1
 C 0 2
@@ -22,7 +22,20 @@ T 0 3 0 1
 T 1 2 0 1
 """
 
-LIGHT = LISTING.replace(b"E 4", b"E 3").replace(b"E 2 1\n", b"")
+# Of the default: one exclusion fewer, E 2 1.
+LISTING = b"""\
+events 3 C 2 R 2 I 1 E 3 traces 2
+C 0 1
+C 0 2
+R 0 2
+R 1 2
+I 0 1
+E 0 0
+E 1 1
+E 2 2
+T 0 3 0 1
+T 1 2 0 1
+"""
 
 # Each number that refuses a log, and a log that gets it.
 REFUSED = {
@@ -38,7 +51,7 @@ def one_line(err):
     return err.endswith("\n") and err.count("\n") == 1 and err.startswith(("list: ", "log: "))
 
 
-@test("./list FILE, ./list - and what is piped in give 01's listing of L, and say nothing beside it")
+@test("./list FILE, ./list - and what is piped in give the light listing of L (02, 11/12), and say nothing beside it")
 def lists(folder):
     wanted = Gave(0, LISTING, "")
     same(read("data", "L.log"), L, "data/L.log")
@@ -51,12 +64,13 @@ def lists(folder):
 
 @test("./list full and ./list light give the listing of that profile, of a file and of what is piped in")
 def lists_in_a_profile(folder):
-    for profile, wanted in (("full", LISTING), ("light", LIGHT)):
+    for profile, wanted in (("full", FULL), ("light", LISTING)):
         same(folder.run("./list", profile, "data/L.log"), Gave(0, wanted, ""), f"{profile}, a file")
         same(folder.run("./list", profile, data=L), Gave(0, wanted, ""), f"{profile}, a pipe")
         same(folder.run("./list", profile, "-", data=L[:18]).out, b"refused 1\n", f"{profile}, refused")
-    os.symlink("data/L.log", folder.at("light"))
-    same(folder.run("./list", "./light"), Gave(0, LISTING, ""), "a log that is called light")
+    for name in ("full", "light"):
+        os.symlink("data/L.log", folder.at(name))
+        same(folder.run("./list", f"./{name}"), Gave(0, LISTING, ""), f"a log that is called {name}")
     for words in (["dark", "data/L.log"], ["", "data/L.log"], ["light", "full", "data/L.log"], ["data/L.log", "light"]):
         gave = folder.run("./list", *words)
         same((gave.status, gave.out, one_line(gave.err)), (2, b"", True), " ".join(words))
@@ -137,11 +151,12 @@ def used_wrongly(folder):
 @test("./list --names: a sentence for each pair, grouped by step; too few names are one line; a refused log as before")
 def in_words(folder):
     folder.put("L.names", "Request\nInspect\nAssign\n")
-    gave = folder.run("./list", "--names", "L.names", "data/L.log")
-    same(gave, Gave(0, IN_WORDS.encode(), ""), "L in words")
     light = IN_WORDS.replace("4 excludes", "3 excludes").replace("  Assign shuts Inspect out\n", "")
-    for words in (["light", "--names", "L.names", "data/L.log"], ["--names", "L.names", "light", "data/L.log"]):
-        same(folder.run("./list", *words), Gave(0, light.encode(), ""), " ".join(words))
+    for profile, wanted in (("full", IN_WORDS), ("light", light)):
+        for words in ([profile, "--names", "L.names", "data/L.log"], ["--names", "L.names", profile, "data/L.log"]):
+            same(folder.run("./list", *words), Gave(0, wanted.encode(), ""), " ".join(words))
+    gave = folder.run("./list", "--names", "L.names", "data/L.log")
+    same(gave, Gave(0, light.encode(), ""), "L in words, no profile named")
     folder.put("few.names", "Request\nInspect\n")
     gave = folder.run("./list", "--names", "few.names", "data/L.log")
     same(gave, Gave(3, b"", "list: few.names has 2 names, and the log has 3 activities\n"), "too few names")

@@ -27,6 +27,19 @@ def marks_of_g(folder):
         same((gave.status, gave.out, gave.err), (0, MARKS, ""), f"labels {labels!r}")
 
 
+@test("./marks: labels spaced widely are read to the last, and a file too long for labels is refused in one line")
+def marks_of_long_labels(folder):
+    folder.put("calls.log", CALLS)
+    folder.put("wide.labels", b"".join(b"%d" % label + 5000 * b" " for label in LABELS))
+    folder.put("more.labels", b"101011" + 20000 * b" " + b"1")
+    folder.put("endless.labels", 2**20 * b"\1" + b"\1")
+    gave = folder.run("./marks", G, "calls.log", "wide.labels")
+    same((gave.status, gave.out, gave.err), (0, MARKS, ""), "5,000 spaces after each")
+    same(folder.run("./marks", G, "calls.log", "more.labels").out, b"refused 18\n", "a seventh label after 20,000 spaces")
+    gave = folder.run("./marks", G, "calls.log", "endless.labels")
+    same((gave.status, gave.out, gave.err.count("\n")), (3, b"", 1), "more bytes than labels can have")
+
+
 @test("./marks --guesses: guesses in place of the verdicts, and none where there is nothing to divide by")
 def marks_of_guesses(folder):
     folder.put("labels", LABELS)
@@ -89,7 +102,7 @@ def nightly(folder):
     sample = read("data", "L.log")
     for name, data in (("b.log", sample), ("b.labels", b"11"), ("a.log", sample), ("a.labels", b"10"), ("c.log", sample), ("d.log", b"no log")):
         folder.put(os.path.join("calls", name), data)
-    listing = folder.run("./list", "data/L.log").out
+    listing = folder.run("./list", "full", "data/L.log").out
     one = b"TP 1\nFP 1\nFN 0\nTN 0\nprecision 1 2\nrecall 1 1\naccuracy 1 2\n"
     two = b"TP 2\nFP 0\nFN 0\nTN 0\nprecision 2 2\nrecall 2 2\naccuracy 2 2\n"
     gave = folder.run("./nightly", "calls")
@@ -100,3 +113,11 @@ def nightly(folder):
     gave = folder.run("./nightly", "calls")
     wanted = b"a.log\n" + listing + one + b"b.log\n" + listing + two + b"c.log\n" + listing + b"refused 18\nd.log\nrefused 2\n"
     same((gave.status, gave.out, gave.err.count("\n")), (1, wanted, 2), "labels that do not fit, and no log")
+
+
+@test("./nightly prints what it printed when 9/12 had landed, byte for byte: each kind of log, of labels and of refusal (02, 11/12)")
+def nightly_as_before(folder):
+    gave = folder.run("./nightly", os.path.join(ROOT, "tools", "tests", "nightly"))
+    same((gave.status, gave.out), (1, read("tools", "tests", "nightly.printed")), "what ./nightly printed before light became the listing's default")
+    said = [line.split(": ")[1:3] for line in gave.err.splitlines()]
+    same(said, [["cut.log", "1"], ["few.log", "18"], ["two.log", "19"], ["no labels beside no-labels.log"]], "what it said beside")

@@ -1,5 +1,6 @@
 """What the tests share: a folder to try things in, commands and what they gave, and the list of tests."""
 import os
+import re
 import signal
 import subprocess
 from collections import namedtuple
@@ -12,6 +13,9 @@ TESTS = []
 LONGEST = 300
 
 Gave = namedtuple("Gave", "status out err")
+
+# What a command says of a build that takes longer than usual: it tells of the machine, not of the command.
+SLOW = re.compile(r"(?m)^\w+: still building: .*\n")
 
 
 class Different(Exception):
@@ -53,7 +57,7 @@ def end(process):
 class Folder:
     """A folder that has the repository's commands, data and pages by links, so that what is written there touches nothing."""
 
-    LINKS = ["list", "log", "call", "desk", "marks", "nightly", "library", "classroom", "data", "docs", "crates", "target"]
+    LINKS = ["list", "log", "call", "desk", "marks", "nightly", "year", "library", "classroom", "data", "docs", "crates", "target"]
 
     def __init__(self, path):
         self.path = path
@@ -90,7 +94,7 @@ class Folder:
             raise Different(f"{' '.join(words)}: no end after {LONGEST} s") from None
         finally:
             end(begun)
-        return Gave(begun.returncode, out, (err or b"").decode())
+        return Gave(begun.returncode, out, SLOW.sub("", (err or b"").decode()))
 
     def shell(self, text):
         return self.run("bash", "-euo", "pipefail", "-c", text)

@@ -1,4 +1,4 @@
-//! The benchmark: ns an event for judging, mining and replaying, on six shapes of log and
+//! The benchmark: ns an event for judging, mining and replaying, on ten shapes of log and
 //! at growing sizes; the yardstick, and beside it the proved code where it is linked.
 //!
 //! All calls go through the functions of `port`, so both do the same work from the
@@ -6,9 +6,11 @@
 //! back an empty graph then, so `net judge` leaves out what the refusal of no bytes costs. Lent buffers are not cleared between calls. The implementations take turns,
 //! a tenth of a millisecond each, and the best turn counts: other work on the machine then
 //! disturbs both alike, and the best turns hardly at all.
-use compare::door::{Door, FULL, GRAPH_ROOM, LIGHT, MARKING, TABLE_ROOM};
-use compare::seeds::finish;
+use compare::door::{
+    Door, FULL, GRAPH_ROOM, LIGHT, LISTING_ROOM, MARKING, RELATIONS_ROOM, TABLE_ROOM, TALLY_ROOM,
+};
 use compare::seeds::shapes::{of_size, small, SHAPES, SIZES};
+use compare::seeds::{finish, log_file, Prng};
 use compare::{judge, port, yardstick};
 use std::hint::black_box;
 use std::time::Instant;
@@ -138,16 +140,29 @@ fn head(linked: bool) {
     println!("{line}");
 }
 
-fn row(doors: &[Door], sample: &Sample) {
+/// Prints the row; it gives, for each column, the ratio to the yardstick where there is one.
+fn row(doors: &[Door], sample: &Sample) -> [Option<f64>; 7] {
     let mut line = format!("{:<14}{:>7}", sample.name, sample.events);
     line += &format!("{:>7}", sample.traces.len());
-    for column in figures(doors, sample) {
+    let columns = figures(doors, sample);
+    for column in &columns {
         line += &format!("{:>12.2}", column[0]);
         for theirs in &column[1..] {
             line += &format!("{theirs:>9.2}{:>7.2}", theirs / column[0]);
         }
     }
     println!("{line}");
+    columns.map(|column| column.get(1).map(|theirs| theirs / column[0]))
+}
+
+/// Mean and worst ratio of mining, in both profiles, over all rows.
+fn ratios(rows: &[[Option<f64>; 7]]) {
+    for (k, name) in [(2, COLUMNS[2]), (3, COLUMNS[3])] {
+        let all: Vec<f64> = rows.iter().filter_map(|row| row[k]).collect();
+        let worst = all.iter().copied().fold(0.0, f64::max);
+        let mean = all.iter().sum::<f64>() / all.len() as f64;
+        println!("{name}, port by yardstick: mean {mean:.2}, worst {worst:.2}");
+    }
 }
 
 /// So many steps of a call are one turn's work.
@@ -225,6 +240,33 @@ fn step_figures(doors: &[Door], file: &[u8], trace: &[u8]) -> [Vec<f64>; 5] {
     ]
 }
 
+/// Whole listings: so many calls, steps a call and activities, any activity at each place. In
+/// microseconds a listing.
+const LISTED: [(usize, usize, usize); 4] =
+    [(40, 12, 40), (300, 100, 64), (1024, 32, 64), (64, 500, 64)];
+
+fn listings(doors: &[Door]) {
+    println!("a listing, microseconds: calls, steps a call, activities");
+    for (calls, steps, activities) in LISTED {
+        let mut prng = Prng::new(11);
+        let mut call = || (0..steps).map(|_| prng.below(activities) as u8).collect();
+        let traces: Vec<Vec<u8>> = (0..calls).map(|_| call()).collect();
+        let log = log_file(activities as u8, &traces);
+        let mut out = vec![0; LISTING_ROOM];
+        let ns = best(doors, |door| {
+            black_box((door.listing)(black_box(&log), FULL, &mut out));
+        });
+        let mut line = format!(
+            "{calls:>6}{steps:>6}{activities:>6}{:>12.1}",
+            ns[0] / 1000.0
+        );
+        for theirs in &ns[1..] {
+            line += &format!("{:>12.1}{:>7.2}", theirs / 1000.0, theirs / ns[0]);
+        }
+        println!("{line}");
+    }
+}
+
 /// Half-done calls: the hard graphs, and the graph of the small log after half of a call. In
 /// microseconds a search, the graph file read in each.
 fn ways(doors: &[Door]) {
@@ -290,6 +332,51 @@ fn replays(doors: &[Door]) {
     }
 }
 
+/// Filling a tally, in ns an event; joining another into it, and reading the relations in either
+/// profile, in microseconds a call.
+fn months(doors: &[Door]) {
+    println!("months: tally in ns an event; join, relations, light in microseconds a call");
+    let mut samples = vec![sample("small", small(3))];
+    for (name, shape) in SHAPES {
+        samples.push(sample(name, of_size(shape, SIZES[0], 11)));
+        samples.push(sample(name, of_size(shape, SIZES[3], 11)));
+    }
+    let mut other = vec![0; TALLY_ROOM];
+    assert_eq!((doors[0].tally)(&samples[0].log, &mut other), 0);
+    for sample in samples {
+        let mut tally = vec![0; TALLY_ROOM];
+        let filling = best(doors, |door| {
+            assert_eq!((door.tally)(black_box(&sample.log), &mut tally), 0);
+        });
+        let mut line = format!("{:<14}{:>7}", sample.name, sample.events);
+        line += &beside(&filling, sample.events as f64);
+        let mut relations = vec![0; RELATIONS_ROOM];
+        let mut read = |profile: u8| {
+            best(doors, |door| {
+                let given = (door.tally_relations)(black_box(&tally), profile, &mut relations);
+                assert_eq!(given, 0);
+            })
+        };
+        let reading = [read(FULL), read(LIGHT)];
+        let joining = best(doors, |door| {
+            assert_eq!((door.tally_join)(&mut tally, black_box(&other)), 0);
+        });
+        for ns in [joining].iter().chain(&reading) {
+            line += &beside(ns, 1000.0);
+        }
+        println!("{line}");
+    }
+}
+
+/// The yardstick's figure, and the others' with how many times it they take.
+fn beside(ns: &[f64], unit: f64) -> String {
+    let mut text = format!("{:>12.2}", ns[0] / unit);
+    for theirs in &ns[1..] {
+        text += &format!("{:>9.2}{:>7.2}", theirs / unit, theirs / ns[0]);
+    }
+    text
+}
+
 fn main() {
     let mut doors = vec![yardstick::door::DOOR];
     doors.extend(port::door());
@@ -300,15 +387,27 @@ fn main() {
     if asked("--steps") {
         return steps(&doors);
     }
+    if asked("--listings") {
+        return listings(&doors);
+    }
+    if asked("--months") {
+        return months(&doors);
+    }
     if asked("--replays") {
         return replays(&doors);
     }
     head(doors.len() == 2);
-    row(&doors, &sample("small", small(3)));
+    let mut rows = vec![row(&doors, &sample("small", small(3)))];
     for (name, shape) in SHAPES {
         for size in SIZES {
-            row(&doors, &sample(name, of_size(shape, size, 11)));
+            rows.push(row(&doors, &sample(name, of_size(shape, size, 11))));
         }
+    }
+    if doors.len() > 1 {
+        ratios(&rows);
+    }
+    if asked("--rows") {
+        return;
     }
     steps(&doors);
     ways(&doors);

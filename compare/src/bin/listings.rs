@@ -1,5 +1,6 @@
 //! Logs for the listing program, with the judge's listings: `listings DIR` writes NAME.log,
-//! NAME.full and NAME.light for each. The script `listings` runs the program on them.
+//! NAME.full and NAME.light for each. The script `listings` runs the program on them; where
+//! it names no profile, NAME.light is what has to come (02, 11/12).
 //! The number beside a refused log is what 01 says of it; the judge has to agree.
 use compare::judge::listing::listing;
 use compare::judge::miner::Profile;
@@ -86,10 +87,16 @@ fn long() -> Vec<(&'static str, u8, Vec<u8>)> {
     ]
 }
 
+/// The log of the nightly run's test that is too long for a listing made by hand.
+const CALLS: &[u8] = include_bytes!("../../../tools/tests/nightly/calls.log");
+
 /// L, accepted logs at the borders of the sizes, and some of each kind from seeds.
 fn accepted() -> Vec<Named> {
     let mut prng = Prng::new(5);
-    let mut all = vec![("l".to_string(), 0, l())];
+    let mut all = vec![
+        ("l".to_string(), 0, l()),
+        ("calls".to_string(), 0, CALLS.to_vec()),
+    ];
     let borders = logs::borders(&mut prng).into_iter();
     for (number, log) in borders.filter(|(number, log)| *number == 0 && log.len() < 10_000) {
         all.push((format!("border-{}", all.len()), number, log));

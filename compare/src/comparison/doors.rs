@@ -10,11 +10,11 @@ const UNTOUCHED: u8 = 165;
 /// A function that fills lent bytes: what it is called in the tables and in the record, the
 /// number of the profile, or 0 where it takes none, and the call itself.
 #[derive(Clone, Copy)]
-struct Filling {
-    named: &'static str,
-    kept_as: Function,
-    profile: u8,
-    call: fn(&Door, &[u8], u8, &mut [u8]) -> u64,
+pub(super) struct Filling {
+    pub named: &'static str,
+    pub kept_as: Function,
+    pub profile: u8,
+    pub call: fn(&Door, &[u8], u8, &mut [u8]) -> u64,
 }
 
 impl Filling {
@@ -48,7 +48,7 @@ fn shown(result: u64, lent: &[u8]) -> String {
 
 impl Comparison {
     /// The judge's result and lent bytes, after comparing the others with them.
-    fn filled(&mut self, filling: Filling, input: &[u8], room: usize) -> (u64, Vec<u8>) {
+    pub(super) fn filled(&mut self, filling: Filling, input: &[u8], room: usize) -> (u64, Vec<u8>) {
         let (wanted, lent) = filling.by(&JUDGE, input, room);
         self.saw(filling.named, wanted as u8);
         self.record.keep(&Call {

@@ -7,6 +7,7 @@ pub mod desk;
 pub mod doors;
 pub mod finish;
 pub mod marks;
+pub mod months;
 pub mod plain;
 pub mod plain_rounds;
 pub mod record;
@@ -43,6 +44,10 @@ const WITH_PORT: &[Expected] = &[
     ("desk step", &[0, 1, 2, 3, 4, 5, 6, 7, 8, 9, 10, 14, 16]),
     ("desk close", &[0, 1, 2, 3, 4, 5, 6, 7, 14, 15, 16]),
     ("desk finish", &[0, 1, 2, 3, 4, 5, 6, 7, 14, 16, 17]),
+    ("tally", &[0, 1, 2, 3, 4, 5, 7]),
+    ("tally join", &[0, 3, 7]),
+    ("tally relations", &[0, 3, 7]),
+    ("relations, light", &[0, 3, 7]),
 ];
 
 /// What those do not show: judge and yardstick, both Rust. These say nothing of the proved code.

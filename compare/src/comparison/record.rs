@@ -26,15 +26,18 @@ pub enum Function {
     GuessesText,
     Replays,
     DeskFinish,
+    Tally,
+    TallyJoin,
+    TallyRelations,
 }
 
 pub struct Call<'a> {
     pub function: Function,
-    /// the log, the graph file, or a plain graph's head
+    /// the log, the graph file, a plain graph's head, or a tally; of two that are joined the one beside
     pub input: &'a [u8],
     /// a plain graph's lists
     pub lists: Option<&'a [Vec<u16>; 4]>,
-    /// the trace, the labels of guesses, the log of replays, or the marking or table before the call;
+    /// the trace, the labels of guesses, the log of replays, or the marking, table or tally before the call;
     /// of marks the log, then the labels
     pub beside: &'a [u8],
     /// in bytes

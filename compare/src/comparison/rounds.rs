@@ -1,5 +1,5 @@
 //! Which inputs are tried: some sets of logs once, then rounds of seeded ones.
-use super::{desk, finish, marks, plain_rounds, Comparison};
+use super::{desk, finish, marks, months, plain_rounds, Comparison};
 use crate::door::{FULL, GRAPH_ROOM, LIGHT, MARKING, SUMMARY_ROOM};
 use crate::seeds::{damage, graphs, logs, shapes, Prng};
 use crate::{judge, seeds};
@@ -40,6 +40,7 @@ pub fn once(comparison: &mut Comparison) {
     desk::once(comparison, &mut prng);
     finish::once(comparison);
     marks::once(comparison);
+    months::once(comparison, &mut prng);
 }
 
 pub fn round(comparison: &mut Comparison, seed: u64) {
@@ -59,6 +60,7 @@ pub fn round(comparison: &mut Comparison, seed: u64) {
     desk::round(comparison, &mut prng);
     finish::round(comparison, &mut prng);
     marks::round(comparison, &mut prng);
+    months::round(comparison, &mut prng);
 }
 
 fn on_log(comparison: &mut Comparison, prng: &mut Prng, kind: &'static str, log: &[u8]) {

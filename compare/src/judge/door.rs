@@ -4,10 +4,10 @@ use super::graph::{Graph, Marking};
 use super::graph_file::{self, read_marking, set_bytes};
 use super::listing::listing as list;
 use super::miner::{mine as mine_log, Profile};
-use super::{desk, finish, log, marks, plain, summary};
+use super::{desk, finish, log, marks, months, plain, summary, Pairs, Relations, Set};
 use crate::door::{filled, finished, marked, marks_put, opened, replayed, shut, stepped};
 use crate::door::{verdict, written, Door};
-use crate::door::{MARKING, PLACE, PLACES, SUMMARY_ROOM, TABLE_ROOM};
+use crate::door::{MARKING, PLACE, PLACES, RELATIONS_ROOM, SUMMARY_ROOM, TABLE_ROOM, TALLY_ROOM};
 use crate::value::{Answer, PlainGraph};
 
 pub const DOOR: Door = Door {
@@ -36,6 +36,9 @@ pub const DOOR: Door = Door {
     desk_step,
     desk_close,
     desk_finish,
+    tally,
+    tally_join,
+    tally_relations,
 };
 
 /// A profile that there is not is refused before the log is read.
@@ -259,4 +262,59 @@ fn at_desk<T, E: From<u8>>(
         }
     }
     Ok(outcome)
+}
+
+/// "after the log's own refusals"
+fn tally(bytes: &[u8], lent: &mut [u8]) -> u64 {
+    written(log::read(bytes).and_then(|log| {
+        months::judge(&[lent.len()], || vec![log.a])?;
+        lent[..TALLY_ROOM].copy_from_slice(&months::filled(&log));
+        Ok(0)
+    }))
+}
+
+fn tally_join(tally: &mut [u8], other: &[u8]) -> u64 {
+    let rooms = [tally.len(), other.len()];
+    written(
+        months::judge(&rooms, || vec![tally[0], other[0]]).map(|()| {
+            let joined = months::joined(tally, other);
+            tally[..TALLY_ROOM].copy_from_slice(&joined);
+            0
+        }),
+    )
+}
+
+/// 12, the tally's refusals, 7 for the room.
+fn tally_relations(tally: &[u8], profile: u8, out: &mut [u8]) -> u64 {
+    written(Profile::numbered(profile).and_then(|profile| {
+        months::judge(&[tally.len()], || vec![tally[0]])?;
+        if out.len() < RELATIONS_ROOM {
+            return Err(7);
+        }
+        let facts = months::facts_in(tally);
+        let known = months::relations(&facts, profile);
+        let given = relations_bytes(tally[0], &facts.events, &known);
+        out[..RELATIONS_ROOM].copy_from_slice(&given);
+        Ok(0)
+    }))
+}
+
+/// A, the events, and of each relation 64 rows: a condition in the row of its target, the others
+/// in the row of their source.
+pub fn relations_bytes(a: u8, events: &Set, known: &Relations) -> Vec<u8> {
+    let mut bytes = vec![a];
+    bytes.extend(set_bytes(events));
+    let conditions: Pairs = known.conditions.iter().map(|&(s, t)| (t, s)).collect();
+    for pairs in [
+        &conditions,
+        &known.responses,
+        &known.includes,
+        &known.excludes,
+    ] {
+        for key in 0..64 {
+            let row: Set = (0..64).filter(|&x| pairs.contains(&(key, x))).collect();
+            bytes.extend(set_bytes(&row));
+        }
+    }
+    bytes
 }

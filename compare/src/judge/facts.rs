@@ -7,10 +7,14 @@ pub struct Facts {
     pub traces: Vec<Vec<u8>>,
     /// the activities that occur
     pub events: Set,
+    /// those that a place is asked for, whether they stand there or not
+    pub asked: Set,
     /// s: some trace has s twice
     pub twice: Set,
-    /// (s, t): s is before t in some trace
+    /// (s, t): s is before t in some trace, as seen from t
     pub before: Table,
+    /// (s, t): the same, as seen from s. A tally keeps both, and another's bytes may hold one alone
+    pub later: Table,
     /// (s, t): in some trace s is before the first t
     pub before_first: Table,
     /// (s, t): some t has no s earlier in its trace
@@ -63,14 +67,23 @@ impl Triples {
         self.ticked[Triples::index(s, u, t)]
     }
 
-    fn tick(&mut self, s: u8, u: u8, t: u8) {
+    pub fn tick(&mut self, s: u8, u: u8, t: u8) {
         self.ticked[Triples::index(s, u, t)] = true;
     }
 }
 
 pub fn gather(log: &Log) -> Facts {
-    let mut facts = nothing_seen(log);
-    for trace in &log.traces {
+    let events = log.traces.iter().flatten().copied().collect();
+    gather_asking(&log.traces, events)
+}
+
+/// Facts of absence for these activities, which may be more than occur.
+pub fn gather_asking(traces: &[Vec<u8>], asked: Set) -> Facts {
+    let mut facts = nothing_seen();
+    facts.traces = traces.to_vec();
+    facts.events = traces.iter().flatten().copied().collect();
+    facts.asked = asked;
+    for trace in traces {
         let later = what_stands_later(trace);
         let mut earlier = Set::new();
         for (place, &here) in trace.iter().enumerate() {
@@ -97,12 +110,14 @@ fn what_stands_later(trace: &[u8]) -> Vec<Set> {
     sets
 }
 
-fn nothing_seen(log: &Log) -> Facts {
+pub fn nothing_seen() -> Facts {
     Facts {
-        traces: log.traces.clone(),
-        events: log.traces.iter().flatten().copied().collect(),
+        traces: Vec::new(),
+        events: Set::new(),
+        asked: Set::new(),
         twice: Set::new(),
         before: Table::empty(),
+        later: Table::empty(),
         before_first: Table::empty(),
         lacks_earlier: Table::empty(),
         lacks_later: Table::empty(),
@@ -120,7 +135,7 @@ impl Facts {
         if earlier.contains(&t) {
             self.twice.insert(t);
         }
-        for &s in &self.events {
+        for &s in &self.asked {
             if !earlier.contains(&s) {
                 self.lacks_earlier.insert((s, t));
                 continue;
@@ -133,7 +148,7 @@ impl Facts {
     }
 
     fn look_directly_back(&mut self, previous: Option<&u8>, t: u8) {
-        for &s in &self.events {
+        for &s in &self.asked {
             if previous == Some(&s) {
                 self.directly_followed.insert((s, t));
             } else {
@@ -151,7 +166,7 @@ impl Facts {
             }
             since.insert(u);
         }
-        for &u in &self.events {
+        for &u in &self.asked {
             if !since.contains(&u) {
                 self.lacks_alternate.insert((u, s));
             }
@@ -159,8 +174,10 @@ impl Facts {
     }
 
     fn look_ahead(&mut self, s: u8, later: &Set) {
-        for &t in &self.events {
-            if !later.contains(&t) {
+        for &t in &self.asked {
+            if later.contains(&t) {
+                self.later.insert((s, t));
+            } else {
                 self.lacks_later.insert((s, t));
             }
         }

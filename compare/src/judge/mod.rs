@@ -14,6 +14,7 @@ pub mod listing;
 pub mod log;
 pub mod marks;
 pub mod miner;
+pub mod months;
 pub mod plain;
 pub mod steps;
 pub mod summary;

@@ -62,7 +62,7 @@ pub fn step3(facts: &Facts, stood: &Relations) -> Relations {
 pub fn step4(facts: &Facts, stood: &Relations) -> Relations {
     let mut found = Pairs::new();
     for (s, t) in pairs_of(&facts.events) {
-        let together = facts.before.contains(&(s, t)) || facts.before.contains(&(t, s));
+        let together = facts.before.contains(&(s, t)) || facts.later.contains(&(t, s));
         if s != t && !together {
             found.insert((s, t));
         }
@@ -76,7 +76,7 @@ pub fn step4(facts: &Facts, stood: &Relations) -> Relations {
 pub fn step5(facts: &Facts, stood: &Relations) -> Relations {
     let mut found = Pairs::new();
     for (s, t) in pairs_of(&facts.events) {
-        let before = facts.before.contains(&(s, t));
+        let before = facts.later.contains(&(s, t));
         let after = facts.before.contains(&(t, s));
         if before && !after && !stood.excludes.contains(&(s, s)) {
             found.insert((t, s));

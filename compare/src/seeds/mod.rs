@@ -5,6 +5,7 @@ pub mod finish;
 pub mod graphs;
 pub mod logs;
 pub mod marks;
+pub mod months;
 pub mod plain;
 pub mod prng;
 pub mod process;

@@ -9,12 +9,16 @@ type Trace = Box<dyn FnMut(&mut Prng) -> Vec<u8>>;
 /// Prepares what all traces of a log have in common.
 type Shape = fn(&mut Prng) -> (u8, Trace);
 
-pub const SHAPES: [(&str, Shape); 5] = [
+pub const SHAPES: [(&str, Shape); 9] = [
     ("process-like", process_like),
     ("few variants", few_variants),
     ("long traces", long_traces),
     ("all distinct", all_distinct),
     ("random", random),
+    ("cyclic", cyclic),
+    ("long process", long_process),
+    ("nested rounds", nested_rounds),
+    ("common prefix", common_prefix),
 ];
 
 /// Traces of this shape until there are just so many events.
@@ -100,4 +104,31 @@ fn random(_: &mut Prng) -> (u8, Trace) {
                 .collect()
         }),
     )
+}
+
+/// All activities in their order, round after round: whoever looks back for what stands since the
+/// last e finds all of it, and has to look back a whole round.
+fn cyclic(_: &mut Prng) -> (u8, Trace) {
+    (64, Box::new(|_| (0..512).map(|i| (i % 64) as u8).collect()))
+}
+
+/// Runs of one process over all activities, one after another: rounds, with some left out.
+fn long_process(prng: &mut Prng) -> (u8, Trace) {
+    let order = shuffled(prng, 64);
+    let process = build(prng, &order);
+    (64, Box::new(move |prng| at_least(&process, prng, 512)))
+}
+
+/// A round of k is two rounds of k - 1 with a k after the first, as the marks of a ruler.
+fn nested_rounds(_: &mut Prng) -> (u8, Trace) {
+    let ruler = |i: u32| (i + 1).trailing_zeros() as u8;
+    (10, Box::new(move |_| (0..512).map(ruler).collect()))
+}
+
+/// The same first 40 steps, then any.
+fn common_prefix(prng: &mut Prng) -> (u8, Trace) {
+    let prefix: Vec<u8> = shuffled(prng, 64)[..40].to_vec();
+    let mut tail = random(prng).1;
+    let trace = move |prng: &mut Prng| prefix.iter().copied().chain(tail(prng)).collect();
+    (64, Box::new(trace))
 }

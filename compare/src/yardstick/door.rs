@@ -1,9 +1,11 @@
 //! The yardstick behind the functions of `port`.
 use super::graph_file::{marking_at, put_marking, read_into, write_judged};
 use super::rows::transposed;
-use super::{desk, engine, finish as search, listing as lister, log, marks, miner, plain};
+use super::{desk, engine, finish as search, listing as lister, log, marks, miner, months, plain};
 use crate::door::{filled, finished, marked, marks_put, opened, replayed, shut, stepped, verdict};
-use crate::door::{written, Door, LIGHT, MARKING, SUMMARY_ROOM, WAY};
+use crate::door::{
+    written, Door, FULL, LIGHT, MARKING, RELATIONS_ROOM, SUMMARY_ROOM, TALLY_ROOM, WAY,
+};
 use crate::value::{Answer, GraphValue, MarkingValue, PlainGraph};
 
 pub const DOOR: Door = Door {
@@ -34,6 +36,9 @@ pub const DOOR: Door = Door {
     desk_finish: |file, table, place, lent| {
         finished(desk::finish(file, table, place, lent.len()), lent)
     },
+    tally,
+    tally_join,
+    tally_relations,
 };
 
 fn mine(bytes: &[u8], profile: u8, file: &mut [u8]) -> u64 {
@@ -206,4 +211,52 @@ fn plain_replay(graph: &PlainGraph, trace: &[u8]) -> u64 {
 fn fill(file: &[u8], kind: u8, memory: &mut [u16]) -> u64 {
     let mut graph = GraphValue::EMPTY;
     written(read_into(file, &mut graph).and_then(|()| plain::fill(&graph, kind, memory)))
+}
+
+fn tally(bytes: &[u8], lent: &mut [u8]) -> u64 {
+    written(log::judge(bytes).and_then(|log| {
+        months::fill(&log, lent.first_chunk_mut().ok_or(7)?);
+        Ok(0)
+    }))
+}
+
+/// 3 of either comes after 7 of both.
+fn tally_join(tally: &mut [u8], other: &[u8]) -> u64 {
+    match (tally.first_chunk_mut(), other.first_chunk()) {
+        (Some(tally), Some(other)) if tally[0].max(other[0]) <= 64 => months::join(tally, other),
+        (Some(_), Some(_)) => return 3,
+        _ => return 7,
+    }
+    0
+}
+
+fn tally_relations(tally: &[u8], profile: u8, out: &mut [u8]) -> u64 {
+    if profile > LIGHT {
+        return 12;
+    }
+    let Some(tally) = tally.first_chunk::<TALLY_ROOM>() else {
+        return 7;
+    };
+    if tally[0] > 64 {
+        return 3;
+    }
+    if out.len() < RELATIONS_ROOM {
+        return 7;
+    }
+    let graph = match profile {
+        FULL => months::relations::<true>(tally),
+        _ => months::relations::<false>(tally),
+    };
+    out[0] = graph.a;
+    let tables = [
+        graph.conditions,
+        graph.responses,
+        graph.includes,
+        graph.excludes,
+    ];
+    let words = std::iter::once(graph.events).chain(tables.into_iter().flatten());
+    for (place, word) in out[1..].chunks_exact_mut(8).zip(words) {
+        place.copy_from_slice(&word.to_le_bytes());
+    }
+    0
 }

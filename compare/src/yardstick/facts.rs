@@ -20,9 +20,16 @@ pub struct Fact {
     pub directly_before: u64,
     /// what stands between any e and the e before it; the first e's are in always_before
     pub since_last: u64,
-    /// the latest place of an e, counted over the whole log
+    /// the latest place of an e in its trace
     last: u32,
 }
+
+/// So many places stand in a block.
+const BLOCK: usize = 8;
+/// From this length on blocks are kept: in a shorter trace they cost more than they save.
+const LONG: usize = 128;
+/// What stands in each block of a trace.
+type Blocks = [u64; 512 / BLOCK];
 
 pub struct Facts {
     pub of: [Fact; 64],
@@ -58,13 +65,16 @@ pub fn gather(log: &Log) -> Facts {
         starts: 0,
         twice: 0,
     };
-    let mut done = 0;
+    let mut blocks = [0; 512 / BLOCK];
     for trace in log.traces() {
         if let Some(&first) = trace.first() {
             facts.starts |= bit(first);
-            facts.forward(trace, done);
+            if trace.len() < LONG {
+                facts.forward::<false>(trace, &mut blocks);
+            } else {
+                facts.forward::<true>(trace, &mut blocks);
+            }
             facts.backward(trace);
-            done += trace.len() as u32;
         }
     }
     facts
@@ -72,11 +82,11 @@ pub fn gather(log: &Log) -> Facts {
 
 impl Facts {
     #[inline(always)]
-    fn forward(&mut self, trace: &[u8], done: u32) {
+    fn forward<const KEEP: bool>(&mut self, trace: &[u8], blocks: &mut Blocks) {
         let mut seen = 0;
         let mut previous = 0;
         let mut twice = self.twice;
-        for (place, &e) in (done..).zip(trace) {
+        for (place, &e) in trace.iter().enumerate() {
             let here = bit(e);
             let repeated = seen & here;
             let fact = &mut self.of[index(e)];
@@ -86,9 +96,13 @@ impl Facts {
             fact.directly_before |= previous;
             twice |= repeated;
             if repeated != 0 && fact.alternately_before() != 0 {
-                self.narrow(e);
+                self.narrow::<KEEP>(e, blocks, place);
             }
-            self.of[index(e)].last = place;
+            self.of[index(e)].last = place as u32;
+            if KEEP {
+                let block = &mut blocks[place / BLOCK % (512 / BLOCK)];
+                *block = if place % BLOCK == 0 { 0 } else { *block } | here;
+            }
             seen |= here;
             previous = here;
         }
@@ -97,12 +111,24 @@ impl Facts {
     }
 
     /// At a repeat of e only those u stay that came after the e before. Most repeats have
-    /// no candidate left and never get here.
+    /// no candidate left and never get here. What stands in a whole block since then is found at
+    /// once, the rest by its last place.
     #[inline]
-    fn narrow(&mut self, e: u8) {
+    fn narrow<const KEEP: bool>(&mut self, e: u8, blocks: &Blocks, place: usize) {
         let fact = self.of[index(e)];
-        let mut kept = 0;
-        for u in Bits(fact.alternately_before()) {
+        let wanted = fact.alternately_before();
+        let mut left = wanted;
+        if KEEP {
+            let whole = (fact.last as usize / BLOCK + 1)..=((place - 1) / BLOCK);
+            for block in whole.rev() {
+                left &= !blocks[block % (512 / BLOCK)];
+                if left == 0 {
+                    break;
+                }
+            }
+        }
+        let mut kept = wanted & !left;
+        for u in Bits(left) {
             kept |= u64::from(self.of[u].last > fact.last) << u;
         }
         self.of[index(e)].since_last = kept;

@@ -11,6 +11,7 @@ pub mod listing;
 pub mod log;
 pub mod marks;
 pub mod miner;
+pub mod months;
 pub mod plain;
 pub mod redundant;
 pub mod replayed_pass;

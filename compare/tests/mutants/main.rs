@@ -8,6 +8,7 @@ mod files;
 mod finish;
 mod marks;
 mod mining;
+mod months;
 mod plain;
 mod wrong_steps;
 

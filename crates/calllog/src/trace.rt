@@ -33,6 +33,13 @@ pub struct Asked {
     pub next: usize,
 }
 
+// T, as the head has it: in a log that the caller has judged, how many traces there are.
+pub fn trace_count(bytes: &[u8]) -> usize
+    ensures { λ r. ⌜ r ≡ tracesIn (now (bytes .entry)) ⌝ }
+{
+    layout::traces(bytes) as usize
+}
+
 // Where trace k stands, in a log that the caller has judged: one step for each trace of a walk. Of bytes that have no such trace it
 // gives nothing, so the part is within any bytes.
 pub fn trace_part(bytes: &[u8], k: usize) -> Part

@@ -4,3 +4,4 @@ pub mod Serving
 pub mod Isolation
 pub mod OnePlace
 pub mod WayOut
+pub mod JudgedBefore

@@ -9,22 +9,23 @@ use lib.ListN.{length}
 use Rattle.sets.specs.Tests.{non, when_then_else_}
 use Rattle.sets.specs.Members.{everyBelow}
 use Rattle.sets.specs.Answers.{isDone, thenAsk}
+use Rattle.sets.specs.declared.set.Set.{Set}
 use Rattle.sets.specs.declared.answer.Answer.{Answer}
 use Rattle.sets.specs.declared.answer.Answer.the-variants.{Done, BufferTooSmall, NoPlaceFree, NotOpen}
 use Rattle.sets.proofs.Tests.{true→T, non-e}
-use Rattle.sets.proofs.Asking.{done-is, both}
+use Rattle.sets.proofs.Asking.{done-is, both, refused, passed}
 use Rattle.sets.proofs.Ways.{failed, held, taken, passed-by, not-above}
-use Rattle.engine.specs.Relations.{relationsOf}
+use Rattle.engine.specs.Relations.{Relations}
 use Rattle.engine.specs.Enabled.{marked}
 use Rattle.engine.specs.Steps.{after}
-use Rattle.engine.specs.Judged.{judged}
-use Rattle.engine.specs.Replay.{enabledOf, nextMarking}
+use Rattle.engine.specs.Judged.{judged, judgedWith, judgedBeside}
+use Rattle.engine.specs.Replay.{enabledOf, enabledOn}
 use Rattle.engine.specs.declared.marking.State.{State}
 use Rattle.engine.specs.declared.marking.Marking.{Marking}
 use Rattle.engine.specs.declared.graph.Graph.{Graph}
 use Rattle.desk.specs.declared.requests.Opened.{Opened}
 use Rattle.desk.specs.Places.{placeCount, tableLength, isOpen, markingAtPlace, withMarking, withPlace, lowestFree}
-use Rattle.desk.specs.Desk.{onTable, opening, openAnswer, noPlace, stepAnswer, closing, closeAnswer}
+use Rattle.desk.specs.Desk.{onTable, atPlace, placeAnswer, opening, openAnswer, noPlace, stepAnswer, closingAfter, closing, closeAnswer}
 use Rattle.desk.proofs.Placing.{open-below, all-taken}
 
 -- ---- judged
@@ -46,10 +47,40 @@ module _ (m m′ : Marking) (same : m ≡ m′) where
   pub asked-at : (g : Graph) (a : ℕ) (x : Answer) → x ≡ enabledOf g m a → x ≡ enabledOf g m′ a
   asked-at g a x e = e ∙ ap (λ (k : Marking). enabledOf g k a) same
 
-  pub closing-at : (g : Graph) (x : Answer) → x ≡ closing g m → x ≡ closing g m′
-  closing-at g x e = e ∙ ap (closing g) same
+  pub asked-on : (events : Set) (r : Relations) (a : ℕ) (x : Answer) → x ≡ enabledOn events r m a → x ≡ enabledOn events r m′ a
+  asked-on events r a x e = e ∙ ap (λ (k : Marking). enabledOn events r k a) same
 
-pub ruleset judging = (one-left, none-left, open-low, asked-at, closing-at)
+  pub closing-at : (g : Graph) (j x : Answer) → j ≡ judgedWith g m → x ≡ closingAfter j m → x ≡ closing g m′
+  unfolding closing
+  closing-at g j x h e = e ∙ ap (λ (k : Answer). closingAfter k m) h ∙ ap (λ (k : Marking). closingAfter (judgedWith g k) k) same
+
+  pub closing-on : (events : Set) (r : Relations) (j x : Answer) → j ≡ judgedBeside events r m → x ≡ closingAfter j m
+      → x ≡ closingAfter (judgedBeside events r m′) m′
+  closing-on events r j x h e =
+      e ∙ ap (λ (k : Answer). closingAfter k m) h ∙ ap (λ (k : Marking). closingAfter (judgedBeside events r k) k) same
+
+pub ruleset judging = (one-left, none-left, open-low, asked-at, asked-on, closing-at, closing-on)
+
+-- a place, and then what is asked of its call
+module _ (table : List ℕ) (p : ℕ) where
+  asks : (x : Answer) → thenAsk (placeAnswer table p) x ≡ atPlace table p x
+  unfolding placeAnswer
+  asks x = by (ltb (length table) tableLength) (non (isOpen table p))
+    where
+      by : (short free : Bool) → thenAsk (when short then BufferTooSmall else when free then NotOpen else Done) x
+          ≡ (when short then BufferTooSmall else when free then NotOpen else x)
+      by true free = refl
+      by false true = refl
+      by false false = refl
+
+  module _ (b : Answer) (d : Bool) (hb : b ≡ placeAnswer table p) (hd : d ≡ isDone b) where
+    pub no-call : (x : Answer) → not d ≡ true → b ≡ atPlace table p x
+    no-call x n = refused b (placeAnswer table p) d hb hd x n ∙ asks x
+
+    pub of-call : (x y : Answer) → not d ≡ false → y ≡ x → y ≡ atPlace table p x
+    of-call x y n e = e ∙ sym (passed b (placeAnswer table p) d hb hd x n) ∙ asks x
+
+pub ruleset calling = (no-call, of-call)
 
 -- ---- served: x is the answer that the definition has, a the one that the code was given
 
@@ -71,13 +102,11 @@ module _ (x a : Answer) (d : Bool) (h : a ≡ x) (k : d ≡ isDone a) where
 pub opened-to : (table table′ : List ℕ) (p n b : ℕ) (m : Marking) → p ≡ n → table′ ≡ withPlace table p b m → table′ ≡ withPlace table n b m
 opened-to table table′ p n b m same e = e ∙ ap (λ (k : ℕ). withPlace table k b m) same
 
-pub stepped-to : (g : Graph) (table table′ : List ℕ) (p e : ℕ) (m n : Marking) (s : State) → m ≡ markingAtPlace table p
-    → s ≡ after (relationsOf g) (m .state) e → n ≡ marked (g .head .events) (relationsOf g) s
-    → table′ ≡ withMarking table p n → table′ ≡ withMarking table p (nextMarking g (markingAtPlace table p) e)
-stepped-to g table table′ p e m n s hm hs hn ht =
-    ht
-    ∙ ap (withMarking table p)
-    (hn ∙ ap (marked (g .head .events) (relationsOf g)) hs ∙ ap (λ (k : Marking). nextMarking g k e) hm)
+pub stepped-to : (events : Set) (r : Relations) (table table′ : List ℕ) (p e : ℕ) (m n : Marking) (s : State) → m ≡ markingAtPlace table p
+    → s ≡ after r (m .state) e → n ≡ marked events r s → table′ ≡ withMarking table p n
+    → table′ ≡ withMarking table p (marked events r (after r (markingAtPlace table p .state) e))
+stepped-to events r table table′ p e m n s hm hs hn ht =
+    ht ∙ ap (withMarking table p) (hn ∙ ap (marked events r) (hs ∙ ap (λ (k : Marking). after r (k .state) e) hm))
 
 -- ---- where a request is done, the table is one and the place is there
 
@@ -114,41 +143,37 @@ module _ (table : List ℕ) where
     unfolding openAnswer opening
     open-accepted h = both (judged g) _ (on-table (opening g (isOpen table)) h .1) .0
 
+  -- what is done at a place
+  place-done : (p : ℕ) (x : Answer) → atPlace table p x ≡ Done → (tableLength ≤ length table) × (T (isOpen table p))
+  place-done p x h = let on = on-table (when non (isOpen table p) then NotOpen else x) h in (on .0, at-place p x (on .1) .0)
+
+  module _ (g : Graph) where
     pub step-done : (p a : ℕ) → stepAnswer g table p a ≡ Done → (tableLength ≤ length table) × (T (isOpen table p))
     unfolding stepAnswer
-    step-done p a h =
-        let on = on-table (when non (isOpen table p) then NotOpen else enabledOf g (markingAtPlace table p) a) h in
-        (on .0, at-place p (enabledOf g (markingAtPlace table p) a) (on .1) .0)
+    step-done p a h = place-done p (enabledOf g (markingAtPlace table p) a) h
 
     pub close-done : (p : ℕ) → closeAnswer g table p ≡ Done → (tableLength ≤ length table) × (T (isOpen table p))
     unfolding closeAnswer
-    close-done p h =
-        let on = on-table (when non (isOpen table p) then NotOpen else closing g (markingAtPlace table p)) h in
-        (on .0, at-place p (closing g (markingAtPlace table p)) (on .1) .0)
+    close-done p h = place-done p (closing g (markingAtPlace table p)) h
 
-    module _ (a : Answer) (d : Bool) (k : d ≡ isDone a) (n : not d ≡ false) where
-      gone : (x : Answer) → a ≡ x → x ≡ Done
-      gone x h = sym h ∙ done-is a (sym (held (isDone a) d k n))
+  module _ (a : Answer) (d : Bool) (k : d ≡ isDone a) (n : not d ≡ false) where
+    gone : (x : Answer) → a ≡ x → x ≡ Done
+    gone x h = sym h ∙ done-is a (sym (held (isDone a) d k n))
 
-      pub open-long : a ≡ openAnswer g table → tableLength ≤ length table
-      open-long h = open-done (gone _ h) .0
+    pub open-long : (g : Graph) → a ≡ openAnswer g table → tableLength ≤ length table
+    open-long g h = open-done g (gone _ h) .0
 
-      pub open-there : (p : ℕ) → a ≡ openAnswer g table → p ≡ lowestFree (isOpen table) → p < placeCount
-      open-there p h e = subst (λ (q : ℕ). q < placeCount) (sym e) (open-done (gone _ h) .1)
+    pub open-there : (g : Graph) (p : ℕ) → a ≡ openAnswer g table → p ≡ lowestFree (isOpen table) → p < placeCount
+    open-there g p h e = subst (λ (q : ℕ). q < placeCount) (sym e) (open-done g (gone _ h) .1)
 
-      module _ (p : ℕ) where
-        pub step-long : (e : ℕ) → a ≡ stepAnswer g table p e → tableLength ≤ length table
-        step-long e h = step-done p e (gone _ h) .0
+    -- of all that is asked at a place
+    module _ (p : ℕ) (x : Answer) (h : a ≡ atPlace table p x) where
+      pub place-long : tableLength ≤ length table
+      place-long = place-done p x (gone _ h) .0
 
-        pub step-there : (e : ℕ) → a ≡ stepAnswer g table p e → p < placeCount
-        step-there e h = open-below table p (step-done p e (gone _ h) .1)
+      pub place-there : p < placeCount
+      place-there = open-below table p (place-done p x (gone _ h) .1)
 
-        pub close-long : a ≡ closeAnswer g table p → tableLength ≤ length table
-        close-long h = close-done p (gone _ h) .0
+pub ruleset serving = (table-same, table-new, opened-none, opened-at, opened-to)
 
-        pub close-there : a ≡ closeAnswer g table p → p < placeCount
-        close-there h = open-below table p (close-done p (gone _ h) .1)
-
-pub ruleset serving = (table-same, table-new, opened-none, opened-at, opened-to, stepped-to)
-
-pub ruleset ready = (open-long, open-there, step-long, step-there, close-long, close-there)
+pub ruleset ready = (open-long, open-there, place-long, place-there)

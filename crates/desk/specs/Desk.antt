@@ -7,12 +7,15 @@ use lib.ListN.{length}
 use Rattle.sets.specs.Tests.{non, when_then_else_}
 use Rattle.sets.specs.Members.{everyBelow}
 use Rattle.sets.specs.Answers.{isDone, thenAsk}
+use Rattle.sets.specs.declared.set.Set.{Set}
 use Rattle.sets.specs.declared.answer.Answer.{Answer}
 use Rattle.sets.specs.declared.answer.Answer.the-variants.{Done, BufferTooSmall, NoPlaceFree, NotOpen, NotAccepting}
 use Rattle.engine.specs.Markings.{emptyMarking}
-use Rattle.engine.specs.Steps.{accepting}
-use Rattle.engine.specs.Judged.{judged, judgedWith}
-use Rattle.engine.specs.Replay.{enabledOf, nextMarking}
+use Rattle.engine.specs.Relations.{Relations}
+use Rattle.engine.specs.Steps.{after, accepting}
+use Rattle.engine.specs.Enabled.{marked}
+use Rattle.engine.specs.Judged.{judged, judgedWith, judgedBeside}
+use Rattle.engine.specs.Replay.{enabledOf, enabledOn, nextMarking}
 use Rattle.engine.specs.declared.marking.Marking.{Marking}
 use Rattle.engine.specs.declared.graph.Graph.{Graph}
 use Rattle.desk.specs.declared.requests.Opened.{Opened}
@@ -21,6 +24,14 @@ use Rattle.desk.specs.Places.{placeCount, tableLength, isOpen, markingAt
 -- a table of too few bytes is none: 7, before everything else
 abbrev pub onTable : List ℕ → Answer → Answer
 onTable table answer = when ltb (length table) tableLength then BufferTooSmall else answer
+
+-- nor is there a call at a place above 31 or not open: 14, before all that is asked of a call
+abbrev pub atPlace : List ℕ → ℕ → Answer → Answer
+atPlace table p answer = onTable table (when non (isOpen table p) then NotOpen else answer)
+
+-- these two alone
+unfoldable pub placeAnswer : List ℕ → ℕ → Answer
+placeAnswer table p = atPlace table p Done
 
 -- ---- open
 
@@ -51,21 +62,42 @@ tableOpened g table =
 -- ---- step: 14, then as the engine's enabled has it at the place's own marking: 3, 5, 16, 8, 9, and 10 with the blocker
 
 unfoldable pub stepAnswer : Graph → List ℕ → ℕ → ℕ → Answer
-stepAnswer g table p a = onTable table (when non (isOpen table p) then NotOpen else enabledOf g (markingAtPlace table p) a)
+stepAnswer g table p a = atPlace table p (enabledOf g (markingAtPlace table p) a)
 
 -- the place has the marking after the step
 unfoldable pub tableStepped : Graph → List ℕ → ℕ → ℕ → List ℕ
 tableStepped g table p a =
     when isDone (stepAnswer g table p a) then withMarking table p (nextMarking g (markingAtPlace table p) a) else table
 
+-- the same on a graph that was judged before
+unfoldable pub stepAnswerOn : Set → Relations → List ℕ → ℕ → ℕ → Answer
+stepAnswerOn events r table p a = atPlace table p (enabledOn events r (markingAtPlace table p) a)
+
+-- the marking after the step, at its place
+abbrev pub steppedAt : Set → Relations → List ℕ → ℕ → ℕ → List ℕ
+steppedAt events r table p a = withMarking table p (marked events r (after r (markingAtPlace table p .state) a))
+
+unfoldable pub tableSteppedOn : Set → Relations → List ℕ → ℕ → ℕ → List ℕ
+tableSteppedOn events r table p a = when isDone (stepAnswerOn events r table p a) then steppedAt events r table p a else table
+
 -- ---- close: 14, then at the place's own marking 3, 5, 16, and 15 where it is not accepting
 
+abbrev pub closingAfter : Answer → Marking → Answer
+closingAfter judgement m = thenAsk judgement (when non (accepting (m .state)) then NotAccepting else Done)
+
 unfoldable pub closing : Graph → Marking → Answer
-closing g m = thenAsk (judgedWith g m) (when non (accepting (m .state)) then NotAccepting else Done)
+closing g m = closingAfter (judgedWith g m) m
 
 unfoldable pub closeAnswer : Graph → List ℕ → ℕ → Answer
-closeAnswer g table p = onTable table (when non (isOpen table p) then NotOpen else closing g (markingAtPlace table p))
+closeAnswer g table p = atPlace table p (closing g (markingAtPlace table p))
 
 -- the place is free, and holds the empty marking
 unfoldable pub tableClosed : Graph → List ℕ → ℕ → List ℕ
 tableClosed g table p = when isDone (closeAnswer g table p) then withPlace table p 0 emptyMarking else table
+
+-- the same on a graph that was judged before
+unfoldable pub closeAnswerOn : Set → Relations → List ℕ → ℕ → Answer
+closeAnswerOn events r table p = atPlace table p (closingAfter (judgedBeside events r (markingAtPlace table p)) (markingAtPlace table p))
+
+unfoldable pub tableClosedOn : Set → Relations → List ℕ → ℕ → List ℕ
+tableClosedOn events r table p = when isDone (closeAnswerOn events r table p) then withPlace table p 0 emptyMarking else table

@@ -5,6 +5,9 @@ pub mod way;
 
 pub use requests::Opened;
 pub use requests::close;
+pub use requests::close_on;
+pub use requests::judge_place;
 pub use requests::open;
 pub use requests::step;
+pub use requests::step_on;
 pub use way::finish;

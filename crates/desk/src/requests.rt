@@ -1,7 +1,11 @@
 // What is asked of the desk (02, 5/12): open, step, close. Each is judged first, with nothing changed, and served then.
 ghost use mathlib.Core.Path.{_≡_};
-ghost use Rattle.engine.specs.Relations.{graphOf};
-ghost use Rattle.desk.specs.Desk.{openAnswer, openedOf, tableOpened, stepAnswer, tableStepped, closing, closeAnswer, tableClosed};
+ghost use Prim.Native.Nat.{_≤_, _<_};
+ghost use lib.ListN.{length};
+ghost use Rattle.engine.specs.Relations.{graphOf, inTables};
+ghost use Rattle.desk.specs.Places.{placeCount, tableLength};
+ghost use Rattle.desk.specs.Desk.{openAnswer, openedOf, tableOpened, placeAnswer, steppedAt, closingAfter};
+ghost use Rattle.desk.specs.Desk.{stepAnswer, tableStepped, closeAnswer, tableClosed, stepAnswerOn, tableSteppedOn, closeAnswerOn, tableClosedOn};
 use crate::table;
 use engine::Head;
 use engine::Marking;
@@ -11,6 +15,7 @@ use engine::judge;
 use engine::step as rules;
 use sets::Activity;
 use sets::Answer;
+use sets::Set;
 
 // What stands in a place's stead where open is refused.
 pub const NO_PLACE: usize = 255;
@@ -55,6 +60,19 @@ pub fn open(head: Head, relations: &Relations, table: &mut [u8]) -> Opened
     Opened { answer, place }
 }
 
+// What step, close and a way out ask of the table first: 7, then 14.
+pub fn judge_place(table: &[u8], place: usize) -> Answer
+    ensures { λ r. ⌜ r ≡ placeAnswer (now (table .entry)) place ⌝ }
+{
+    if table.len() < table::LENGTH {
+        return Answer::BufferTooSmall;
+    }
+    if !table::is_open(table, place) {
+        return Answer::NotOpen;
+    }
+    Answer::Done
+}
+
 // 7 and 14, then 3, 5, 16, 8, 9, 10 at the place's own marking.
 fn judge_step<'a>(
     head: Head,
@@ -65,14 +83,40 @@ fn judge_step<'a>(
 ) -> Answer
     ensures { λ r. ⌜ r ≡ stepAnswer (graphOf head (now (relations .entry))) (now (table .entry)) place (a .0) ⌝ }
 {
-    if table.len() < table::LENGTH {
-        return Answer::BufferTooSmall;
-    }
-    if !table::is_open(table, place) {
-        return Answer::NotOpen;
+    let asked = judge_place(table, place);
+    if !asked.is_done() {
+        return asked;
     }
     let m = table::marking_at(table, place);
     rules::ask_judged(head, relations, m, a)
+}
+
+// The same on a graph that was judged before.
+fn judge_step_on<'a>(
+    events: Set,
+    relations: &'a Relations,
+    table: &'a [u8],
+    place: usize,
+    a: Activity,
+) -> Answer
+    ensures { λ r. ⌜ r ≡ stepAnswerOn events (inTables (now (relations .entry))) (now (table .entry)) place (a .0) ⌝ }
+{
+    let asked = judge_place(table, place);
+    if !asked.is_done() {
+        return asked;
+    }
+    let m = table::marking_at(table, place);
+    rules::ask_on(events, relations, m, a)
+}
+
+// The marking after a step, at its place.
+fn put_step(events: Set, relations: &Relations, table: &mut [u8], place: usize, a: Activity)
+    requires { ⌜ (tableLength ≤ length (now table)) × (place < placeCount) ⌝ }
+    ensures { λ _. ⌜ now (table .exit) ≡ steppedAt events (inTables (now (relations .entry))) (now (table .entry)) place (a .0) ⌝ }
+{
+    let m = table::marking_at(table, place);
+    let after = rules::next(relations, m.state, a);
+    table::put_marking(table, place, enabled::marked(events, relations, after));
 }
 
 // One activity at one place. Beside 10 the answer has the blocker.
@@ -90,19 +134,35 @@ pub fn step(
     if !answer.is_done() {
         return answer;
     }
-    let m = table::marking_at(table, place);
-    let after = rules::next(relations, m.state, a);
-    table::put_marking(table, place, enabled::marked(head.events, relations, after));
+    put_step(head.events, relations, table, place, a);
     answer
 }
 
-// 3, 5 and 16 for the graph and the marking of a call, then 15.
-fn ask_closing(head: Head, relations: &Relations, m: Marking) -> Answer
-    ensures { λ r. ⌜ r ≡ closing (graphOf head (now (relations .entry))) m ⌝ }
+// The same on a graph that was judged before, as one from a file is.
+pub fn step_on(
+    events: Set,
+    relations: &Relations,
+    table: &mut [u8],
+    place: usize,
+    a: Activity,
+) -> Answer
+    ensures { λ r. ⌜ r ≡ stepAnswerOn events (inTables (now (relations .entry))) (now (table .entry)) place (a .0) ⌝ }
+    ensures { λ _. ⌜ now (table .exit) ≡ tableSteppedOn events (inTables (now (relations .entry))) (now (table .entry)) place (a .0) ⌝ }
 {
-    let answer = judge::judge_beside(head, relations, m);
+    let answer = judge_step_on(events, relations, table, place, a);
     if !answer.is_done() {
         return answer;
+    }
+    put_step(events, relations, table, place, a);
+    answer
+}
+
+// What was judged of a call, then 15.
+fn ask_closing(judged: Answer, m: Marking) -> Answer
+    ensures { λ r. ⌜ r ≡ closingAfter judged m ⌝ }
+{
+    if !judged.is_done() {
+        return judged;
     }
     if !rules::is_accepting(m.state) {
         return Answer::NotAccepting;
@@ -114,14 +174,31 @@ fn ask_closing(head: Head, relations: &Relations, m: Marking) -> Answer
 fn judge_close<'a>(head: Head, relations: &'a Relations, table: &'a [u8], place: usize) -> Answer
     ensures { λ r. ⌜ r ≡ closeAnswer (graphOf head (now (relations .entry))) (now (table .entry)) place ⌝ }
 {
-    if table.len() < table::LENGTH {
-        return Answer::BufferTooSmall;
-    }
-    if !table::is_open(table, place) {
-        return Answer::NotOpen;
+    let asked = judge_place(table, place);
+    if !asked.is_done() {
+        return asked;
     }
     let m = table::marking_at(table, place);
-    ask_closing(head, relations, m)
+    let judged = judge::judge_beside(head, relations, m);
+    ask_closing(judged, m)
+}
+
+// The same on a graph that was judged before.
+fn judge_close_on<'a>(
+    events: Set,
+    relations: &'a Relations,
+    table: &'a [u8],
+    place: usize,
+) -> Answer
+    ensures { λ r. ⌜ r ≡ closeAnswerOn events (inTables (now (relations .entry))) (now (table .entry)) place ⌝ }
+{
+    let asked = judge_place(table, place);
+    if !asked.is_done() {
+        return asked;
+    }
+    let m = table::marking_at(table, place);
+    let judged = judge::judge_marking(events, relations, m);
+    ask_closing(judged, m)
 }
 
 // Frees a place whose call is accepting.
@@ -130,6 +207,19 @@ pub fn close(head: Head, relations: &Relations, table: &mut [u8], place: usize) 
     ensures { λ _. ⌜ now (table .exit) ≡ tableClosed (graphOf head (now (relations .entry))) (now (table .entry)) place ⌝ }
 {
     let answer = judge_close(head, relations, table, place);
+    if !answer.is_done() {
+        return answer;
+    }
+    table::put_place(table, place, table::FREE, Marking::EMPTY);
+    answer
+}
+
+// The same on a graph that was judged before.
+pub fn close_on(events: Set, relations: &Relations, table: &mut [u8], place: usize) -> Answer
+    ensures { λ r. ⌜ r ≡ closeAnswerOn events (inTables (now (relations .entry))) (now (table .entry)) place ⌝ }
+    ensures { λ _. ⌜ now (table .exit) ≡ tableClosedOn events (inTables (now (relations .entry))) (now (table .entry)) place ⌝ }
+{
+    let answer = judge_close_on(events, relations, table, place);
     if !answer.is_done() {
         return answer;
     }

@@ -1,20 +1,21 @@
 -- What an acceptable graph gives the crates above: its parts are within the events, a step keeps a marking there, and what
 -- is judged once need not be judged again. Assumes nothing.
-use mathlib.Core.Path.{_≡_, refl, sym, subst}
+use mathlib.Core.Path.{_≡_, refl, sym, ap, subst}
 use mathlib.Core.Bool.{true, false}
 use mathlib.Core.List.{List}
 use Prim.Native.Nat.{ℕ, _≤_, _<_}
 use borrow.Author.Tests.{ltb-false, lt-ltb, le-ltb}
 use lib.Dec.{T, ltb, eqb→eq, lit≤}
 use lib.ListN.{length}
-use Rattle.sets.specs.Tests.{_and_, _or_, non, when_then_else_}
-use Rattle.sets.specs.Members.{width, bit, bitsOf, mem, those, everyBelow, isEmpty, within}
+use Rattle.sets.specs.Tests.{_and_, _or_, when_then_else_, non}
+use Rattle.sets.specs.Members.{width, mem, those, within, bit, bitsOf, everyBelow, isEmpty}
 use Rattle.sets.specs.Rows.{rowAt, inRow}
 use Rattle.sets.specs.Tables.{tableAt}
-use Rattle.sets.specs.Answers.{isDone}
+use Rattle.sets.specs.Answers.{isDone, thenAsk}
 use Rattle.sets.specs.declared.set.Set.{Set}
+use Rattle.sets.specs.declared.answer.Answer.{Answer}
 use Rattle.sets.specs.declared.answer.Answer.the-variants.{Done, AboveLimit}
-use Rattle.sets.proofs.Tests.{and-l, and-r, and-i, or-e, or-true, neither, nor, true→T, either}
+use Rattle.sets.proofs.Tests.{and-l, and-r, and-i, or-e, or-true, neither, nor, true→T, T→true, either}
 use Rattle.engine.proofs.Judging.{found-none, none-found}
 use Rattle.engine.proofs.Enabling.{marked-true}
 use Rattle.sets.proofs.Members.{those-e, within-e, within-i}
@@ -24,10 +25,10 @@ use Rattle.engine.specs.declared.marking.Marking.{Marking}
 use Rattle.engine.specs.declared.graph.Graph.{Graph}
 use Rattle.engine.specs.Relations.{relationCount, inTables, relationsOf, emptyGraph}
 use Rattle.engine.specs.Steps.{enabled, after}
-use Rattle.engine.specs.Judged.{stateWithin, rowWithin, rowsWithin, relationsWithin, graphWithin, trueOn, found, judgedFor, judged, judgedWith}
-use Rattle.engine.specs.Enabled.{enabledSet, marked, isTrue, graphAt}
+use Rattle.engine.specs.Judged.{stateWithin, rowWithin, rowsWithin, relationsWithin, graphWithin, trueOn, found, judgedFor, judged, judgedWith, judgedBeside}
+use Rattle.engine.specs.Enabled.{marked, graphAt, enabledSet, isTrue}
 use Rattle.sets.specs.Sizes.{mostActivities, longestTrace}
-use Rattle.engine.specs.Replay.{enabledOf, nextMarking, steppedOf, ending, replayFrom, replayOf}
+use Rattle.engine.specs.Replay.{enabledOf, enabledOn, nextMarking, steppedBy, steppedOf, steppedOn, ending, replayFrom, replayOf}
 use Rattle.engine.specs.Markings.{emptyMarking}
 
 -- ---- what was judged
@@ -76,6 +77,22 @@ module _ (g : Graph) (h : judged g ≡ Done) where
   judged-with m k =
       let t = tests g 0 h in
       none-found _ _ _ (neither _ _ (t .0) .0) (and-i _ _ (t .1) (k .inside)) (and-i _ _ (t .2) (k .truthful))
+
+  -- of a marking that may be refused too, what is left to judge
+  pub beside-judged : (m : Marking) → judgedWith g m ≡ judgedBeside (g .head .events) (relationsOf g) m
+  unfolding judgedWith judgedBeside _and_
+  beside-judged m j =
+      let t = tests g 0 h in
+      found (neither _ _ (t .0) .0 j) (T→true (graphWithin g) (t .1) j and stateWithin (g .head .events) (m .state))
+      (T→true (trueOn g (g .head .opening)) (t .2) j and trueOn g m)
+
+  pub enabled-on : (m : Marking) (e : ℕ) → enabledOf g m e ≡ enabledOn (g .head .events) (relationsOf g) m e
+  unfolding enabledOf enabledOn
+  enabled-on m e = ap (λ (x : Answer). thenAsk x (enabled (g .head .events) (relationsOf g) (m .state) e)) (beside-judged m)
+
+  pub stepped-on : (m : Marking) (e : ℕ) → steppedOf g m e ≡ steppedOn (g .head .events) (relationsOf g) m e
+  unfolding steppedOf steppedOn
+  stepped-on m e = ap (λ (x : Answer). steppedBy x (g .head .events) (relationsOf g) m e) (enabled-on m e)
 
   pub enabled-judged : (m : Marking) → Kept g m → (e : ℕ) → enabledOf g m e ≡ enabled (g .head .events) (relationsOf g) (m .state) e
   unfolding enabledOf

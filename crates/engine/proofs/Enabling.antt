@@ -12,7 +12,7 @@ use Rattle.sets.specs.declared.answer.Answer.{Answer}
 use Rattle.sets.specs.declared.answer.Answer.the-variants.{Done, NoEvent, NotIncluded, Waiting}
 use Rattle.sets.proofs.Tests.{T-ext, T-eq, and-l, and-r, and-i}
 use Rattle.sets.proofs.Members.{Whole, those-ext, those-of, within-i, within-e, mem-those}
-use Rattle.sets.proofs.Loops.{Gathered, gather-end}
+use Rattle.sets.proofs.MadeSets.{joined, is-those}
 use Rattle.engine.specs.declared.marking.State.{State}
 use Rattle.engine.specs.declared.marking.Marking.{Marking}
 use Rattle.engine.specs.Markings.{markingOf}
@@ -34,17 +34,14 @@ module _ (events : Set) (r : Relations) (s : State) where
       by true true false = refl
       by true true true = refl
 
-  -- so all of them are had, once every event that is included was asked whether it waits
-  pub gathered : (asked out : Set) → asked ≡ those (λ a. mem events a and mem (s .included) a)
-      → out ≡ those (λ a. mem asked a and non (waits r s a)) → out ≡ enabledSet events r s
+  -- so all of them are had: the events that are included, of which those that wait are left out
+  pub gathered : (live rest out : Set) → live ≡ those (λ a. mem events a and mem (s .included) a) → rest ≡ those (λ a. non (waits r s a))
+      → out ≡ those (λ a. mem live a and mem rest a) → out ≡ enabledSet events r s
   unfolding enabledSet
-  gathered asked out ha ho =
-      ho ∙ those-of asked (λ a. mem events a and mem (s .included) a) (λ a t. t and non (waits r s a)) ha
+  gathered live rest out hl hp ho =
+      joined _and_ live rest out (λ a. mem events a and mem (s .included) a) (λ a. non (waits r s a))
+      (is-those live (λ a. mem events a and mem (s .included) a) hl) (is-those rest (λ a. non (waits r s a)) hp) ho
       ∙ those-ext (λ a. mem events a and mem (s .included) a and non (waits r s a)) (λ a. isDone (enabled events r s a)) (λ a la. sym (done-parts a))
-
-pub all-free : (asked : Set) (r : Relations) (s : State) (out : Set) (i : ℕ) → Gathered asked (λ e. non (waits r s e)) out i → width ≤ i
-    → out ≡ those (λ a. mem asked a and non (waits r s a))
-all-free asked r s out i inv l = gather-end asked (λ e. non (waits r s e)) i out inv l
 
 -- what the code makes: the set with one more where nothing blocks it, and the marking of a state
 pub joined-free : (r : Relations) (s : State) (out left one u : Set) (e : ℕ) (t : Bool) → left ≡ those (blocking r s e) → t ≡ isEmpty left

@@ -62,3 +62,6 @@ ask-stops x y a r h k t = passed-by (isDone x) y x a (failed (isDone x) r (k ∙
 
 pub ask-goes : (x y a z : Answer) (r : Bool) → a ≡ x → r ≡ isDone a → not r ≡ false → z ≡ y → z ≡ thenAsk x y
 ask-goes x y a z r h k t e = taken (isDone x) y x z (held (isDone x) r (k ∙ ap isDone h) t) e
+
+pub asked-as : (x y a r : Answer) → a ≡ x → r ≡ thenAsk a y → r ≡ thenAsk x y
+asked-as x y a r h k = k ∙ ap (λ (b : Answer). thenAsk b y) h

@@ -21,7 +21,7 @@ use Rattle.engine.specs.Markings.{emptyMarking}
 use Rattle.engine.specs.Relations.{Relations}
 use Rattle.engine.specs.Steps.{enabled, after, accepting}
 use Rattle.engine.specs.Enabled.{marked}
-use Rattle.engine.specs.Replay.{ending, walkedOf, replayFrom}
+use Rattle.engine.specs.Replay.{steppedBy, ending, walkedOf, replayFrom}
 use Rattle.sets.proofs.Ways.{failed, held, taken, passed-by, stops-l, goes}
 
 -- what an answer's test tells of the answer that the definition has
@@ -31,17 +31,23 @@ undone x a r h k t = failed (isDone x) r (k ∙ ap isDone h) t
 done : (x a : Answer) (r : Bool) → a ≡ x → r ≡ isDone a → not r ≡ false → true ≡ isDone x
 done x a r h k t = held (isDone x) r (k ∙ ap isDone h) t
 
--- x is the answer that the definition has, a the one that the code was given
-module _ (x a : Answer) (r : Bool) (h : a ≡ x) (k : r ≡ isDone a) where
+-- a step by its answer
+module _ (a : Answer) (r : Bool) (k : r ≡ isDone a) where
   pub step-refused : (m m′ : Marking) → not r ≡ true
-      → _≡_ {A = Stepped} (record { answer = a; marking = m }) (record { answer = x; marking = when isDone x then m′ else m })
-  step-refused m m′ t j = record { answer = h j; marking = passed-by (isDone x) m′ m m (undone x a r h k t) refl j }
+      → _≡_ {A = Stepped} (record { answer = a; marking = m }) (record { answer = a; marking = when isDone a then m′ else m })
+  step-refused m m′ t j = record { answer = a; marking = passed-by (isDone a) m′ m m (undone a a r refl k t) refl j }
 
   pub step-done : (m n : Marking) (events : Set) (q : Relations) (s s′ : State) → not r ≡ false → s′ ≡ s → n ≡ marked events q s′
-      → _≡_ {A = Stepped} (record { answer = a; marking = n }) (record { answer = x; marking = when isDone x then marked events q s else m })
+      → _≡_ {A = Stepped} (record { answer = a; marking = n }) (record { answer = a; marking = when isDone a then marked events q s else m })
   step-done m n events q s s′ t hs e j =
-      record { answer = h j; marking = taken (isDone x) (marked events q s) m n (done x a r h k t) (e ∙ ap (marked events q) hs) j }
+      record { answer = a; marking = taken (isDone a) (marked events q s) m n (done a a r refl k t) (e ∙ ap (marked events q) hs) j }
 
+pub stepped-as : (x a : Answer) (events : Set) (q : Relations) (m : Marking) (e : ℕ) (r : Stepped) → a ≡ x → r ≡ steppedBy a events q m e
+    → r ≡ steppedBy x events q m e
+stepped-as x a events q m e r h k = k ∙ ap (λ (b : Answer). steppedBy b events q m e) h
+
+-- x is the answer that the definition has, a the one that the code was given
+module _ (x a : Answer) (r : Bool) (h : a ≡ x) (k : r ≡ isDone a) where
   pub verdict-refused : (y : Bool) → not r ≡ true
       → _≡_ {A = Verdict} (record { answer = a; accepting = false }) (record { answer = x; accepting = isDone x and y })
   verdict-refused y t j = record { answer = h j; accepting = stops-l (isDone x) y (undone x a r h k t) j }

@@ -1,6 +1,6 @@
 -- When a graph that is handed over as a value, and a marking beside it, are refused (01, "Numbers given back": 3, then 5;
 -- 02, 6/12: then 16).
-use mathlib.Core.Bool.{Bool}
+use mathlib.Core.Bool.{Bool, false}
 use mathlib.Core.List.{List}
 use Prim.Native.Nat.{ℕ}
 use lib.Dec.{ltb}
@@ -16,7 +16,7 @@ use Rattle.engine.specs.declared.marking.State.{State}
 use Rattle.engine.specs.declared.marking.Marking.{Marking}
 use Rattle.engine.specs.declared.graph.Head.{Head}
 use Rattle.engine.specs.declared.graph.Graph.{Graph}
-use Rattle.engine.specs.Relations.{relationCount, relationsOf}
+use Rattle.engine.specs.Relations.{Relations, relationCount, relationsOf}
 use Rattle.engine.specs.Enabled.{isTrue}
 
 -- executed, pending and included are within the events; of a marking no more is asked here (02, 6/12: "an enabled set that leaves the events
@@ -67,3 +67,7 @@ unfoldable pub judgedWith : Graph → Marking → Answer
 judgedWith g m =
     found (ltb mostActivities (g .head .activities)) (graphWithin g and stateWithin (g .head .events) (m .state))
     (trueOn g (g .head .opening) and trueOn g m)
+
+-- a marking beside a graph that was judged before: what is left of that, 5 and then 16
+unfoldable pub judgedBeside : Set → Relations → Marking → Answer
+judgedBeside events r m = found false (stateWithin events (m .state)) (isTrue events r m)

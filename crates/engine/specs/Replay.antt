@@ -19,23 +19,31 @@ use Rattle.engine.specs.Markings.{emptyMarking}
 use Rattle.engine.specs.Relations.{Relations, relationsOf}
 use Rattle.engine.specs.Steps.{enabled, after, accepting}
 use Rattle.engine.specs.Enabled.{marked}
-use Rattle.engine.specs.Judged.{judgedFor, judgedWith}
+use Rattle.engine.specs.Judged.{judgedFor, judgedWith, judgedBeside}
 
 -- enabled: 3, 5 and 16, then 8, 9, 10
 unfoldable pub enabledOf : Graph → Marking → ℕ → Answer
 enabledOf g m e = thenAsk (judgedWith g m) (enabled (g .head .events) (relationsOf g) (m .state) e)
 
+-- the same on a graph that was judged before
+unfoldable pub enabledOn : Set → Relations → Marking → ℕ → Answer
+enabledOn events r m e = thenAsk (judgedBeside events r m) (enabled events r (m .state) e)
+
 -- the marking after a step, with its own set of enabled activities
 abbrev pub nextMarking : Graph → Marking → ℕ → Marking
 nextMarking g m e = marked (g .head .events) (relationsOf g) (after (relationsOf g) (m .state) e)
 
--- the step: the marking after it, or as it was where refused
+-- a step that is answered so: the marking after it, or as it was where refused
+abbrev pub steppedBy : Answer → Set → Relations → Marking → ℕ → Stepped
+steppedBy a events r m e = record { answer = a; marking = when isDone a then marked events r (after r (m .state) e) else m }
+
+-- the step
 unfoldable pub steppedOf : Graph → Marking → ℕ → Stepped
-steppedOf g m e =
-    record {
-      answer = enabledOf g m e;
-      marking = when isDone (enabledOf g m e) then nextMarking g m e else m;
-    }
+steppedOf g m e = steppedBy (enabledOf g m e) (g .head .events) (relationsOf g) m e
+
+-- the same on a graph that was judged before
+unfoldable pub steppedOn : Set → Relations → Marking → ℕ → Stepped
+steppedOn events r m e = steppedBy (enabledOn events r m e) events r m e
 
 -- accepting: no where refused
 unfoldable pub acceptingOf : Graph → Marking → Verdict

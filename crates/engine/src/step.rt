@@ -4,7 +4,8 @@ ghost use Rattle.sets.specs.Tests.{_and_, _or_, non};
 ghost use Rattle.sets.specs.Members.{mem, those};
 ghost use Rattle.engine.specs.Relations.{graphOf, inTables};
 ghost use Rattle.engine.specs.Steps as rules;
-ghost use Rattle.engine.specs.Replay.{enabledOf, steppedOf, acceptingOf};
+ghost use Rattle.engine.specs.Replay.{enabledOf, enabledOn, steppedBy, steppedOf, steppedOn, acceptingOf};
+ghost use Rattle.sets.specs.Answers.{thenAsk};
 use crate::enabled;
 use crate::graph::CONDITIONS;
 use crate::graph::EXCLUDES;
@@ -85,15 +86,30 @@ pub fn is_accepting(s: State) -> bool
     s.pending.intersection(s.included).is_empty()
 }
 
+// Rules 8, 9, 10 where what was judged before them is done.
+fn ask_after(judged: Answer, events: Set, relations: &Relations, s: State, a: Activity) -> Answer
+    ensures { λ r. ⌜ r ≡ thenAsk judged (rules.enabled events (inTables (now (relations .entry))) s (a .0)) ⌝ }
+{
+    if !judged.is_done() {
+        return judged;
+    }
+    ask(events, relations, s, a)
+}
+
 // A graph, with a marking beside it: 3, 5 and 16, then 8, 9, 10.
 pub fn ask_judged(head: Head, relations: &Relations, m: Marking, a: Activity) -> Answer
     ensures { λ r. ⌜ r ≡ enabledOf (graphOf head (now (relations .entry))) m (a .0) ⌝ }
 {
-    let answer = judge::judge_beside(head, relations, m);
-    if !answer.is_done() {
-        return answer;
-    }
-    ask(head.events, relations, m.state, a)
+    let judged = judge::judge_beside(head, relations, m);
+    ask_after(judged, head.events, relations, m.state, a)
+}
+
+// A marking on a graph that was judged before: 5 and 16, then 8, 9, 10.
+pub fn ask_on(events: Set, relations: &Relations, m: Marking, a: Activity) -> Answer
+    ensures { λ r. ⌜ r ≡ enabledOn events (inTables (now (relations .entry))) m (a .0) ⌝ }
+{
+    let judged = judge::judge_marking(events, relations, m);
+    ask_after(judged, events, relations, m.state, a)
 }
 
 // Whether a step is enabled on any graph at any marking: the refusals of both, then rules 8, 9, 10.
@@ -104,18 +120,33 @@ pub fn enabled(g: Graph, m: Marking, a: Activity) -> Answer
     ask_judged(head, &g.relations, m, a)
 }
 
+// What a step gives that is answered so.
+fn taken(answer: Answer, events: Set, relations: &Relations, m: Marking, a: Activity) -> Stepped
+    ensures { λ r. ⌜ r ≡ steppedBy answer events (inTables (now (relations .entry))) m (a .0) ⌝ }
+{
+    if !answer.is_done() {
+        return Stepped { answer, marking: m };
+    }
+    let state = next(relations, m.state, a);
+    let marking = enabled::marked(events, relations, state);
+    Stepped { answer, marking }
+}
+
 // The step on any graph at any marking. `enabled(g, m, a)` would copy the relations, which are used again.
 pub fn step(g: Graph, m: Marking, a: Activity) -> Stepped
     ensures { λ r. ⌜ r ≡ steppedOf g m (a .0) ⌝ }
 {
     let head = g.head;
     let answer = ask_judged(head, &g.relations, m, a);
-    if !answer.is_done() {
-        return Stepped { answer, marking: m };
-    }
-    let state = next(&g.relations, m.state, a);
-    let marking = enabled::marked(head.events, &g.relations, state);
-    Stepped { answer, marking }
+    taken(answer, head.events, &g.relations, m, a)
+}
+
+// The step at any marking on a graph that was judged before, as one from a file is.
+pub fn step_on(events: Set, relations: &Relations, m: Marking, a: Activity) -> Stepped
+    ensures { λ r. ⌜ r ≡ steppedOn events (inTables (now (relations .entry))) m (a .0) ⌝ }
+{
+    let answer = ask_on(events, relations, m, a);
+    taken(answer, events, relations, m, a)
 }
 
 // Whether a marking is accepting, on any graph.

@@ -1,15 +1,15 @@
 -- The table of last places, and what it tells of what stands after a place. Assumes nothing.
 use mathlib.Core.Path.{_≡_, refl, sym, ap, _∙_, subst}
 use mathlib.Core.Bool.{Bool, true, false, cond}
-use mathlib.Core.List.{List, [], _∷_, _++_}
-use Prim.Native.Nat.{ℕ, _+_, _^_, _≤_, _<_}
+use mathlib.Core.List.{List, [], _∷_, _++_, append-assoc, append-nil}
+use Prim.Native.Nat.{ℕ, suc, _+_, _≤_, _<_}
 use native.Mathlib.Nat.{not-suc-le-zero}
 use native.Mathlib.Numerals.{add-one}
 use native.Mathlib.Omega.{arith}
 use borrow.Author.Tests.{lt-ltb, le-ltb, ltb-true, ltb-false, eq-eqb, ne-eqb, eqb-true, eqb-false}
 use lib.Dec.{eqb, ltb}
-use lib.ListN.{length, getD, set, take, drop, length-set, length-append, List·getD-append, drop-of-length-le}
-use lib.Seq.{take-suc, take-all, length-take-le, drop-append-le, getD-at, getD-set-same, getD-set-other}
+use lib.ListN.{length, getD, set, drop, length-set, replicate, length-append, length-replicate, List·getD-append, drop-of-length-le}
+use lib.Seq.{drop-append-le, getD-at, getD-set-same, getD-set-other}
 use Rattle.sets.specs.Tests.{_and_, _or_, non}
 use Rattle.sets.specs.Members.{width, mem, those}
 use Rattle.sets.specs.declared.set.Set.{Set}
@@ -17,6 +17,7 @@ use Rattle.sets.proofs.Tests.{T→true, F→false, split, either, and-true, and
 use Rattle.sets.proofs.Members.{those-ext, those-of, those-mem, Fits}
 use Rattle.rules.specs.Traces.{_has_}
 use Rattle.tally.proofs.Turns.{rest-next, seenIn}
+use Rattle.miner.specs.Facts.{placesFrom}
 
 -- ---- a table in which a place is put down
 
@@ -103,28 +104,34 @@ module _ (last τ : List ℕ) (e : ℕ) (len : length last ≡ width) (h : LastO
           ∙ sym (ap (λ (r : List ℕ). non (r has getD (τ ++ e ∷ []) i 0))
           (drop-of-length-le (τ ++ e ∷ []) {i = i + 1} (omega (arith, length-append τ (e ∷ [])))))
 
--- ---- the pass that fills the table, one place further and at the end
+-- ---- the pass that fills the table: what is left of it, from the table as it is, gives the whole
 
-module _ (σ : List ℕ) (i : ℕ) (h : i < length σ) where
-  so-far : take (i + 1) σ ≡ take i σ ++ getD σ i 0 ∷ []
-  so-far = ap (λ (n : ℕ). take n σ) (add-one i) ∙ take-suc σ i 0 h
+module _ (σ all : List ℕ) (i : ℕ) (last : List ℕ) (inv : placesFrom last i (drop i σ) ≡ all) where
+  pub places-next : (last′ : List ℕ) → i < length σ → last′ ≡ putPlace last (getD σ i 0) i → placesFrom last′ (i + 1) (drop (i + 1) σ) ≡ all
+  unfolding placesFrom
+  places-next last′ h hp =
+      (λ j. placesFrom (hp j) (add-one i j) (drop (i + 1) σ)) ∙ ap (placesFrom last i) (sym (rest-next σ i h)) ∙ inv
 
-  pub length-next : (last last′ : List ℕ) → length last ≡ width → last′ ≡ putPlace last (getD σ i 0) i → length last′ ≡ width
-  length-next last last′ len hp = ap length hp ∙ length-place last (getD σ i 0) i ∙ len
+  pub places-end : length σ ≤ i → last ≡ all
+  unfolding placesFrom
+  places-end h = ap (placesFrom last i) (sym (drop-of-length-le σ h)) ∙ inv
 
-  pub last-next : (last last′ : List ℕ) → length last ≡ width → LastOf last (take i σ) → last′ ≡ putPlace last (getD σ i 0) i
-      → LastOf last′ (take (i + 1) σ)
-  last-next last last′ len inv hp =
-      subst (λ (τ : List ℕ). LastOf last′ τ) (sym so-far)
-      (subst (λ (r : List ℕ). LastOf r (take i σ ++ getD σ i 0 ∷ []))
-      (ap (putPlace last (getD σ i 0)) (length-take-le i σ (omega arith)) ∙ sym hp)
-      (last-snoc last (take i σ) (getD σ i 0) len inv))
+-- what it leaves are the last places
+last-from : (last τ rest : List ℕ) → length last ≡ width → LastOf last τ → LastOf (placesFrom last (length τ) rest) (τ ++ rest)
+unfolding placesFrom
+last-from last τ [] len h = subst (LastOf last) (sym (append-nil τ)) h
+last-from last τ (e ∷ rest) len h =
+    let one : length (τ ++ e ∷ []) ≡ suc (length τ) = length-append τ (e ∷ []) ∙ add-one (length τ) in
+    subst (LastOf (placesFrom (putPlace last e (length τ)) (suc (length τ)) rest)) (append-assoc τ (e ∷ []) rest)
+    (subst (λ (n : ℕ). LastOf (placesFrom (putPlace last e (length τ)) n rest) ((τ ++ e ∷ []) ++ rest)) one
+    (last-from (putPlace last e (length τ)) (τ ++ e ∷ []) rest (length-place last e (length τ) ∙ len) (last-snoc last τ e len h)))
 
-pub table-none : (last : List ℕ) → LastOf last []
-table-none last i h = absurd (not-suc-le-zero h)
+last-of : (last σ : List ℕ) → length last ≡ width → LastOf (placesFrom last 0 σ) σ
+last-of last σ len = last-from last [] σ len (λ i h. absurd (not-suc-le-zero h))
 
-pub last-end : (σ last : List ℕ) (i : ℕ) → length σ ≤ i → LastOf last (take i σ) → LastOf last σ
-last-end σ last i h l = subst (λ (τ : List ℕ). LastOf last τ) (take-all i σ h) l
+-- from a table of zeros
+pub last-known : (σ last : List ℕ) → last ≡ placesFrom (replicate width 0) 0 σ → LastOf last σ
+last-known σ last h = subst (λ (l : List ℕ). LastOf l σ) (sym h) (last-of (replicate width 0) σ (length-replicate {A = ℕ} width 0))
 
 -- ---- what stands after a place, from what stands from it on
 

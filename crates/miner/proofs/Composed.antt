@@ -37,13 +37,7 @@ pub let-in-by : (L : Traces) (t t′ never never′ held held′ includes : List
 let-in-by L t t′ never never′ held held′ includes h hi hn hh =
     h ∙ ap (withTable t 2) (hi ∙ (λ i. through (λ r σ. forward (gains (letIn (hn i))) r [] σ) (hh i) L))
 
--- step 9: the replay, and what is waited for
-pub replay-by : (L : Traces) (events : Set) (includes includes′ excludes excludes′ unmet unmet′ : List ℕ)
-    → unmet′ ≡ through (λ r σ. forward (gains (missed events includes excludes)) r [] σ) unmet L → includes ≡ includes′ → excludes ≡ excludes′
-    → unmet′ ≡ through (λ r σ. forward (gains (missed events includes′ excludes′)) r [] σ) unmet L
-replay-by L events includes includes′ excludes excludes′ unmet unmet′ h hi hx =
-    h ∙ (λ i. through (λ r σ. forward (gains (missed events (hi i) (hx i))) r [] σ) unmet L)
-
+-- step 9: what is waited for
 pub nine-by : (L : Traces) (events : Set) (eight includes excludes t t′ first₀ unmet₀ first unmet : List ℕ)
     → t′ ≡ withTable t 0 (rowsFor events (waited events eight first unmet))
     → first ≡ through (λ r σ. forward (gains beforeFirst) r [] σ) first₀ L
@@ -225,7 +219,7 @@ module _ (A : ℕ) (L : Traces) (p : Profile) (events : Set) (t₁ t₂ t₃ : L
   pub found-by : events ≡ those (event L)
       → (length (noTables relationCount) ≡ relationCount * rowWords → t₁ ≡ fourTables eight (answersOf L events (tallied L) p) included excluding)
       → t₂ ≡ withTable t₁ 0
-      (nineFrom (withTable noRows 0 (tableAt t₁ 0)) (withTable noRows 0 (tableAt t₁ 2)) (withTable noRows 0 (tableAt t₁ 3)))
+      (nineFrom (withTable noRows 0 (tableAt t₁ 0)) (tableAt t₁ 2) (tableAt t₁ 3))
       → t₃ ≡ withTable t₂ 0 (rowsFor events (reducedOf (withTable noRows 0 (tableAt t₂ 0))))
       → s ≡ openingOf events → opening ≡ marked events (inTables t₃) s → graphOf (headOf A events opening) t₃ ≡ graphFound A L p
   unfolding graphFound
@@ -236,9 +230,8 @@ module _ (A : ℕ) (L : Traces) (p : Profile) (events : Set) (t₁ t₂ t₃ : L
       (answersOf L events (tallied L) p) included excluding) (sym is) four in
       let nine = held-c _ _ _ _ _ t₂ (nineFrom eight included excluding) one (length-for events _)
       (h₂
-      ∙ (λ i. withTable t₁ 0 (nineFrom (taken-from t₁ 0 eight (one .conditions) (length-for events _) i)
-      (taken-from t₁ 2 included (one .includes) (length-includes L events (tallied L) p) i)
-      (taken-from t₁ 3 excluding (one .excludes) (length-rowsOf _) i)))) in
+      ∙ (λ i. withTable t₁ 0 (nineFrom (taken-from t₁ 0 eight (one .conditions) (length-for events _) i) (one .includes i)
+      (one .excludes i)))) in
       let ten = held-c _ _ _ _ _ t₃ (waitedOf events eight included excluding L) nine (length-for events _)
       (h₃ ∙ ap (λ (x : List ℕ). withTable t₂ 0 (rowsFor events (reducedOf x)))
       (taken-from t₂ 0 _ (nine .conditions) (length-for events _))) in

@@ -231,7 +231,7 @@ module _ (L : Traces) where
       (with-events (afterFour L .excludes) (smallestSource (closes L (afterFour L))) s t))
   excludes-six Light = excludes-five
 
-  six-events : (p : Profile) (s t : ℕ) → afterSix L p .excludes s t ≡ (event L s and event L t and afterSix L p .excludes s t)
+  pub six-events : (p : Profile) (s t : ℕ) → afterSix L p .excludes s t ≡ (event L s and event L t and afterSix L p .excludes s t)
   unfolding afterSix afterFive step6 step5
   six-events Full s t = with-events (afterFive L .excludes) (λ x y. non (followed L x y)) s t
   six-events Light s t = with-events (afterFour L .excludes) (smallestSource (closes L (afterFour L))) s t

@@ -33,7 +33,7 @@ use Rattle.miner.proofs.LaterSteps.{betweens, responses-mined, conditio
 use Rattle.miner.proofs.OverLog.{neverFollowing, let-in-is, before-first-is, missed-is}
 
 -- the tables of four relations, put in one after the other
-four-tables : (q : Relations)
+pub four-tables : (q : Relations)
     → fourTables (rowsOf (λ t s. q .conditions s t)) (rowsOf (q .responses)) (rowsOf (q .includes)) (rowsOf (q .excludes)) ≡ tablesFrom q
 four-tables q =
     ap (λ (x : List ℕ). with-three (withTable x 0 (rowsOf (kept q 0)))) (empty-tablesOf relationCount none (λ k a b lk la lb. refl))

@@ -1,9 +1,11 @@
 -- What the passes of steps 6, 7 and 9 put into rows or take out of them: the words of the contracts of src/includes.rt, src/redundant.rt and
 -- src/conditions.rt. That they are the rules' answers is a theorem, so a reader of `mine` need not believe this file.
 use mathlib.Core.Path.{_≡_}
-use mathlib.Core.Bool.{Bool, false}
+use mathlib.Core.Bool.{Bool, false, cond}
 use mathlib.Core.List.{List, [], _∷_}
-use Prim.Native.Nat.{ℕ}
+use Prim.Native.Nat.{ℕ, suc}
+use lib.Dec.{ltb}
+use lib.ListN.{set}
 use Rattle.sets.specs.Tests.{_and_, _or_, non}
 use Rattle.sets.specs.Members.{width, mem, someBelow}
 use Rattle.sets.specs.Rows.{Relation, inRow, rowsOf}
@@ -14,6 +16,11 @@ use Rattle.tally.specs.Passes.{Fact}
 -- x comes later, and never directly follows something that stands before the place: row s of `unfollowed` has what never directly follows s
 unfoldable pub letIn : List ℕ → Fact
 letIn unfollowed e past rest x = rest has x and someBelow width (λ s. past has s and inRow unfollowed s x)
+
+-- the table of the last place of each activity, with the places from i on: a later place of an activity stands in the stead of an earlier one
+unfoldable pub placesFrom : List ℕ → ℕ → List ℕ → List ℕ
+placesFrom last i [] = last
+placesFrom last i (e ∷ rest) = placesFrom (cond (ltb e width) (set last e i) last) (suc i) rest
 
 -- rows less the pairs that are gone, whatever relation's rows they are
 abbrev pub Less : List ℕ → Relation → List ℕ → Type 0

@@ -25,8 +25,8 @@ use steps::relations;
 use tally::Tally;
 use tally::log;
 
-// Steps 2 and 8, by target.
-fn conditions_eight(events: Set, tally: &Tally) -> Rows
+// The conditions of steps 2 and 8, by target.
+pub fn conditions_eight(events: Set, tally: &Tally) -> Rows
     ensures { λ r. ⌜ r ≡ rowsFor events (reducedOf (conditionsOf events (now (tally .entry)))) ⌝ }
 {
     let two = relations::unbroken(events, tally, log::UNPRECEDED);
@@ -61,13 +61,13 @@ fn note_waiting(e: Activity, seen: Set, included: Set, first: &mut Rows, unmet: 
     rows::join(unmet, e, waiting);
 }
 
-// What is included after e, by includes and excludes alone: e's excludes go, then its includes come.
-fn included_after<'a>(included: Set, includes: &'a Rows, excludes: &'a Rows, e: Activity) -> Set
-    ensures { λ r. ⌜ r ≡ those (λ x. mem included x and non (inRow (now (excludes .entry)) (e .0) x)
-        or inRow (now (includes .entry)) (e .0) x) ⌝ }
+// What is included after e, by the includes and excludes of the tables alone: e's excludes go, then its includes come.
+fn included_after(included: Set, held: &Relations, e: Activity) -> Set
+    ensures { λ r. ⌜ r ≡ those (λ x. mem included x and non (inRow (tableAt (now (held .entry)) 3) (e .0) x)
+        or inRow (tableAt (now (held .entry)) 2) (e .0) x) ⌝ }
 {
-    let kept = included.difference(rows::row(excludes, e));
-    kept.union(rows::row(includes, e))
+    let kept = included.difference(tables::row(held, EXCLUDES, e));
+    kept.union(tables::row(held, INCLUDES, e))
 }
 
 // Replays the trace by includes and excludes alone, with all events included at first. The row of each event gains, in `first`, what
@@ -75,13 +75,12 @@ fn included_after<'a>(included: Set, includes: &'a Rows, excludes: &'a Rows, e: 
 fn replay_trace<'a>(
     trace: &'a [u8],
     events: Set,
-    includes: &'a Rows,
-    excludes: &'a Rows,
+    held: &'a Relations,
     first: &mut Rows,
     unmet: &mut Rows,
 )
     ensures before { λ _. ⌜ now (first .exit) ≡ forward (gains beforeFirst) (now (first .entry)) [] (now (trace .entry)) ⌝ }
-    ensures left { λ _. ⌜ now (unmet .exit) ≡ forward (gains (missed events (now (includes .entry)) (now (excludes .entry))))
+    ensures left { λ _. ⌜ now (unmet .exit) ≡ forward (gains (missed events (tableAt (now (held .entry)) 2) (tableAt (now (held .entry)) 3)))
         (now (unmet .entry)) [] (now (trace .entry)) ⌝ }
 {
     let mut seen = Set::EMPTY;
@@ -89,7 +88,7 @@ fn replay_trace<'a>(
     let mut i: usize = 0;
     while i < trace.len() {
         let e = Activity(trace[i]);
-        let then = included_after(included, includes, excludes, e);
+        let then = included_after(included, held, e);
         note_waiting(e, seen, included, first, unmet);
         included = then;
         seen = and_then(seen, e);
@@ -102,30 +101,6 @@ fn replay_log<'a>(
     log: &'a [u8],
     traces: usize,
     events: Set,
-    includes: &'a Rows,
-    excludes: &'a Rows,
-    first: &mut Rows,
-    unmet: &mut Rows,
-)
-    ensures { λ _. ⌜ now (first .exit) ≡ through (λ r σ. forward (gains beforeFirst) r [] σ) (now (first .entry))
-        (walked (now (log .entry)) traces 0) ⌝ }
-    ensures { λ _. ⌜ now (unmet .exit) ≡ through
-        (λ r σ. forward (gains (missed events (now (includes .entry)) (now (excludes .entry)))) r [] σ) (now (unmet .entry))
-        (walked (now (log .entry)) traces 0) ⌝ }
-{
-    let mut k: usize = 0;
-    while k < traces {
-        let trace = calllog::trace::trace_at(log, k);
-        replay_trace(trace, events, includes, excludes, first, unmet);
-        k += 1;
-    }
-}
-
-// The same by the includes and excludes of the tables.
-fn replay_by<'a>(
-    log: &'a [u8],
-    traces: usize,
-    events: Set,
     held: &'a Relations,
     first: &mut Rows,
     unmet: &mut Rows,
@@ -133,13 +108,15 @@ fn replay_by<'a>(
     ensures { λ _. ⌜ now (first .exit) ≡ through (λ r σ. forward (gains beforeFirst) r [] σ) (now (first .entry))
         (walked (now (log .entry)) traces 0) ⌝ }
     ensures { λ _. ⌜ now (unmet .exit) ≡ through
-        (λ r σ. forward (gains (missed events (withTable noRows 0 (tableAt (now (held .entry)) 2))
-        (withTable noRows 0 (tableAt (now (held .entry)) 3)))) r [] σ) (now (unmet .entry))
+        (λ r σ. forward (gains (missed events (tableAt (now (held .entry)) 2) (tableAt (now (held .entry)) 3))) r [] σ) (now (unmet .entry))
         (walked (now (log .entry)) traces 0) ⌝ }
 {
-    let includes = tables::taken(held, INCLUDES);
-    let excludes = tables::taken(held, EXCLUDES);
-    replay_log(log, traces, events, &includes, &excludes, first, unmet);
+    let mut k: usize = 0;
+    while k < traces {
+        let trace = calllog::trace::trace_at(log, k);
+        replay_trace(trace, events, held, first, unmet);
+        k += 1;
+    }
 }
 
 // The conditions, and those that are waited for.
@@ -157,12 +134,12 @@ pub fn put_nine(log: &[u8], traces: usize, events: Set, out: &mut Relations)
     ensures { λ _. ⌜ now (out .exit) ≡ withTable (now (out .entry)) 0
         (rowsFor events (waited events (withTable noRows 0 (tableAt (now (out .entry)) 0))
         (through (λ r σ. forward (gains beforeFirst) r [] σ) noRows (walked (now (log .entry)) traces 0))
-        (through (λ r σ. forward (gains (missed events (withTable noRows 0 (tableAt (now (out .entry)) 2))
-        (withTable noRows 0 (tableAt (now (out .entry)) 3)))) r [] σ) noRows (walked (now (log .entry)) traces 0)))) ⌝ }
+        (through (λ r σ. forward (gains (missed events (tableAt (now (out .entry)) 2) (tableAt (now (out .entry)) 3))) r [] σ) noRows
+        (walked (now (log .entry)) traces 0)))) ⌝ }
 {
     let mut first = rows::empty();
     let mut unmet = rows::empty();
-    replay_by(log, traces, events, out, &mut first, &mut unmet);
+    replay_log(log, traces, events, out, &mut first, &mut unmet);
     put_waited(events, &first, &unmet, out);
 }
 

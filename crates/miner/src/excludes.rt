@@ -17,8 +17,8 @@ use steps::relations;
 use tally::Tally;
 use tally::log;
 
-// Steps 1 to 5, by target.
-fn excluded_five(events: Set, tally: &Tally) -> Rows
+// The excludes of steps 1 to 5, by target.
+pub fn excluded_five(events: Set, tally: &Tally) -> Rows
     ensures { λ r. ⌜ r ≡ rowsFor events (excluders events (tableAt (now (tally .entry)) beforeTable) (tableAt (now (tally .entry)) laterTable)
         (chainsOf events (now (tally .entry)))) ⌝ }
 {

@@ -12,7 +12,7 @@ ghost use Rattle.sets.specs.Rows.{inRow, noRows, rowsOf, turned};
 ghost use Rattle.sets.specs.Tables.{tableAt, withTable};
 ghost use Rattle.rules.specs.Traces.{_has_};
 ghost use Rattle.tally.specs.Passes.{gained, gains, forward, through, walked};
-ghost use Rattle.miner.specs.Facts.{letIn};
+ghost use Rattle.miner.specs.Facts.{letIn, placesFrom};
 ghost use Rattle.miner.specs.Stages.{chainsOf};
 use engine::Relations;
 use engine::graph::INCLUDES;
@@ -36,7 +36,7 @@ pub fn and_then(seen: Set, e: Activity) -> Set
 }
 
 // A place of the trace for each activity, as a number.
-type Places = [usize; WIDTH];
+pub type Places = [usize; WIDTH];
 
 // Puts a place down as the activity's last so far; past the last activity nothing changes.
 fn put_place(last: &mut Places, e: Activity, at: Place)
@@ -48,14 +48,10 @@ fn put_place(last: &mut Places, e: Activity, at: Place)
     }
 }
 
-// What stands in the trace. `last` then has the last place of each of them: a place is its activity's last where the activity does not
-// come again.
-fn last_places(trace: &[u8], last: &mut Places) -> Set
-    requires { ⌜ length (now last) ≡ width ⌝ }
+// What stands in the trace. `last` then has the last place of each of them.
+pub fn last_places(trace: &[u8], last: &mut Places) -> Set
     ensures all { λ r. ⌜ r ≡ those (λ x. now (trace .entry) has x) ⌝ }
-    ensures places { λ _. ⌜ ((i : ℕ) → i < length (now (trace .entry)) → getD (now (trace .entry)) i 0 < width
-        → eqb (getD (now (last .exit)) (getD (now (trace .entry)) i 0) 0) i
-        ≡ non (drop (i + 1) (now (trace .entry)) has getD (now (trace .entry)) i 0)) ⌝ }
+    ensures places { λ _. ⌜ now (last .exit) ≡ placesFrom (now (last .entry)) 0 (now (trace .entry)) ⌝ }
 {
     let mut all = Set::EMPTY;
     let mut i: usize = 0;

@@ -43,8 +43,8 @@ pub struct Mined {
     pub graph: Graph,
 }
 
-// The responses of steps 2 and 8.
-fn responses_eight(events: Set, tally: &Tally) -> Rows
+// The responses of steps 2 and 8, by source.
+pub fn responses_eight(events: Set, tally: &Tally) -> Rows
     ensures { λ r. ⌜ r ≡ rowsFor events (reducedOf (responsesOf events (now (tally .entry)))) ⌝ }
 {
     let two = relations::unbroken(events, tally, log::UNANSWERED);

@@ -3,57 +3,30 @@ use mathlib.Core.Path.{_≡_, refl, sym, ap, ap₂, _∙_}
 use mathlib.Core.Bool.{Bool, true, false, not}
 use mathlib.Core.List.{List}
 use Prim.Native.Nat.{ℕ, _≤_, _<_}
-use borrow.Author.Tests.{not-true, not-false, eq-eqb, ne-eqb, lt-ltb, le-ltb}
+use borrow.Author.Tests.{not-true, not-false, lt-ltb, le-ltb}
 use lib.Dec.{ltb}
-use lib.ListN.{length, getD}
-use Rattle.sets.specs.Tests.{non, when_then_else_}
+use lib.ListN.{length}
+use Rattle.sets.specs.Tests.{when_then_else_}
 use Rattle.sets.specs.Answers.{isDone, thenAsk}
 use Rattle.sets.specs.declared.answer.Answer.{Answer}
-use Rattle.sets.specs.declared.answer.Answer.the-variants.{Done, BufferTooSmall, NotOpen}
+use Rattle.sets.specs.declared.answer.Answer.the-variants.{Done, BufferTooSmall}
 use Rattle.sets.proofs.Asking.{ask-on, ask-stop, done-is}
 use Rattle.sets.proofs.Ways.{taken, passed-by}
-use Rattle.graphfile.specs.Held.{readOf}
+use Rattle.engine.specs.Relations.{inTables}
+use Rattle.engine.specs.Judged.{judged}
+use Rattle.graphfile.specs.Held.{bareOf, readOf}
 use Rattle.graphfile.specs.declared.reader.Reading.{Reading}
-use Rattle.desk.specs.Places.{placeCount, tableLength, placeStart, isOpen}
-use Rattle.desk.proofs.Placing.{open-above, open-byte}
-use Rattle.desk.specs.Desk.{noPlace, openedOf, tableOpened, stepAnswer, tableStepped, closeAnswer, tableClosed}
+use Rattle.graphfile.specs.declared.reader.Bare.{Bare}
+use Rattle.bytes.proofs.Codec.{Bytes}
+use Rattle.desk.specs.Places.{tableLength}
+use Rattle.desk.specs.Desk.{placeAnswer, noPlace, openedOf, tableOpened, stepAnswer, tableStepped, closeAnswer, tableClosed}
+use Rattle.desk.specs.Desk.{stepAnswerOn, tableSteppedOn, closeAnswerOn, tableClosedOn}
+use Rattle.desk.proofs.JudgedBefore.{step-answer-on, step-table-on, close-answer-on, close-table-on}
 use Rattle.desk.specs.declared.requests.Opened.{Opened}
 use Rattle.port.specs.Port.{packedOf, blockedOf}
-use Rattle.port.specs.Desk.{placeAnswer, beforeOpen, beforePlace, refusedOpen, deskOpenedOf, deskOpenNumber, deskOpenTable}
+use Rattle.port.specs.Desk.{beforeOpen, beforePlace, refusedOpen, deskOpenedOf, deskOpenNumber, deskOpenTable}
 use Rattle.port.specs.Desk.{deskStepNumber, deskStepTable, deskCloseNumber, deskCloseTable}
-
--- ---- a place, by its first byte
-
-module _ (table : List ℕ) (p : ℕ) where
-  abbrev chosen : Bool → Bool → Answer
-  chosen short there = when short then BufferTooSmall else when non there then NotOpen else Done
-
-  by-tests : (short there : Bool) → ltb (length table) tableLength ≡ short → isOpen table p ≡ there
-      → chosen short there ≡ placeAnswer table p
-  unfolding placeAnswer
-  by-tests short there s o = sym (ap₂ chosen s o)
-
-  pub place-short : length table < tableLength → BufferTooSmall ≡ placeAnswer table p
-  place-short l = by-tests true (isOpen table p) (lt-ltb (length table) tableLength l) refl
-
-  module _ (long : tableLength ≤ length table) where
-    pub place-above : placeCount ≤ p → NotOpen ≡ placeAnswer table p
-    unfolding non
-    place-above u = by-tests false false (le-ltb (length table) tableLength long) (sym (open-above table p u))
-
-    pub place-free : p < placeCount → getD table (placeStart p) 0 ≡ 0 → NotOpen ≡ placeAnswer table p
-    unfolding non
-    place-free l z =
-        by-tests false false (le-ltb (length table) tableLength long)
-        (sym (open-byte table p l) ∙ ap not (eq-eqb (getD table (placeStart p) 0) 0 z))
-
-    pub place-open : p < placeCount → (getD table (placeStart p) 0 ≡ 0 → ⊥) → Done ≡ placeAnswer table p
-    unfolding non
-    place-open l z =
-        by-tests false true (le-ltb (length table) tableLength long)
-        (sym (open-byte table p l) ∙ ap not (ne-eqb (getD table (placeStart p) 0) 0 z))
-
-pub ruleset placed = (place-short, place-above, place-free, place-open)
+use Rattle.port.proofs.BareReading.{bare-answer, bare-graph, read-judged}
 
 -- ---- x is what is asked before there is a graph: refused with a, or done
 
@@ -185,65 +158,78 @@ module _ (file table : List ℕ) (p : ℕ) where
       pub close-no-place-table : table ≡ deskCloseTable file table p
       close-no-place-table = close-refused-table b the-place no-place
 
-    module _ (t : not d ≡ false) (r : Reading) (f : Bool) (hr : r ≡ readOf file) (hf : f ≡ isDone (r .answer)) where
-      pub the-file-then : r .answer ≡ beforePlace file table p
+    module _ (t : not d ≡ false) (x : Answer) (f : Bool) (hx : x ≡ readOf file .answer) (hf : f ≡ isDone x) where
+      pub the-file-then : x ≡ beforePlace file table p
       unfolding beforePlace
-      the-file-then =
-          ap (λ (x : Reading). x .answer) hr
-          ∙ sym (ask-on (placeAnswer table p) (readOf file .answer) (sym hb ∙ done-is b (sym hd ∙ not-false d t)))
+      the-file-then = hx ∙ sym (ask-on (placeAnswer table p) (readOf file .answer) (sym hb ∙ done-is b (sym hd ∙ not-false d t)))
 
+      pub asked : not f ≡ false → isDone (beforePlace file table p) ≡ true
+      asked u = ap isDone (sym the-file-then) ∙ sym hf ∙ not-false f u
+
+    module _ (t : not d ≡ false) (r : Bare) (f : Bool) (hr : r ≡ bareOf file) (hf : f ≡ isDone (r .answer)) where
       module _ (u : not f ≡ true) where
         no-file : isDone (r .answer) ≡ false
         no-file = sym hf ∙ not-true f u
 
+        its-answer : r .answer ≡ beforePlace file table p
+        its-answer = the-file-then t (r .answer) f (bare-answer file r hr) hf
+
         pub step-no-file : (e n : ℕ) → n ≡ blockedOf (r .answer) 0 false → n ≡ deskStepNumber file table p e
-        step-no-file = step-refused-number (r .answer) the-file-then no-file
+        step-no-file = step-refused-number (r .answer) its-answer no-file
 
         pub step-no-file-table : (e : ℕ) → table ≡ deskStepTable file table p e
-        step-no-file-table = step-refused-table (r .answer) the-file-then no-file
+        step-no-file-table = step-refused-table (r .answer) its-answer no-file
 
         pub close-no-file : (n : ℕ) → n ≡ packedOf (r .answer) 0 → n ≡ deskCloseNumber file table p
-        close-no-file = close-refused-number (r .answer) the-file-then no-file
+        close-no-file = close-refused-number (r .answer) its-answer no-file
 
         pub close-no-file-table : table ≡ deskCloseTable file table p
-        close-no-file-table = close-refused-table (r .answer) the-file-then no-file
+        close-no-file-table = close-refused-table (r .answer) its-answer no-file
 
-      module _ (u : not f ≡ false) where
-        pub asked : isDone (beforePlace file table p) ≡ true
-        asked = ap isDone (sym the-file-then) ∙ sym hf ∙ not-false f u
+-- the graph of a file that was read, and judged by reading it
+module _ (file : List ℕ) (small : Bytes file) (table : List ℕ) (p : ℕ) (b : Answer) (d : Bool) (hb : b ≡ placeAnswer table p) (hd : d ≡ isDone b)
+    (t : not d ≡ false) (r : Bare) (f : Bool) (hr : r ≡ bareOf file) (hf : f ≡ isDone (r .answer)) (u : not f ≡ false) where
+  there : isDone (beforePlace file table p) ≡ true
+  there = asked file table p b d hb hd t (r .answer) f (bare-answer file r hr) hf u
 
-        on : (y : Answer) → thenAsk (beforePlace file table p) y ≡ y
-        on y = ask-on (beforePlace file table p) y (done-is (beforePlace file table p) asked)
+  on : (y : Answer) → thenAsk (beforePlace file table p) y ≡ y
+  on y = ask-on (beforePlace file table p) y (done-is (beforePlace file table p) there)
 
-        pub step-served : (e n : ℕ) (x : Answer) → x ≡ stepAnswer (r .graph) table p e → n ≡ blockedOf x 0 false
-            → n ≡ deskStepNumber file table p e
-        unfolding deskStepNumber
-        step-served e n x q h =
-            h
-            ∙ ap (λ (y : Answer). blockedOf y 0 false)
-            (q ∙ ap (λ (y : Reading). stepAnswer (y .graph) table p e) hr ∙ sym (on (stepAnswer (readOf file .graph) table p e)))
+  accepted : judged (readOf file .graph) ≡ Done
+  accepted = read-judged file r hr f hf u small
 
-        pub step-served-table : (e : ℕ) (table′ : List ℕ) → table′ ≡ tableStepped (r .graph) table p e
-            → table′ ≡ deskStepTable file table p e
-        unfolding deskStepTable
-        step-served-table e table′ q =
-            served (beforePlace file table p) asked (tableStepped (readOf file .graph) table p e) table table′
-            (q ∙ ap (λ (y : Reading). tableStepped (y .graph) table p e) hr)
+  pub step-served : (e n : ℕ) (x : Answer) → x ≡ stepAnswerOn (r .events) (inTables (r .relations)) table p e → n ≡ blockedOf x 0 false
+      → n ≡ deskStepNumber file table p e
+  unfolding deskStepNumber
+  step-served e n x q h =
+      h
+      ∙ ap (λ (y : Answer). blockedOf y 0 false)
+      (q ∙ bare-graph file r hr f hf u (λ E R. stepAnswerOn E R table p e) ∙ sym (step-answer-on (readOf file .graph) accepted table p e)
+      ∙ sym (on (stepAnswer (readOf file .graph) table p e)))
 
-        pub close-served : (n : ℕ) (x : Answer) → x ≡ closeAnswer (r .graph) table p → n ≡ packedOf x 0
-            → n ≡ deskCloseNumber file table p
-        unfolding deskCloseNumber
-        close-served n x q h =
-            h
-            ∙ ap (λ (y : Answer). packedOf y 0)
-            (q ∙ ap (λ (y : Reading). closeAnswer (y .graph) table p) hr ∙ sym (on (closeAnswer (readOf file .graph) table p)))
+  pub step-served-table : (e : ℕ) (table′ : List ℕ) → table′ ≡ tableSteppedOn (r .events) (inTables (r .relations)) table p e
+      → table′ ≡ deskStepTable file table p e
+  unfolding deskStepTable
+  step-served-table e table′ q =
+      served (beforePlace file table p) there (tableStepped (readOf file .graph) table p e) table table′
+      (q ∙ bare-graph file r hr f hf u (λ E R. tableSteppedOn E R table p e) ∙ sym (step-table-on (readOf file .graph) accepted table p e))
 
-        pub close-served-table : (table′ : List ℕ) → table′ ≡ tableClosed (r .graph) table p → table′ ≡ deskCloseTable file table p
-        unfolding deskCloseTable
-        close-served-table table′ q =
-            served (beforePlace file table p) asked (tableClosed (readOf file .graph) table p) table table′
-            (q ∙ ap (λ (y : Reading). tableClosed (y .graph) table p) hr)
+  pub close-served : (n : ℕ) (x : Answer) → x ≡ closeAnswerOn (r .events) (inTables (r .relations)) table p → n ≡ packedOf x 0
+      → n ≡ deskCloseNumber file table p
+  unfolding deskCloseNumber
+  close-served n x q h =
+      h
+      ∙ ap (λ (y : Answer). packedOf y 0)
+      (q ∙ bare-graph file r hr f hf u (λ E R. closeAnswerOn E R table p) ∙ sym (close-answer-on (readOf file .graph) accepted table p)
+      ∙ sym (on (closeAnswer (readOf file .graph) table p)))
 
-pub ruleset stepping-there = (step-no-place, step-no-place-table, step-no-file, step-no-file-table, step-served, step-served-table)
+  pub close-served-table : (table′ : List ℕ) → table′ ≡ tableClosedOn (r .events) (inTables (r .relations)) table p
+      → table′ ≡ deskCloseTable file table p
+  unfolding deskCloseTable
+  close-served-table table′ q =
+      served (beforePlace file table p) there (tableClosed (readOf file .graph) table p) table table′
+      (q ∙ bare-graph file r hr f hf u (λ E R. tableClosedOn E R table p) ∙ sym (close-table-on (readOf file .graph) accepted table p))
 
-pub ruleset closing-there = (close-no-place, close-no-place-table, close-no-file, close-no-file-table, close-served, close-served-table)
+pub ruleset stepping-there = (step-no-place, step-no-place-table, step-no-file, step-no-file-table)
+
+pub ruleset closing-there = (close-no-place, close-no-place-table, close-no-file, close-no-file-table)

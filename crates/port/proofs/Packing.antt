@@ -5,32 +5,28 @@ use mathlib.Core.List.{List}
 use Prim.Native.Nat.{ℕ, _+_, _*_, _%_, _^_, _≤_, _<_}
 use native.Mathlib.Omega.{arith}
 use borrow.Author.Tests.{not-true, not-false, eq-eqb, ne-eqb, lt-ltb, le-ltb}
-use lib.Dec.{eqb, ltb}
+use lib.Dec.{ltb}
 use lib.ListN.{length}
 use Rattle.sets.specs.Tests.{non, when_then_else_}
 use Rattle.sets.specs.Answers.{numberOf, blockerOf, isDone, thenAsk}
 use Rattle.sets.specs.declared.answer.Answer.{Answer}
 use Rattle.sets.specs.declared.answer.Answer.the-variants.{Done, AboveLimit, BufferTooSmall, WrongArgument}
 use Rattle.sets.specs.Sizes.{longestTrace}
-use Rattle.sets.proofs.Asking.{gone-on, done-is, ask-stop}
-use Rattle.sets.specs.Members.{noSet}
-use Rattle.sets.specs.Tables.{noTables}
-use Rattle.engine.specs.Markings.{emptyState}
-use Rattle.engine.specs.Relations.{relationCount, inTables, emptyGraph}
+use Rattle.sets.proofs.Asking.{done-is, ask-stop}
+use Rattle.engine.specs.Relations.{inTables, emptyGraph}
+use Rattle.engine.specs.Replay.{walkedOf, replayFrom, replayOf, steppedOf, steppedOn}
+use Rattle.engine.proofs.Acceptable.{stepped-on, replay-judged, replay-long, empty-judged}
 use Rattle.engine.specs.Judged.{judged}
-use Rattle.engine.specs.Replay.{walkedOf, replayFrom, replayOf, steppedOf}
-use Rattle.engine.proofs.Acceptable.{replay-judged, replay-long, empty-judged}
 use Rattle.engine.specs.declared.marking.Marking.{Marking}
 use Rattle.engine.specs.declared.step.Stepped.{Stepped}
 use Rattle.engine.specs.declared.graph.Graph.{Graph}
 use Rattle.engine.specs.declared.replay.Replayed.{Replayed}
 use Rattle.engine.specs.declared.replay.Walked.{Walked}
-use Rattle.graphfile.specs.Refusals.{judgedFile}
-use Rattle.graphfile.specs.Held.{relationsIn, graphIn, bareOf, readOf}
-use Rattle.graphfile.specs.Layout.{eventsIn, stateIn}
+use Rattle.graphfile.specs.Held.{bareOf, readOf, graphIn}
 use Rattle.bytes.proofs.Codec.{Bytes}
-use Rattle.graphfile.proofs.RoundTrips.{file-graph}
 use Rattle.graphfile.specs.Writing.{writtenOf, fileAfter, unjudgedOf, unjudgedAfter}
+use Rattle.graphfile.specs.Refusals.{judgedFile}
+use Rattle.graphfile.proofs.RoundTrips.{file-graph}
 use Rattle.graphfile.proofs.Writes.{unjudged-written, unjudged-after}
 use Rattle.graphfile.specs.declared.reader.Reading.{Reading}
 use Rattle.graphfile.specs.declared.reader.Bare.{Bare}
@@ -44,6 +40,7 @@ use Rattle.miner.proofs.Given.{mined-judged}
 use Rattle.report.specs.declared.writer.Listed.{Listed}
 use Rattle.port.specs.Port.{packedOf, verdictOf, blockedOf, stepNumber, storedOf, putNumber, putBuffer, profileOf, inProfile, inProfileBuffer}
 use Rattle.port.specs.Port.{replayNumber, refusedStep, stepOf, openingAnswer, openingBytes}
+use Rattle.port.proofs.BareReading.{bare-answer, file-done, bare-events, bare-state, bare-relations, bare-graph, read-judged}
 
 pub packed-is : (a : Answer) (n low : ℕ) → low ≡ numberOf a → low + 256 * (n % 16777216) ≡ packedOf a n
 unfolding packedOf
@@ -160,10 +157,6 @@ pub ruleset profiles = (no-profile, no-change, in-profile, in-buffer, number-as)
 -- ---- a replay
 
 module _ (file trace : List ℕ) (r : Bare) (hr : r ≡ bareOf file) (d : Bool) (hd : d ≡ isDone (r .answer)) where
-  file-done : (t : Bool) → d ≡ t → isDone (readOf file .answer) ≡ t
-  unfolding readOf bareOf
-  file-done t h = sym (ap (λ (x : Bare). isDone (x .answer)) hr) ∙ sym hd ∙ h
-
   abbrev shown : Bool → ℕ
   shown t =
       when t then
@@ -172,8 +165,9 @@ module _ (file trace : List ℕ) (r : Bare) (hr : r ≡ bareOf file) (d : Bool) 
       else blockedOf (readOf file .answer) 0 false
 
   pub replay-refused : (n : ℕ) → not d ≡ true → n ≡ blockedOf (r .answer) 0 false → n ≡ replayNumber file trace
-  unfolding replayNumber readOf bareOf
-  replay-refused n h e = e ∙ ap (λ (x : Bare). blockedOf (x .answer) 0 false) hr ∙ sym (ap shown (file-done false (not-true d h)))
+  unfolding replayNumber
+  replay-refused n h e =
+      e ∙ ap (λ (x : Answer). blockedOf x 0 false) (bare-answer file r hr) ∙ sym (ap shown (file-done file r hr d hd false (not-true d h)))
 
   abbrev said : Walked → ℕ
   said x = blockedOf (x .answer) (x .place .0) (x .accepting)
@@ -183,29 +177,20 @@ module _ (file trace : List ℕ) (r : Bare) (hr : r ≡ bareOf file) (d : Bool) 
   replay-too-long n h l e =
       e
       ∙ ap (λ (x : Replayed). said (walkedOf x)) (sym (replay-long (readOf file .graph) trace l))
-      ∙ sym (ap shown (file-done true (not-false d h)))
+      ∙ sym (ap shown (file-done file r hr d hd true (not-false d h)))
 
-  -- the walk on what was read
-  abbrev walkOn : Bare → Walked
-  walkOn x = walkedOf (replayFrom (x .events) (inTables (x .relations)) (x .state) 0 trace)
-
-  pub replay-run : (n : ℕ) → not d ≡ false → Bytes file → length trace ≤ longestTrace → (p : Walked) → p ≡ walkOn r → n ≡ said p
-      → n ≡ replayNumber file trace
-  unfolding replayNumber readOf bareOf graphIn
+  pub replay-run : (n : ℕ) (h : not d ≡ false) → Bytes file → length trace ≤ longestTrace → (p : Walked)
+      → p ≡ walkedOf (replayFrom (r .events) (inTables (r .relations)) (r .state) 0 trace) → n ≡ said p → n ≡ replayNumber file trace
+  unfolding replayNumber
   replay-run n h small l p hp e =
-      let ok : judgedFile file ≡ Done = gone-on (r .answer) (judgedFile file) d (ap (λ (x : Bare). x .answer) hr) hd h in
       e
       ∙ ap said
-      (hp ∙ ap walkOn hr
-      ∙ ap (λ (a : Answer).
+      (hp
+      ∙ (λ j.
       walkedOf
-      (replayFrom (when isDone a then eventsIn file else noSet)
-      (inTables (when isDone a then relationsIn file relationCount else noTables relationCount))
-      (when isDone a then stateIn file else emptyState) 0 trace))
-      ok
-      ∙ ap walkedOf (sym (replay-judged (graphIn file) (file-graph file small ok) trace l)))
-      ∙ ap (λ (a : Answer). said (walkedOf (replayOf (when isDone a then graphIn file else emptyGraph) trace))) (sym ok)
-      ∙ sym (ap shown (file-done true (not-false d h)))
+      (replayFrom (bare-events file r hr d hd h j) (inTables (bare-relations file r hr d hd h j)) (bare-state file r hr d hd h j) 0 trace))
+      ∙ ap walkedOf (sym (replay-judged (readOf file .graph) (read-judged file r hr d hd h small) trace l)))
+      ∙ sym (ap shown (file-done file r hr d hd true (not-false d h)))
 
 pub ruleset replaying = (replay-refused, replay-too-long)
 
@@ -219,26 +204,30 @@ module _ (file bytes : List ℕ) (a : ℕ) where
       else when short then refusedStep BufferTooSmall
       else steppedOf (readOf file .graph) (markingFrom bytes) a
 
-  module _ (r : Reading) (d : Bool) (hr : r ≡ readOf file) (hd : d ≡ isDone (r .answer)) where
+  module _ (r : Bare) (d : Bool) (hr : r ≡ bareOf file) (hd : d ≡ isDone (r .answer)) where
     choice : (t short : Bool) → d ≡ t → ltb (length bytes) markingLength ≡ short → chosen t short ≡ stepOf file bytes a
     unfolding stepOf
-    choice t short e l =
-        sym (ap₂ chosen (ap (λ (x : Reading). isDone (x .answer)) (sym hr) ∙ sym hd ∙ e) l)
+    choice t short e l = sym (ap₂ chosen (file-done file r hr d hd t e) l)
 
     pub step-refused : not d ≡ true → refusedStep (r .answer) ≡ stepOf file bytes a
     unfolding non
-    step-refused n = ap (λ (x : Reading). refusedStep (x .answer)) hr ∙ choice false _ (not-true d n) refl
+    step-refused n = ap refusedStep (bare-answer file r hr) ∙ choice false _ (not-true d n) refl
 
     pub step-short : not d ≡ false → length bytes < markingLength → refusedStep BufferTooSmall ≡ stepOf file bytes a
     unfolding non
     step-short n l = choice true true (not-false d n) (lt-ltb (length bytes) markingLength l)
 
-    pub step-taken : (m : Marking) (s : Stepped) → not d ≡ false → markingLength ≤ length bytes → m ≡ markingFrom bytes → s ≡ steppedOf (r .graph) m a → s ≡ stepOf file bytes a
-    unfolding non
-    step-taken m s n l hm hs =
-        hs
-        ∙ ap₂ (λ (x : Reading) (y : Marking). steppedOf (x .graph) y a) hr hm
-        ∙ choice true false (not-false d n) (le-ltb (length bytes) markingLength l)
+-- reading has judged the graph
+pub step-taken : (file : List ℕ) → Bytes file → (bytes : List ℕ) (a : ℕ) (r : Bare) (d : Bool) → r ≡ bareOf file → d ≡ isDone (r .answer)
+    → (m : Marking) (s : Stepped) → not d ≡ false → markingLength ≤ length bytes → m ≡ markingFrom bytes
+    → s ≡ steppedOn (r .events) (inTables (r .relations)) m a → s ≡ stepOf file bytes a
+unfolding non
+step-taken file small bytes a r d hr hd m s n l hm hs =
+    hs
+    ∙ ap (λ (x : Marking). steppedOn (r .events) (inTables (r .relations)) x a) hm
+    ∙ bare-graph file r hr d hd n (λ E R. steppedOn E R (markingFrom bytes) a)
+    ∙ sym (stepped-on (readOf file .graph) (read-judged file r hr d hd n small) (markingFrom bytes) a)
+    ∙ choice file bytes a r d hr hd true false (not-false d n) (le-ltb (length bytes) markingLength l)
 
 -- of any step that gives s
 module _ (s x : Stepped) (hs : s ≡ x) where
@@ -248,7 +237,7 @@ module _ (s x : Stepped) (hs : s ≡ x) where
   pub step-number : (n : ℕ) → n ≡ stepNumber s → n ≡ stepNumber x
   step-number n e = e ∙ ap stepNumber hs
 
-pub ruleset stepping = (step-short, step-refused, step-taken, stored, step-number)
+pub ruleset stepping = (step-short, step-refused, stored, step-number)
 
 -- ---- the opening marking
 

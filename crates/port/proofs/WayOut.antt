@@ -22,7 +22,8 @@ use Rattle.finish.specs.declared.search.Way.{Way}
 use Rattle.finish.specs.declared.search.Finished.{Finished}
 use Rattle.port.specs.Port.{packedOf}
 use Rattle.desk.specs.WayOut.{finishedAt}
-use Rattle.port.specs.Desk.{placeAnswer, beforePlace}
+use Rattle.desk.specs.Desk.{placeAnswer}
+use Rattle.port.specs.Desk.{beforePlace}
 use Rattle.port.specs.WayOut.{wayInto, wayAfter, finishIn, deskFinishIn, shutNumber}
 use Rattle.port.proofs.Desk.{the-place, the-file-then, asked}
 
@@ -106,11 +107,13 @@ module _ (file table : List ℕ) (p room : ℕ) where
 
     module _ (t : not d ≡ false) (r : Reading) (f : Bool) (hr : r ≡ readOf file) (hf : f ≡ isDone (r .answer)) where
       pub no-graph-there : not f ≡ true → finishedBy (r .answer) [] ≡ deskFinishIn file table p room
-      no-graph-there u = refused-there (r .answer) (the-file-then file table p b d hb hd t r f hr hf) (sym hf ∙ not-true f u)
+      no-graph-there u =
+          refused-there (r .answer) (the-file-then file table p b d hb hd t (r .answer) f (ap (λ (x : Reading). x .answer) hr) hf)
+          (sym hf ∙ not-true f u)
 
       module _ (u : not f ≡ false) where
         before : isDone (beforePlace file table p) ≡ true
-        before = asked file table p b d hb hd t r f hr hf u
+        before = asked file table p b d hb hd t (r .answer) f (ap (λ (x : Reading). x .answer) hr) hf u
 
         pub narrow-there : room < 4 → finishedBy BufferTooSmall [] ≡ deskFinishIn file table p room
         unfolding non

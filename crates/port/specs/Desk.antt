@@ -8,15 +8,11 @@ use Rattle.sets.specs.declared.answer.Answer.{Answer}
 use Rattle.sets.specs.declared.answer.Answer.the-variants.{Done, NotOpen}
 use Rattle.graphfile.specs.Held.{readOf}
 use Rattle.desk.specs.Places.{isOpen}
-use Rattle.desk.specs.Desk.{onTable, noPlace, openedOf, tableOpened, stepAnswer, tableStepped, closeAnswer, tableClosed}
+use Rattle.desk.specs.Desk.{onTable, placeAnswer, noPlace, openedOf, tableOpened, stepAnswer, tableStepped, closeAnswer, tableClosed}
 use Rattle.desk.specs.declared.requests.Opened.{Opened}
 use Rattle.port.specs.Port.{packedOf, blockedOf}
 
--- what step and close ask of the table alone: 7, then 14 where the place is above 31 or not open
-unfoldable pub placeAnswer : List ℕ → ℕ → Answer
-placeAnswer table p = onTable table (when non (isOpen table p) then NotOpen else Done)
-
--- what is asked before there is a graph: that, of open the 7 alone, then the file's refusals
+-- what is asked before there is a graph: 7, for step and close 14 too, then the file's refusals
 unfoldable pub beforeOpen : List ℕ → List ℕ → Answer
 beforeOpen file table = onTable table (readOf file .answer)
 

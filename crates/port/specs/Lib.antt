@@ -3,3 +3,4 @@ pub mod Classroom
 pub mod Desk
 pub mod WayOut
 pub mod Marks
+pub mod Tallies

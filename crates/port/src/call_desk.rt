@@ -1,7 +1,6 @@
 // The call desk's functions (02, 5/12), on the graph of a file and a table of 1,056 lent bytes. The file is judged where the desk judges its graph:
-// after the table, and after the place of step and close.
+// after the table, and after the place of step and close. Reading has judged it, so that step and close judge the call's marking alone.
 ghost use mathlib.Core.Path.{_≡_};
-ghost use Rattle.port.specs.Desk.{placeAnswer};
 ghost use Rattle.port.specs.Desk.{deskOpenNumber, deskOpenTable, deskStepNumber, deskStepTable, deskCloseNumber, deskCloseTable};
 use crate::packed;
 use crate::packed_blocker;
@@ -28,22 +27,6 @@ pub extern "C" fn skelfora_desk_open(file: &[u8], table: &mut [u8]) -> u64
     packed(a, opened.place)
 }
 
-// What step, close and a way out ask of the table alone: 7, then 14.
-pub(crate) fn judge_place(table: &[u8], place: usize) -> Answer
-    ensures { λ r. ⌜ r ≡ placeAnswer (now (table .entry)) place ⌝ }
-{
-    if table.len() < desk::table::LENGTH {
-        return Answer::BufferTooSmall;
-    }
-    if desk::table::PLACES <= place {
-        return Answer::NotOpen;
-    }
-    if table[desk::table::PLACE * place] == desk::table::FREE {
-        return Answer::NotOpen;
-    }
-    Answer::Done
-}
-
 // One activity at one place: the number, and the blocker.
 #[no_mangle]
 pub extern "C" fn skelfora_desk_step(
@@ -55,17 +38,16 @@ pub extern "C" fn skelfora_desk_step(
     ensures { λ r. ⌜ r ≡ deskStepNumber (now (file .entry)) (now (table .entry)) place activity ⌝ }
     ensures { λ _. ⌜ now (table .exit) ≡ deskStepTable (now (file .entry)) (now (table .entry)) place activity ⌝ }
 {
-    let asked = judge_place(table, place);
+    let asked = desk::judge_place(table, place);
     if !asked.is_done() {
         return packed_blocker(asked, 0, false);
     }
-    let r = graphfile::read(file);
+    let r = graphfile::read_bare(file);
     let answer = r.answer;
     if !answer.is_done() {
         return packed_blocker(answer, 0, false);
     }
-    let head = r.graph.head;
-    let given = desk::step(head, &r.graph.relations, table, place, Activity(activity));
+    let given = desk::step_on(r.events, &r.relations, table, place, Activity(activity));
     packed_blocker(given, 0, false)
 }
 
@@ -75,16 +57,15 @@ pub extern "C" fn skelfora_desk_close(file: &[u8], table: &mut [u8], place: usiz
     ensures { λ r. ⌜ r ≡ deskCloseNumber (now (file .entry)) (now (table .entry)) place ⌝ }
     ensures { λ _. ⌜ now (table .exit) ≡ deskCloseTable (now (file .entry)) (now (table .entry)) place ⌝ }
 {
-    let asked = judge_place(table, place);
+    let asked = desk::judge_place(table, place);
     if !asked.is_done() {
         return packed(asked, 0);
     }
-    let r = graphfile::read(file);
+    let r = graphfile::read_bare(file);
     let answer = r.answer;
     if !answer.is_done() {
         return packed(answer, 0);
     }
-    let head = r.graph.head;
-    let given = desk::close(head, &r.graph.relations, table, place);
+    let given = desk::close_on(r.events, &r.relations, table, place);
     packed(given, 0)
 }

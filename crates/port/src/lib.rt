@@ -15,6 +15,7 @@ ghost use Rattle.report.specs.Summary.{summaryAfter};
 pub mod call_desk;
 pub mod classroom;
 pub mod marked;
+pub mod tallies;
 pub mod way_out;
 
 use engine::Graph;
@@ -84,7 +85,7 @@ fn put(answer: Answer, g: Graph, out: &mut [u8]) -> u64
 }
 
 // The profile that a number below 2 asks for.
-fn profile_of(n: u8) -> Profile
+pub(crate) fn profile_of(n: u8) -> Profile
     ensures { λ r. ⌜ r ≡ profileOf n ⌝ }
 {
     if n == 0 {
@@ -186,11 +187,11 @@ pub extern "C" fn skelfora_replay(file: &[u8], trace: &[u8]) -> u64
     packed_blocker(a, place, p.accepting)
 }
 
-// A step on the graph of a file: the file's refusals, then 7 where the marking has too few bytes, then the step's.
+// A step on the graph of a file: the file's refusals, then 7 where the marking has too few bytes, then the step's. Reading has judged the graph.
 fn stepped<'a>(file: &'a [u8], marking: &'a [u8], a: Activity) -> Stepped
     ensures { λ r. ⌜ r ≡ stepOf (now (file .entry)) (now (marking .entry)) (a .0) ⌝ }
 {
-    let r = graphfile::read(file);
+    let r = graphfile::read_bare(file);
     let answer = r.answer;
     if !answer.is_done() {
         return Stepped {
@@ -204,9 +205,8 @@ fn stepped<'a>(file: &'a [u8], marking: &'a [u8], a: Activity) -> Stepped
             marking: Marking::EMPTY,
         };
     }
-    let g = r.graph;
     let m = graphfile::marking::read_marking(marking);
-    engine::execute::executed(g, m, a)
+    engine::step::step_on(r.events, &r.relations, m, a)
 }
 
 // One step at a marking of 32 lent bytes, executed, pending, included, enabled; they stay as they were where it is refused.

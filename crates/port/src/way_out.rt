@@ -4,7 +4,6 @@ ghost use lib.ListN.{length};
 ghost use Rattle.sets.specs.Answers.{numberOf};
 ghost use Rattle.port.specs.WayOut.{wayInto, wayAfter, finishIn, finishNumber, finishBytes, shutNumber};
 ghost use Rattle.port.specs.WayOut.{deskFinishIn, deskFinishNumber, deskFinishBytes};
-use crate::call_desk;
 use crate::packed;
 use finish::Finished;
 use finish::Way;
@@ -90,7 +89,7 @@ pub extern "C" fn skelfora_finish<'a, 'w>(
 fn finished_at<'a>(file: &'a [u8], table: &'a [u8], place: usize, room: usize) -> Finished
     ensures { λ r. ⌜ r ≡ deskFinishIn (now (file .entry)) (now (table .entry)) place room ⌝ }
 {
-    let asked = call_desk::judge_place(table, place);
+    let asked = desk::judge_place(table, place);
     if !asked.is_done() {
         return Finished {
             answer: asked,

@@ -10,7 +10,8 @@ use lib.ListN.{length}
 use Rattle.sets.specs.Answers.{numberOf, blockerOf}
 use Rattle.sets.specs.declared.answer.Answer.{Answer}
 use Rattle.sets.specs.declared.answer.Answer.the-variants.{Done}
-use Rattle.engine.specs.Replay.{enabledOf, steppedOf, acceptingOf, ending, replayOf}
+use Rattle.engine.specs.Relations.{inTables, relationsOf}
+use Rattle.engine.specs.Replay.{enabledOf, steppedOf, steppedOn, acceptingOf, ending, replayOf}
 use Rattle.engine.specs.declared.marking.Marking.{Marking}
 use Rattle.engine.specs.declared.graph.Graph.{Graph}
 use Rattle.engine.specs.declared.step.Stepped.{Stepped}
@@ -37,6 +38,7 @@ use Rattle.sets.proofs.answer.Answer.number.Reads as number
 use Rattle.sets.proofs.answer.Answer.blocker.Reads as blocker
 use Rattle.engine.proofs.step.enabled.Reads as enabled
 use Rattle.engine.proofs.step.step.Reads as step
+use Rattle.engine.proofs.step.step_on.Reads as step-on
 use Rattle.engine.proofs.step.accepting.Reads as accepting
 use Rattle.engine.proofs.replay.replay.Reads as replay
 use Rattle.calllog.proofs.judge.judge_log.Reads as judge-log
@@ -214,6 +216,14 @@ module _ (g : Graph) where
 
     pub step-said : (e : ℕ) (r : Stepped) → step-gives e r → r ≡ steppedOf g m e
     step-said e r c = c .2
+
+    -- the same on lent relations, of a graph that was judged before
+    abbrev pub step-on-gives : ℕ → Stepped → Type 0
+    step-on-gives e r =
+        Holding (g .relations) (λ lent. Gives step-on.Post (λ κ. (g .head .events, (lent, (m, (record { 0 = e }, tt))))) (λ κ. r))
+
+    pub step-on-said : (e : ℕ) (r : Stepped) → step-on-gives e r → r ≡ steppedOn (g .head .events) (relationsOf g) m e
+    step-on-said e r c = c .2 .2 ∙ ap (λ (x : List ℕ). steppedOn (g .head .events) (inTables x) m e) (c .1)
 
     -- the marking is lent, and is n afterwards
     abbrev pub execute-gives : ℕ → Answer → Marking → Type 0

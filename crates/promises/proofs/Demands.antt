@@ -8,7 +8,7 @@
 -- out; and rules/proofs/Cases, the (P) cases of 01 in one table under one theorem. The requests of 02 have a file each:
 -- PlainEngine, 1/12: the engine on lists of pairs gives what the engine on sets gives.
 -- Blocker, 2/12: 10 carries the smallest activity that blocks, every other number 255.
--- Light, 3/12: what the profiles are, what the listing program's arguments mean, what 12 leaves, what the summary counts.
+-- Light, 3/12: what the profiles are, what 12 leaves, what the summary counts.
 -- Desk, 5/12: what the call desk answers at a place depends on that place's own call alone; open; a freed place.
 -- Enabled, 6/12: every marking given back has the true set of enabled activities; 16 exactly where a set is false; a replay is its steps.
 -- NotRedundant, 7/12: which exclusions step 7 takes out of the mined graph, and that it takes out no other.
@@ -16,6 +16,9 @@
 -- FinishAtPlace, 8/12: at a place of the desk the way out is that of the place's own call; 14 exactly where there is none.
 -- ShutOut, 8/12: what is said to have shut a step out is an event of the call that excludes it.
 -- Marks, 9/12: each count is the number of traces of its kind, and they add up; the measures; 18 and 19; demand 3 in marks.
+-- LightByDefault, 11/12: what the listing program's arguments mean, none being light; that nothing else moved, and what is written for each.
+-- SameTraces, 12/12: logs with the same A and the same set of non-empty traces give the same graph.
+-- Months, 12/12: what tallies of months hold, joined in any order and grouping, and the relations of steps 1 to 8 that are read from them.
 use mathlib.Core.Path.{_≡_, refl, sym, ap, subst, _∙_}
 use mathlib.Core.Bool.{Bool, true, false}
 use mathlib.Core.Logic.{_⊎_}
@@ -62,6 +65,8 @@ use Rattle.bytes.proofs.Codec.{Bytes}
 use Rattle.graphfile.proofs.GraphFile.{Machine}
 use Rattle.graphfile.proofs.RoundTrips.{written-then-read, read-then-written}
 use Rattle.rules.specs.declared.Profile.{Profile}
+use Rattle.rules.specs.Mining.{mined}
+use Rattle.rules.specs.Mined.{minedGraph}
 use Rattle.rules.proofs.FromFile.{file-accepted}
 use Rattle.miner.specs.Mine.{minedOf}
 use Rattle.miner.specs.declared.mining.Mined.{Mined}
@@ -258,12 +263,14 @@ module _ (g : Graph) where
 
 -- ---- the mined graph is, pair for pair, the one that the rules give, in either profile
 
-pub mine-pairs : (bytes : List ℕ) (p : Profile) (r : Mined) → mine-gives bytes p r → numberOf (r .answer) ≡ 0
-    → PairForPair (logOf bytes .activities) (logOf bytes .traces) p (r .graph)
-mine-pairs bytes p r c d =
-    subst (PairForPair (logOf bytes .activities) (logOf bytes .traces) p)
-    (sym (ap (λ (x : Mined). x .graph) (mine-said bytes p r c) ∙ mined-graph bytes p (sym (the-mined bytes p r c) ∙ done-by _ d)))
-    (pairs (logOf bytes .activities) (logOf bytes .traces) (file-accepted bytes) p)
+module _ (bytes : List ℕ) (p : Profile) (r : Mined) (c : mine-gives bytes p r) (d : numberOf (r .answer) ≡ 0) where
+  pub mine-graph : r .graph ≡ minedGraph (logOf bytes .activities) (logOf bytes .traces) p
+  mine-graph = ap (λ (x : Mined). x .graph) (mine-said bytes p r c) ∙ mined-graph bytes p (sym (the-mined bytes p r c) ∙ done-by _ d)
+
+  pub mine-pairs : PairForPair (logOf bytes .activities) (logOf bytes .traces) (mined (logOf bytes .traces) p) (r .graph)
+  mine-pairs =
+      subst (PairForPair (logOf bytes .activities) (logOf bytes .traces) (mined (logOf bytes .traces) p)) (sym mine-graph)
+      (pairs (logOf bytes .activities) (logOf bytes .traces) (file-accepted bytes) p)
 
 -- ---- the bit-set engine answers as the set rules do, for a graph and a marking that are not refused
 

@@ -3,7 +3,8 @@
 --
 -- 1. "Opening, reading a graph file, each step, the plain engine and the desk's open all keep it true": `mine-true`, `read-true`,
 --    `step-true`, `execute-true`, `replay-true`, `plain-step-true`, `plain-execute-true`, `plain-replay-true`, `open-true`, `desk-step-true`.
---    A replay that is refused before its first event gives the empty marking. What a refused step gives back is what it was handed.
+--    A replay that is refused before its first event gives the empty marking. What a refused step gives back is what it was handed. What
+--    is given by a step that judges the marking alone, on a graph judged before, is what the step gives (`step-on-step`).
 -- 2. "A marking handed over with a false set is not believed": `gives-16`, `given-16`, and for a graph's own opening marking `graph-16`, `16-graph`.
 -- 3. A replay works the set out once, and gives what its steps give that keep it one by one (`replay-by-steps`).
 -- 4. 2/12's blocker is 255 exactly for the members of the set, and beside 8 and 9 (`set-blocker`, `blocker-set`).
@@ -33,7 +34,7 @@ use Rattle.engine.specs.Relations.{Relations, relationsOf, emptyGraph}
 use Rattle.engine.specs.Steps.{blocking, waits, blocker, enabled, after, accepting}
 use Rattle.engine.specs.Enabled.{marked, isTrue}
 use Rattle.engine.specs.Judged.{stateWithin, graphWithin, trueOn, found, judgedFor, judged, judgedWith}
-use Rattle.engine.specs.Replay.{enabledOf, nextMarking, steppedOf, acceptingOf, ending, replayFrom, replayOf}
+use Rattle.engine.specs.Replay.{enabledOf, nextMarking, steppedBy, steppedOf, acceptingOf, ending, replayFrom, replayOf}
 use Rattle.engine.specs.declared.marking.State.{State}
 use Rattle.engine.specs.declared.marking.Marking.{Marking}
 use Rattle.engine.specs.declared.graph.Head.{Head}
@@ -43,7 +44,7 @@ use Rattle.engine.specs.declared.step.Verdict.{Verdict}
 use Rattle.engine.specs.declared.replay.Replayed.{Replayed}
 use Rattle.engine.proofs.Judging.{found-none}
 use Rattle.engine.proofs.Enabling.{done-parts, marked-true, true-marked, true-says}
-use Rattle.engine.proofs.Acceptable.{Kept, judged-true, judged-with, stepped-judged, replay-judged, opening-kept, after-kept}
+use Rattle.engine.proofs.Acceptable.{Kept, judged-true, judged-with, stepped-on, stepped-judged, replay-judged, opening-kept, after-kept}
 use Rattle.plain.specs.Graphs.{PlainGraph, plainOf, plainRelations, plainTrue, plainJudgedFor, plainJudgedWith}
 use Rattle.plain.specs.Results.{plainEnabledOf, plainSteppedOf, plainReplayOf}
 use Rattle.graphfile.specs.Refusals.{judgedFile}
@@ -59,7 +60,7 @@ use Rattle.desk.specs.Desk.{openAnswer, openedOf, stepAnswer, tableStepped}
 use Rattle.desk.proofs.Serving.{open-accepted}
 use Rattle.desk.proofs.OnePlace.{stepped-marking}
 use Rattle.desk.specs.declared.requests.Opened.{Opened}
-use Rattle.promises.proofs.Contracts.{enabled-gives, enabled-said, step-gives, step-said, execute-gives, execute-said}
+use Rattle.promises.proofs.Contracts.{enabled-gives, enabled-said, step-gives, step-said, step-on-gives, step-on-said, execute-gives, execute-said}
 use Rattle.promises.proofs.Contracts.{accepting-gives, accepting-said, replay-gives, replay-said, read-gives, read-said, write-gives, write-said, mine-gives, mine-said}
 use Rattle.engine.proofs.Acceptable.{empty-judged}
 use Rattle.miner.proofs.Given.{mined-judged}
@@ -87,6 +88,10 @@ module _ (g : Graph) (m : Marking) (ok : numberOf (judgedWith g m) ≡ 0) where
   unfolding steppedOf
   execute-true e a n c =
       subst (λ (x : Stepped). T (trueOn g (x .marking))) (sym (execute-said g m e a n c)) (true-after e (isDone (enabledOf g m e)))
+
+-- on a graph that was judged before the marking alone need be judged: what `step_on` gives is what `step` gives
+pub step-on-step : (g : Graph) (m : Marking) (e : ℕ) (r : Stepped) → numberOf (judged g) ≡ 0 → step-on-gives g m e r → r ≡ steppedOf g m e
+step-on-step g m e r ok c = step-on-said g m e r c ∙ sym (stepped-on g (done-is (judged g) (ap (λ (n : ℕ). eqb n 0) ok)) m e)
 
 -- wherever a replay ends
 ran-true : (events : Set) (r : Relations) (s : State) (i : ℕ) (σ : List ℕ) → T (isTrue events r (replayFrom events r s i σ .marking))
@@ -248,13 +253,17 @@ module _ (g : Graph) (m : Marking) where
   enabled-16 e a c f = ap numberOf (enabled-said g m e a c ∙ asked-16 f e)
 
   -- a step then changes nothing
-  pub step-16 : (e : ℕ) (r : Stepped) → step-gives g m e r → FalseBeside g m → (numberOf (r .answer) ≡ 16) × (r .marking ≡ m)
+  stepped-16 : FalseBeside g m → (e : ℕ) → steppedOf g m e ≡ record { answer = FalseEnabled; marking = m }
   unfolding steppedOf
+  stepped-16 f e = ap (λ (x : Answer). steppedBy x (g .head .events) (relationsOf g) m e) (asked-16 f e)
+
+  pub step-16 : (e : ℕ) (r : Stepped) → step-gives g m e r → FalseBeside g m → (numberOf (r .answer) ≡ 16) × (r .marking ≡ m)
   step-16 e r c f =
-      let h = step-said g m e r c in (
-        ap (λ (x : Stepped). numberOf (x .answer)) h ∙ ap numberOf (asked-16 f e),
-        ap (λ (x : Stepped). x .marking) h ∙ ap (λ (x : Answer). when isDone x then nextMarking g m e else m) (asked-16 f e),
-      )
+      let h = step-said g m e r c ∙ stepped-16 f e in (ap (λ (x : Stepped). numberOf (x .answer)) h, ap (λ (x : Stepped). x .marking) h)
+
+  pub execute-16 : (e : ℕ) (a : Answer) (n : Marking) → execute-gives g m e a n → FalseBeside g m → (numberOf a ≡ 16) × (n ≡ m)
+  execute-16 e a n c f =
+      let h = execute-said g m e a n c ∙ stepped-16 f e in (ap (λ (x : Stepped). numberOf (x .answer)) h, ap (λ (x : Stepped). x .marking) h)
 
 -- a graph by itself, as `replay` and `write` judge it: its opening marking is the false one
 pub record FalseOpening (g : Graph) : Type 0 where

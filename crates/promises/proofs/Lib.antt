@@ -20,3 +20,10 @@ pub mod FinishAtPlace
 pub mod ShutOut
 pub mod NotRedundant
 pub mod Marks
+pub mod LightByDefault
+pub mod Together
+pub mod Joining
+pub mod TallyBuffers
+pub mod AbsentSteps
+pub mod Months
+pub mod SameTraces

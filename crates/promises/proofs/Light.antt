@@ -1,24 +1,22 @@
 -- THE LIGHT PROFILE (02, 3/12), as theorems about the public functions. Demands 2 and 3 are in Demands, each one theorem over the profile;
 -- the light graph of L is in the table of rules/proofs/Cases, and both listings of L are in report/proofs/Examples. Here: what the profiles
--- are, what the listing program's arguments mean, what 12 leaves, and what the summary counts. Assumes nothing.
+-- are, what 12 leaves, and what the summary counts. What the listing program's arguments mean is in LightByDefault. Assumes nothing.
 use mathlib.Core.Path.{_≡_, refl, sym, ap, ap₂, _∙_}
 use mathlib.Core.Bool.{Bool, false}
 use mathlib.Core.List.{List, _++_}
 use Prim.Native.Nat.{ℕ, zero, suc, _+_, _<_}
 use native.Mathlib.Nat.{zero-add}
 use native.Mathlib.Omega.{arith}
-use lib.Dec.{T, eqb, eqb→eq}
+use lib.Dec.{T, eqb}
 use lib.ListN.{length, length-append, getD, drop, List·getD-append}
-use lib.Seq.{getD-append-add, take-all}
+use lib.Seq.{getD-append-add}
 use Rattle.sets.specs.Tests.{_and_, non, when_then_else_}
 use Rattle.sets.specs.Members.{width, countBelow}
 use Rattle.sets.specs.Rows.{Relation, listFrom}
-use Rattle.bytes.specs.Opens.{opensWith}
 use Rattle.sets.specs.Answers.{numberOf, isDone}
 use Rattle.sets.specs.declared.answer.Answer.{Answer}
 use Rattle.sets.specs.declared.answer.Answer.the-variants.{WrongArgument}
-use Rattle.sets.proofs.Tests.{and-l, and-r, false→F, F→false}
-use Rattle.bytes.proofs.Opens.{opens-is}
+use Rattle.sets.proofs.Tests.{false→F, F→false}
 use Rattle.sets.proofs.RowLaws.{getD-listFrom}
 use Rattle.engine.specs.Relations.{Relations}
 use Rattle.calllog.specs.Logs.{logOf}
@@ -28,15 +26,11 @@ use Rattle.rules.specs.Traces.{Traces}
 use Rattle.rules.specs.Mining.{noRelations, event, step1, step2, step3, step4, step5, step6, step7, step8, step9, step10, afterFive, afterSix, afterSeven, afterEight, mined}
 use Rattle.rules.proofs.Acceptable.{mined-reasons}
 use Rattle.rules.proofs.FromFile.{file-accepted}
-use Rattle.report.specs.Choice.{fullWord, lightWord, says, choiceOf}
 use Rattle.report.specs.Summary.{othersOf, countsOf, summaryOf, summaryLength, summaryAfter}
-use Rattle.report.specs.declared.choice.Choice.{Choice}
-use Rattle.report.specs.declared.choice.Choice.the-variants.{Listing, Refused}
 use Rattle.report.proofs.SummaryLaws.{length-counts}
-use Rattle.report.proofs.Choosing.{chose-many}
 use Rattle.port.specs.Port.{packedOf, inProfile}
 use Rattle.port.proofs.Packing.{no-profile, no-change}
-use Rattle.promises.proofs.Contracts.{choose-gives, choose-said, write-summary-gives, write-summary-said}
+use Rattle.promises.proofs.Contracts.{write-summary-gives, write-summary-said}
 use Rattle.promises.proofs.Contracts.{skelfora-mine-gives, skelfora-mine-said, skelfora-listing-gives, skelfora-listing-said, skelfora-summary-gives, skelfora-summary-said}
 
 -- ================ THE PROFILES: full has all ten steps, light has all but the sixth
@@ -52,43 +46,6 @@ module _ (L : Traces) where
   pub light-skips-six : mined L Light ≡ step10 L (step9 L (step8 L (step7 L five)))
   unfolding mined afterEight afterSeven afterSix afterFive
   light-skips-six = refl
-
--- ================ THE ARGUMENTS: `choose` is given how many there are, and the bytes of the first
-
--- bytes that say a word are the word
-word-is : (word bytes : List ℕ) → length bytes ≡ length word → T (opensWith word bytes) → bytes ≡ word
-word-is word bytes l h = sym (take-all (length word) bytes (omega (arith, l))) ∙ opens-is word bytes h
-
-says-not : (word bytes : List ℕ) → (bytes ≡ word → ⊥) → says word bytes ≡ false
-says-not word bytes n = F→false _ (λ h. n (word-is word bytes (eqb→eq _ _ (and-l _ _ h)) (and-r _ _ h)))
-
-module _ (argument : List ℕ) (r : Choice) where
-  -- none: full
-  pub no-argument : choose-gives argument 0 r → r ≡ Listing Full
-  unfolding choiceOf
-  no-argument c = choose-said argument 0 r c
-
-  -- one that is neither word: 12
-  pub another-word : choose-gives argument 1 r → (argument ≡ fullWord → ⊥) → (argument ≡ lightWord → ⊥) → r ≡ Refused WrongArgument
-  unfolding choiceOf
-  another-word c f l =
-      choose-said argument 1 r c
-      ∙ (λ i. when says-not fullWord argument f i then Listing Full else when says-not lightWord argument l i then Listing Light
-      else Refused WrongArgument)
-
-  -- more than one: 12
-  pub many-arguments : (count : ℕ) → 1 < count → choose-gives argument count r → r ≡ Refused WrongArgument
-  many-arguments count more c =
-      choose-said argument count r c ∙ sym (chose-many argument count (λ none. omega (arith, none, more)) more)
-
--- the two words
-pub the-word-full : (r : Choice) → choose-gives fullWord 1 r → r ≡ Listing Full
-unfolding choiceOf opensWith _and_
-the-word-full r c = choose-said fullWord 1 r c
-
-pub the-word-light : (r : Choice) → choose-gives lightWord 1 r → r ≡ Listing Light
-unfolding choiceOf opensWith _and_
-the-word-light r c = choose-said lightWord 1 r c
 
 -- ================ 12 THROUGH THE PORT: a number that is no profile's gives 12 and nothing else, and changes nothing lent, whatever the log is
 

@@ -27,13 +27,20 @@ use Rattle.sets.proofs.rows.empty.Reads as empty
 use Rattle.sets.proofs.rows.row.Reads as row
 use Rattle.sets.proofs.rows.put.Reads as put
 use Rattle.sets.proofs.rows.join.Reads as join
+use Rattle.sets.proofs.rows.lose.Reads as lose
 use Rattle.sets.proofs.rows.turned.Reads as turned
 use Rattle.sets.proofs.tables.row.Reads as tables-row
 use Rattle.sets.proofs.tables.put.Reads as tables-put
 use Rattle.sets.proofs.tables.join.Reads as tables-join
 use Rattle.sets.proofs.tables.put_rows.Reads as tables-put-rows
 use Rattle.sets.proofs.tables.taken.Reads as tables-taken
-use Rattle.sets.proofs.opening.opens_with.Reads as opens-with
+use Rattle.bytes.proofs.room.too_few.Reads as too-few
+use Rattle.bytes.proofs.opening.opens_with.Reads as opens-with
+use Rattle.bytes.proofs.number.byte_at.Reads as byte-at
+use Rattle.bytes.proofs.number.number_at.Reads as number-at
+use Rattle.bytes.proofs.number.put_number.Reads as put-number
+use Rattle.bytes.proofs.set.set_at.Reads as set-at
+use Rattle.bytes.proofs.set.put_set.Reads as put-set
 use Rattle.engine.proofs.marking.State.of.Reads as State-of
 use Rattle.engine.proofs.marking.State.opening.Reads as State-opening
 use Rattle.engine.proofs.enabled.enabled_set.Reads as enabled-set
@@ -46,12 +53,15 @@ use Rattle.engine.proofs.judge.state_within.Reads as state-within
 use Rattle.engine.proofs.judge.rows_within.Reads as rows-within
 use Rattle.engine.proofs.judge.judge_for.Reads as judge-for
 use Rattle.engine.proofs.judge.judge_beside.Reads as judge-beside
+use Rattle.engine.proofs.judge.judge_marking.Reads as judge-marking
 use Rattle.engine.proofs.step.ask.Reads as ask
 use Rattle.engine.proofs.step.next.Reads as next
 use Rattle.engine.proofs.step.is_accepting.Reads as is-accepting
 use Rattle.engine.proofs.step.ask_judged.Reads as ask-judged
+use Rattle.engine.proofs.step.ask_on.Reads as ask-on
 use Rattle.engine.proofs.step.enabled.Reads as enabled
 use Rattle.engine.proofs.step.step.Reads as step
+use Rattle.engine.proofs.step.step_on.Reads as step-on
 use Rattle.engine.proofs.step.accepting.Reads as accepting
 use Rattle.engine.proofs.replay.walk.Reads as walk
 use Rattle.engine.proofs.replay.run.Reads as run
@@ -69,20 +79,26 @@ use Rattle.finish.proofs.search.finish.Reads as finish
 use Rattle.finish.proofs.shut.shut_by.Reads as shut-by
 use Rattle.calllog.proofs.judge.judge_log.Reads as judge-log
 use Rattle.calllog.proofs.judge.all_below.Reads as all-below
+use Rattle.calllog.proofs.trace.trace_count.Reads as trace-count
 use Rattle.calllog.proofs.trace.trace_part.Reads as trace-part
+use Rattle.calllog.proofs.trace.trace_at.Reads as trace-at
 use Rattle.calllog.proofs.trace.find_trace.Reads as find-trace
 use Rattle.calllog.proofs.trace.ask.Reads as log-ask
 use Rattle.graphfile.proofs.reader.read.Reads as read
 use Rattle.graphfile.proofs.reader.read_bare.Reads as read-bare
 use Rattle.graphfile.proofs.writer.write.Reads as write
+use Rattle.graphfile.proofs.writer.write_unjudged.Reads as write-unjudged
 use Rattle.graphfile.proofs.head.read_head.Reads as read-head
 use Rattle.graphfile.proofs.marking.read_marking_at.Reads as read-marking-at
 use Rattle.graphfile.proofs.marking.write_marking_at.Reads as write-marking-at
 use Rattle.graphfile.proofs.marking.read_marking.Reads as read-marking
 use Rattle.graphfile.proofs.marking.write_marking.Reads as write-marking
+use Rattle.desk.proofs.requests.judge_place.Reads as desk-judge-place
 use Rattle.desk.proofs.requests.open.Reads as desk-open
 use Rattle.desk.proofs.requests.step.Reads as desk-step
+use Rattle.desk.proofs.requests.step_on.Reads as desk-step-on
 use Rattle.desk.proofs.requests.close.Reads as desk-close
+use Rattle.desk.proofs.requests.close_on.Reads as desk-close-on
 use Rattle.desk.proofs.way.finish.Reads as desk-finish
 use Rattle.steps.proofs.relations.unbroken.Reads as unbroken
 use Rattle.steps.proofs.relations.excluded_by.Reads as excluded-by
@@ -93,7 +109,14 @@ use Rattle.steps.proofs.relations.waited.Reads as waited
 use Rattle.steps.proofs.reduce.reduced.Reads as reduced
 use Rattle.tally.proofs.log.empty.Reads as log-empty
 use Rattle.tally.proofs.log.note_traces.Reads as log-note-traces
+use Rattle.miner.proofs.conditions_eight.Reads as conditions-eight
+use Rattle.miner.proofs.excluded_five.Reads as excluded-five
+use Rattle.miner.proofs.last_places.Reads as last-places
+use Rattle.miner.proofs.mining.responses_eight.Reads as responses-eight
 use Rattle.miner.proofs.mining.mine.Reads as mine
+use Rattle.months.proofs.filling.fill.Reads as months-fill
+use Rattle.months.proofs.joining.join.Reads as months-join
+use Rattle.months.proofs.reading.relations.Reads as months-relations
 use Rattle.marks.proofs.counts.Counts.precision.Reads as Counts-precision
 use Rattle.marks.proofs.counts.Counts.recall.Reads as Counts-recall
 use Rattle.marks.proofs.counts.Counts.accuracy.Reads as Counts-accuracy
@@ -109,6 +132,9 @@ use Rattle.report.proofs.writer.write_listing.Reads as write-listing
 use Rattle.port.proofs.skelfora_mine.Reads as skelfora-mine
 use Rattle.port.proofs.skelfora_listing.Reads as skelfora-listing
 use Rattle.port.proofs.skelfora_summary.Reads as skelfora-summary
+use Rattle.port.proofs.tallies.skelfora_tally.Reads as skelfora-tally
+use Rattle.port.proofs.tallies.skelfora_tally_join.Reads as skelfora-tally-join
+use Rattle.port.proofs.tallies.skelfora_tally_relations.Reads as skelfora-tally-relations
 use Rattle.port.proofs.skelfora_rewrite.Reads as skelfora-rewrite
 use Rattle.port.proofs.skelfora_replay.Reads as skelfora-replay
 use Rattle.port.proofs.skelfora_step.Reads as skelfora-step
@@ -137,6 +163,11 @@ module _ {K : Type 0} {A : K → Type 0} {R : K → Type 0} {E : K → Type 0} (
   -- two calls with the same arguments give the same
   abbrev Once : Type 0
   Once = (κ : K) (a : A κ) (r r′ : R κ) (s s′ : E κ) → Post κ a r s → Post κ a r′ s′ → r ≡ r′
+
+  -- where what is given is a part of what was lent: it shows the same
+  module _ {X : Type 0} (shown : (κ : K) → R κ → X) where
+    abbrev OnceSeen : Type 0
+    OnceSeen = (κ : K) (a : A κ) (r r′ : R κ) (s s′ : E κ) → Post κ a r s → Post κ a r′ s′ → shown κ r ≡ shown κ r′
 
   module _ {X : Type 0} (left : (κ : K) → E κ → X) where
     -- where something is lent by `&mut` and nothing is given: they leave the same
@@ -217,6 +248,9 @@ put-once κ a r r′ s s′ h h′ = h ∙ sym h′
 pub join-once : OnceLeft join.Post (λ κ s. now (s .0))
 join-once κ a r r′ s s′ h h′ = h ∙ sym h′
 
+pub lose-once : OnceLeft lose.Post (λ κ s. now (s .0))
+lose-once κ a r r′ s s′ h h′ = h ∙ sym h′
+
 pub turned-once : Once turned.Post
 turned-once κ a r r′ s s′ h h′ = h ∙ sym h′
 
@@ -237,10 +271,28 @@ tables-put-rows-once κ a r r′ s s′ h h′ = h ∙ sym h′
 pub tables-taken-once : Once tables-taken.Post
 tables-taken-once κ a r r′ s s′ h h′ = h ∙ sym h′
 
--- ---- sets: what files open with
+-- ---- bytes
+
+pub too-few-once : Once too-few.Post
+too-few-once κ a r r′ s s′ h h′ = h ∙ sym h′
 
 pub opens-with-once : Once opens-with.Post
 opens-with-once κ a r r′ s s′ h h′ = h ∙ sym h′
+
+pub byte-at-once : Once byte-at.Post
+byte-at-once κ a r r′ s s′ h h′ = h ∙ sym h′
+
+pub number-at-once : Once number-at.Post
+number-at-once κ a r r′ s s′ h h′ = h ∙ sym h′
+
+pub put-number-once : OnceLeft put-number.Post (λ κ s. now (s .0))
+put-number-once κ a r r′ s s′ h h′ = h ∙ sym h′
+
+pub set-at-once : Once set-at.Post
+set-at-once κ a r r′ s s′ h h′ = h ∙ sym h′
+
+pub put-set-once : OnceLeft put-set.Post (λ κ s. now (s .0))
+put-set-once κ a r r′ s s′ h h′ = h ∙ sym h′
 
 -- ---- engine
 
@@ -280,6 +332,9 @@ head-within-once κ a r r′ s s′ h h′ = h ∙ sym h′
 pub judge-for-once : Once judge-for.Post
 judge-for-once κ a r r′ s s′ h h′ = h ∙ sym h′
 
+pub judge-marking-once : Once judge-marking.Post
+judge-marking-once κ a r r′ s s′ h h′ = h ∙ sym h′
+
 pub judge-beside-once : Once judge-beside.Post
 judge-beside-once κ a r r′ s s′ h h′ = h ∙ sym h′
 
@@ -295,11 +350,17 @@ is-accepting-once κ a r r′ s s′ h h′ = h ∙ sym h′
 pub ask-judged-once : Once ask-judged.Post
 ask-judged-once κ a r r′ s s′ h h′ = h ∙ sym h′
 
+pub ask-on-once : Once ask-on.Post
+ask-on-once κ a r r′ s s′ h h′ = h ∙ sym h′
+
 pub enabled-once : Once enabled.Post
 enabled-once κ a r r′ s s′ h h′ = h ∙ sym h′
 
 pub step-once : Once step.Post
 step-once κ a r r′ s s′ h h′ = h ∙ sym h′
+
+pub step-on-once : Once step-on.Post
+step-on-once κ a r r′ s s′ h h′ = h ∙ sym h′
 
 pub accepting-once : Once accepting.Post
 accepting-once κ a r r′ s s′ h h′ = h ∙ sym h′
@@ -364,8 +425,14 @@ judge-log-once κ a r r′ s s′ h h′ = h ∙ sym h′
 pub all-below-once : Once all-below.Post
 all-below-once κ a r r′ s s′ h h′ = h ∙ sym h′
 
+pub trace-count-once : Once trace-count.Post
+trace-count-once κ a r r′ s s′ h h′ = h ∙ sym h′
+
 pub trace-part-once : Once trace-part.Post
 trace-part-once κ a r r′ s s′ h h′ = h ∙ sym h′
+
+pub trace-at-once : OnceSeen trace-at.Post (λ κ r. now r)
+trace-at-once κ a r r′ s s′ h h′ = h ∙ sym h′
 
 pub find-trace-once : Once find-trace.Post
 find-trace-once κ a r r′ s s′ h h′ = h ∙ sym h′
@@ -399,6 +466,9 @@ read-bare-once κ a r r′ s s′ h h′ = h ∙ sym h′
 pub write-once : OnceLent write.Post (λ κ s. now (s .1 .0))
 write-once κ a r r′ s s′ h h′ = (h .0 ∙ sym (h′ .0), h .1 ∙ sym (h′ .1))
 
+pub write-unjudged-once : OnceLent write-unjudged.Post (λ κ s. now (s .1 .1 .0))
+write-unjudged-once κ a r r′ s s′ h h′ = (h .0 ∙ sym (h′ .0), h .1 ∙ sym (h′ .1))
+
 pub read-head-once : Once read-head.Post
 read-head-once κ a r r′ s s′ h h′ = h ∙ sym h′
 
@@ -416,6 +486,9 @@ write-marking-once κ a r r′ s s′ h h′ = h ∙ sym h′
 
 -- ---- desk
 
+pub desk-judge-place-once : Once desk-judge-place.Post
+desk-judge-place-once κ a r r′ s s′ h h′ = h ∙ sym h′
+
 pub desk-open-once : OnceLent desk-open.Post (λ κ s. now (s .1 .1 .0))
 desk-open-once κ a r r′ s s′ h h′ = (h .0 ∙ sym (h′ .0), h .1 ∙ sym (h′ .1))
 
@@ -424,6 +497,12 @@ desk-step-once κ a r r′ s s′ h h′ = (h .0 ∙ sym (h′ .0), h .1 ∙ sym
 
 pub desk-close-once : OnceLent desk-close.Post (λ κ s. now (s .1 .1 .0))
 desk-close-once κ a r r′ s s′ h h′ = (h .0 ∙ sym (h′ .0), h .1 ∙ sym (h′ .1))
+
+pub desk-step-on-once : OnceLent desk-step-on.Post (λ κ s. now (s .1 .1 .0))
+desk-step-on-once κ a r r′ s s′ h h′ = (h .0 ∙ sym (h′ .0), h .1 ∙ sym (h′ .1))
+
+pub desk-close-on-once : OnceLent desk-close-on.Post (λ κ s. now (s .1 .1 .0))
+desk-close-on-once κ a r r′ s s′ h h′ = (h .0 ∙ sym (h′ .0), h .1 ∙ sym (h′ .1))
 
 pub desk-finish-once : Once desk-finish.Post
 desk-finish-once κ a r r′ s s′ h h′ = h ∙ sym h′
@@ -463,6 +542,29 @@ log-note-traces-once κ a r r′ s s′ h h′ = (h .0 ∙ sym (h′ .0), h .1 �
 
 pub mine-once : Once mine.Post
 mine-once κ a r r′ s s′ h h′ = h ∙ sym h′
+
+pub conditions-eight-once : Once conditions-eight.Post
+conditions-eight-once κ a r r′ s s′ h h′ = h ∙ sym h′
+
+pub responses-eight-once : Once responses-eight.Post
+responses-eight-once κ a r r′ s s′ h h′ = h ∙ sym h′
+
+pub excluded-five-once : Once excluded-five.Post
+excluded-five-once κ a r r′ s s′ h h′ = h ∙ sym h′
+
+pub last-places-once : OnceLent last-places.Post (λ κ s. now (s .1 .0))
+last-places-once κ a r r′ s s′ h h′ = (h .0 ∙ sym (h′ .0), h .1 ∙ sym (h′ .1))
+
+-- ---- months
+
+pub months-fill-once : OnceLent months-fill.Post (λ κ s. now (s .1 .0))
+months-fill-once κ a r r′ s s′ h h′ = (h .0 ∙ sym (h′ .0), h .1 ∙ sym (h′ .1))
+
+pub months-join-once : OnceLent months-join.Post (λ κ s. now (s .0))
+months-join-once κ a r r′ s s′ h h′ = (h .0 ∙ sym (h′ .0), h .1 ∙ sym (h′ .1))
+
+pub months-relations-once : Once months-relations.Post
+months-relations-once κ a r r′ s s′ h h′ = h ∙ sym h′
 
 -- ---- marks
 
@@ -514,6 +616,15 @@ skelfora-listing-once κ a r r′ s s′ h h′ = (h .0 ∙ sym (h′ .0), h .1 
 
 pub skelfora-summary-once : OnceLent skelfora-summary.Post (λ κ s. now (s .1 .1 .0))
 skelfora-summary-once κ a r r′ s s′ h h′ = (h .0 ∙ sym (h′ .0), h .1 ∙ sym (h′ .1))
+
+pub skelfora-tally-once : OnceLent skelfora-tally.Post (λ κ s. now (s .1 .0))
+skelfora-tally-once κ a r r′ s s′ h h′ = (h .0 ∙ sym (h′ .0), h .1 ∙ sym (h′ .1))
+
+pub skelfora-tally-join-once : OnceLent skelfora-tally-join.Post (λ κ s. now (s .0))
+skelfora-tally-join-once κ a r r′ s s′ h h′ = (h .0 ∙ sym (h′ .0), h .1 ∙ sym (h′ .1))
+
+pub skelfora-tally-relations-once : OnceLent skelfora-tally-relations.Post (λ κ s. now (s .1 .1 .0))
+skelfora-tally-relations-once κ a r r′ s s′ h h′ = (h .0 ∙ sym (h′ .0), h .1 ∙ sym (h′ .1))
 
 pub skelfora-rewrite-once : OnceLent skelfora-rewrite.Post (λ κ s. now (s .1 .0))
 skelfora-rewrite-once κ a r r′ s s′ h h′ = (h .0 ∙ sym (h′ .0), h .1 ∙ sym (h′ .1))

@@ -25,7 +25,7 @@ use Rattle.engine.specs.Enabled.{enabledSet, marked, isTrue}
 use Rattle.engine.specs.Replay.{ending, replayFrom, replayOf}
 use Rattle.engine.specs.declared.graph.Graph.{Graph}
 use Rattle.engine.specs.declared.replay.Replayed.{Replayed}
-use Rattle.engine.proofs.Acceptable.{replay-judged}
+use Rattle.engine.proofs.Acceptable.{replay-judged, empty-judged}
 use Rattle.calllog.specs.Layout.{tracesIn}
 use Rattle.calllog.specs.Judged.{judgedLog}
 use Rattle.calllog.specs.Logs.{logOf, findingOf, foundOf}

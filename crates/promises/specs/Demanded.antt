@@ -20,25 +20,24 @@ use Rattle.engine.specs.Replay.{replayFrom}
 use Rattle.engine.specs.declared.marking.State.{State}
 use Rattle.engine.specs.declared.graph.Graph.{Graph}
 use Rattle.engine.specs.declared.replay.Replayed.{Replayed}
-use Rattle.rules.specs.declared.Profile.{Profile}
 use Rattle.rules.specs.Traces.{Traces}
-use Rattle.rules.specs.Mining.{event, mined}
+use Rattle.rules.specs.Mining.{event}
 
 -- an answer other than done
 abbrev pub Refused : Answer → Type 0
 Refused a = isDone a ≡ false
 
--- DEMAND 2, the mined graph: A is the log's; an activity is an event where the rules say so; nothing is executed or pending and all events
--- are included; and a pair, source first, is in a relation of the graph exactly where the steps of the profile leave it, whatever the two
--- numbers
-pub record PairForPair (A : ℕ) (L : Traces) (p : Profile) (g : Graph) : Type 0 where
+-- DEMAND 2, the graph of relations that the rules give for these traces: A is the log's; an activity is an event where the rules say so; nothing
+-- is executed or pending and all events are included; and a pair, source first, is in a relation of the graph exactly where the rules leave
+-- it, whatever the two numbers. Of a mined graph they are `mined L p`, what the steps of the profile leave
+pub record PairForPair (A : ℕ) (L : Traces) (rules : Relations) (g : Graph) : Type 0 where
   pub activities : g .head .activities ≡ A
   pub events : (a : ℕ) → mem (g .head .events) a ≡ event L a
   pub opening : g .head .opening ≡ marked (g .head .events) (relationsOf g) (openingOf (g .head .events))
-  pub conditions : (s t : ℕ) → relationsOf g .conditions s t ≡ mined L p .conditions s t
-  pub responses : (s t : ℕ) → relationsOf g .responses s t ≡ mined L p .responses s t
-  pub includes : (s t : ℕ) → relationsOf g .includes s t ≡ mined L p .includes s t
-  pub excludes : (s t : ℕ) → relationsOf g .excludes s t ≡ mined L p .excludes s t
+  pub conditions : (s t : ℕ) → relationsOf g .conditions s t ≡ rules .conditions s t
+  pub responses : (s t : ℕ) → relationsOf g .responses s t ≡ rules .responses s t
+  pub includes : (s t : ℕ) → relationsOf g .includes s t ≡ rules .includes s t
+  pub excludes : (s t : ℕ) → relationsOf g .excludes s t ≡ rules .excludes s t
 
 -- DEMAND 2, a step that is done: the marking after it, member by member of executed, pending and included (01, "A step")
 pub record Stepping (r : Relations) (m : State) (e : ℕ) (n : State) : Type 0 where

@@ -56,14 +56,14 @@ module _ (argument : List ℕ) where
       chose-neither e = sym (not-full ∙ ap (byWords false) e)
 
   module _ (count : ℕ) where
-    pub chose-none : count ≡ 0 → Listing Full ≡ choiceOf count argument
+    pub chose-none : count ≡ 0 → Listing Light ≡ choiceOf count argument
     unfolding choiceOf
     chose-none e = sym (ap (λ (n : ℕ). choiceOf n argument) e)
 
     pub chose-many : (count ≡ 0 → ⊥) → 1 < count → Refused WrongArgument ≡ choiceOf count argument
     unfolding choiceOf
     chose-many z m =
-        sym (λ i. when ne-eqb count 0 z i then Listing Full else when lt-ltb 1 count m i then Refused WrongArgument
+        sym (λ i. when ne-eqb count 0 z i then Listing Light else when lt-ltb 1 count m i then Refused WrongArgument
         else byWords (says fullWord argument) (says lightWord argument))
 
     pub chose-one : (c : Choice) → (count ≡ 0 → ⊥) → count ≤ 1 → c ≡ choiceOf 1 argument → c ≡ choiceOf count argument

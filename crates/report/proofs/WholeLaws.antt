@@ -22,8 +22,11 @@ use Rattle.engine.specs.Relations.{inTables, relationsOf}
 use Rattle.engine.specs.Judged.{judged}
 use Rattle.engine.specs.Replay.{replayFrom, replayOf}
 use Rattle.engine.proofs.Acceptable.{replay-judged}
-use Rattle.calllog.specs.declared.judge.Judged.{Judged}
-use Rattle.calllog.specs.Logs.{logOf, judgedOf}
+use Rattle.calllog.specs.Layout.{tracesIn}
+use Rattle.calllog.specs.Logs.{logOf}
+use Rattle.calllog.proofs.Given.{log-answer}
+use Rattle.calllog.proofs.Traces.{traces-number}
+use Rattle.sets.proofs.Asking.{done-is}
 use Rattle.rules.specs.Traces.{Traces}
 use Rattle.rules.specs.declared.Profile.{Profile}
 use Rattle.rules.specs.Mined.{minedGraph}
@@ -91,14 +94,14 @@ module _ (head : Head) (tables c listed log : List ℕ) (n : ℕ) (o : List ℕ)
 
 -- ---- all traces of a log
 
-module _ (g : Graph) (log o : List ℕ) (j : Judged) (h : j ≡ judgedOf log) where
-  all-traces : graphText g log ≡ linesText (g .head) (g .relations) log (j .traces)
-  all-traces = ap (λ (x : Judged). linesText (g .head) (g .relations) log (x .traces)) (sym h)
+module _ (g : Graph) (log o : List ℕ) (n : ℕ) (h : n ≡ tracesIn log) where
+  all-traces : graphText g log ≡ linesText (g .head) (g .relations) log n
+  all-traces = ap (linesText (g .head) (g .relations) log) (sym h)
 
-  pub graph-room : 0 + length (graphText g log) ≤ length o → 0 + length (linesText (g .head) (g .relations) log (j .traces)) ≤ length o
+  pub graph-room : 0 + length (graphText g log) ≤ length o → 0 + length (linesText (g .head) (g .relations) log n) ≤ length o
   graph-room room = subst (λ (x : List ℕ). 0 + length x ≤ length o) all-traces room
 
-  pub graph-put : (o₁ : List ℕ) (a₁ : ℕ) → Put o 0 (linesText (g .head) (g .relations) log (j .traces)) o₁ a₁
+  pub graph-put : (o₁ : List ℕ) (a₁ : ℕ) → Put o 0 (linesText (g .head) (g .relations) log n) o₁ a₁
       → Put o 0 (graphText g log) o₁ a₁
   graph-put o₁ a₁ p = put-as (sym all-traces) p
 
@@ -148,12 +151,13 @@ module _ (log : List ℕ) (p : Profile) where
   abbrev L : Traces
   L = logOf log .traces
 
-  graph-lines : graphText (minedGraph A L p) log ≡ linesOf (minedGraph A L p) L
+  graph-lines : isDone (logOf log .answer) ≡ true → graphText (minedGraph A L p) log ≡ linesOf (minedGraph A L p) L
   unfolding linesOf three
-  graph-lines =
+  graph-lines d =
       let g = minedGraph A L p in
       let ok = file-accepted log in
-      ap₂ _++_ (ap₂ _++_ (heading-is g (length L)) (relations-are g))
+      ap (linesText (g .head) (g .relations) log) (sym (traces-number log (sym (log-answer log) ∙ done-is (logOf log .answer) d)))
+      ∙ ap₂ _++_ (ap₂ _++_ (heading-is g (length L)) (relations-are g))
       (ap (traceLines (replayFrom (g .head .events) (relationsOf g) (g .head .opening .state) 0) 0) (walk-all log)
       ∙ replays-are g (acceptable A L ok p) 0 L (ok .lengths))
 
@@ -162,7 +166,7 @@ module _ (log : List ℕ) (p : Profile) where
   unfolding listingOf
   listing-done g d e =
       ap (λ (x : Graph). graphText x log) e
-      ∙ graph-lines
+      ∙ graph-lines d
       ∙ sym (ap (λ (b : Bool). when b then linesOf (minedGraph A L p) L else refusedLine (logOf log .answer)) d)
 
   pub listing-refused : (x : Answer) → isDone (logOf log .answer) ≡ false → x ≡ logOf log .answer → refusedLine x ≡ listingOf log p

@@ -1,5 +1,5 @@
--- Which profile the listing program's arguments ask for (02, 3/12): full where there is none, the one that a single argument names, and
--- refusal 12 for any other argument and for more than one.
+-- Which profile the listing program's arguments ask for: light where there is none (02, 11/12), the one that a single argument names, and
+-- refusal 12 for any other argument and for more than one (02, 3/12).
 use mathlib.Core.Bool.{Bool}
 use mathlib.Core.List.{List, [], _∷_, _++_}
 use Prim.Native.Nat.{ℕ}
@@ -29,7 +29,7 @@ says word bytes = eqb (length bytes) (length word) and opensWith word bytes
 -- by how many arguments there are, and the bytes of the first
 unfoldable pub choiceOf : ℕ → List ℕ → Choice
 choiceOf count argument =
-    when eqb count 0 then Listing Full
+    when eqb count 0 then Listing Light
     else when ltb 1 count then Refused WrongArgument
     else when says fullWord argument then Listing Full
     else when says lightWord argument then Listing Light

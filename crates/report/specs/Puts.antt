@@ -12,7 +12,7 @@ use Rattle.engine.specs.declared.graph.Head.{Head}
 use Rattle.engine.specs.declared.graph.Graph.{Graph}
 use Rattle.engine.specs.Relations.{inTables}
 use Rattle.engine.specs.Replay.{replayFrom}
-use Rattle.calllog.specs.Logs.{logOf}
+use Rattle.calllog.specs.Layout.{tracesIn}
 use Rattle.tally.specs.Passes.{walked}
 use Rattle.sets.specs.Rows.{turned}
 use Rattle.report.specs.Lines.{space, lineEnd, decimal, eventsWord, tracesWord, C, R, I, E, T}
@@ -73,9 +73,9 @@ linesText head tables log n =
     (relationsText (bySource tables) tables)
     (traceLines (replayFrom (head .events) (inTables tables) (head .opening .state) 0) 0 (walked log n 0))
 
--- the same, of all traces of a log
+-- the same, of as many traces as the log's head says
 abbrev pub graphText : Graph → List ℕ → List ℕ
-graphText g log = linesText (g .head) (g .relations) log (length (logOf log .traces))
+graphText g log = linesText (g .head) (g .relations) log (tracesIn log)
 
 -- the counts of a table's rows, and of a graph's conditions and excludes
 abbrev pub rowCounts : List ℕ → ℕ → List ℕ

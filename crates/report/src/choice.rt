@@ -1,4 +1,4 @@
-// What the listing program's arguments ask for, and the line of a refusal (02, 3/12).
+// What the listing program's arguments ask for (02, 3/12 and 11/12), and the line of a refusal.
 ghost use mathlib.Core.Path.{_≡_};
 ghost use lib.ListN.{length};
 ghost use Rattle.report.specs.Choice.{says, choiceOf, refusedLength, refusedAfter};
@@ -16,6 +16,9 @@ pub enum Choice {
 const FULL: [u8; 4] = *b"full";
 
 const LIGHT: [u8; 5] = *b"light";
+
+// Where no argument names one.
+const DEFAULT: Profile = Profile::Light;
 
 // No refusal has a longer line: refused 12.
 pub const LONGEST_REFUSED: usize = 11;
@@ -48,7 +51,7 @@ pub fn choose(count: usize, argument: &[u8]) -> Choice
     ensures { λ r. ⌜ r ≡ choiceOf count (now (argument .entry)) ⌝ }
 {
     if count == 0 {
-        return Choice::Listing(Profile::Full);
+        return Choice::Listing(DEFAULT);
     }
     if 1 < count {
         return Choice::Refused(Answer::WrongArgument);

@@ -56,14 +56,13 @@ fn put_lines<'a>(
     replays::put_traces(out, end, log, traces, head, relations)
 }
 
-// The lines of a graph and of all traces of a log.
+// The lines of a graph and of all traces of a log that was mined, and so judged: its head has their number.
 fn put_graph(out: &mut [u8], log: &[u8], g: Graph) -> usize
     requires { ⌜ 0 + length (graphText g (now log)) ≤ length (now out) ⌝ }
     ensures { λ r. ⌜ Put (now (out .entry)) 0 (graphText g (now (log .entry))) (now (out .exit)) r ⌝ }
 {
-    let judged = calllog::judge::judge_log(log);
-    let head = g.head;
-    put_lines(out, log, judged.traces, head, &g.relations)
+    let traces = calllog::trace::trace_count(log);
+    put_lines(out, log, traces, g.head, &g.relations)
 }
 
 // Lists a log: reads it, mines it in the profile, replays it on its graph.

@@ -35,11 +35,11 @@ use Rattle.engine.specs.Replay.{ending, replayFrom}
 use Rattle.engine.proofs.Acceptable.{replay-judged}
 use Rattle.rules.specs.declared.Profile.{Profile}
 use Rattle.rules.specs.Traces.{Traces, _has_}
-use Rattle.rules.specs.Mining.{event, includedAfter, mined}
+use Rattle.rules.specs.Mining.{event, includedAfter, afterEight, mined}
 use Rattle.rules.specs.Mined.{graphFrom, minedGraph}
 use Rattle.rules.specs.Replays.{Accepted, Replays}
 use Rattle.rules.proofs.Places.{has-first, has-rest}
-use Rattle.rules.proofs.Why.{Reasons}
+use Rattle.rules.proofs.Why.{Reasons, reasons-eight}
 use Rattle.rules.proofs.InTurn.{is-event, included-here, condition-here, response-here}
 use Rattle.rules.proofs.Acceptable.{passed, small, acceptable-by, mined-reasons}
 
@@ -189,3 +189,8 @@ module _ (A : ℕ) (L : Traces) (ok : Accepted A L) (g : Relations) (why : Reaso
 pub demand3 : (A : ℕ) (L : Traces) (p : Profile) → Accepted A L → (σ : List ℕ) → List·Memᴰ σ L ⊎ (σ ≡ []) → Replays (minedGraph A L p) σ
 unfolding minedGraph
 demand3 A L p ok σ m = replay-by A L ok (mined L p) (mined-reasons A L ok p) σ m
+
+-- and for those after step 8, of however many traces (02, 12/12)
+pub demand3-eight : (A : ℕ) (L : Traces) (p : Profile) → Accepted A L
+    → (σ : List ℕ) → List·Memᴰ σ L ⊎ (σ ≡ []) → Replays (graphFrom A (those (event L)) (afterEight L p)) σ
+demand3-eight A L p ok σ m = replay-by A L ok (afterEight L p) (reasons-eight L (small A L ok) p) σ m

@@ -10,3 +10,4 @@ pub mod Readings
 pub mod Slips
 pub mod FromFile
 pub mod Story
+pub mod SameTraces

@@ -1,5 +1,5 @@
--- Loops that fill rows: over the members of a set, the least first, row by row; and over all targets, into the rows of their sources.
--- Assumes nothing.
+-- Loops that fill rows: over the members of a set, the least first, row by row; and over all targets, into the rows of their sources. And one
+-- that gathers a set. Assumes nothing.
 use mathlib.Core.Path.{_≡_, refl, sym, ap, ap₂, _∙_, subst}
 use mathlib.Core.Bool.{Bool, true, false}
 use mathlib.Core.List.{List}
@@ -170,56 +170,6 @@ module _ (s : Set) (F : Relation) where
 
 pub ruleset filling = (fill-start, fill-turn, fill-end, nearer)
 
--- ---- a loop that gathers: of the members of a set those that pass
-
--- the members below i that pass
-unfoldable pub passing : Set → (ℕ → Bool) → ℕ → ℕ → Bool
-passing s p i a = below s i a and p a
-
-pub record Gathered (s : Set) (p : ℕ → Bool) (out : Set) (i : ℕ) : Type 0 where
-  pub at : At s i
-  pub got : out ≡ those (passing s p i)
-
--- what passes, passes already
-covered : (a b : Bool) → (a and b or b) ≡ b
-covered a b = T-ext (a and b or b) b (λ t. either (or-e _ _ t) (λ x. and-r _ _ x) (λ x. x)) (λ t. or-r _ _ t)
-
-module _ (s : Set) (p : ℕ → Bool) where
-  pub gather-start : (i : ℕ) → i ≡ leastBelow width (mem s) → Gathered s p noSet i
-  unfolding passing
-  gather-start i h =
-      record {
-        at = at-first s i h;
-        got = none (passing s p i) (λ a l. ap (λ (t : Bool). t and p a) (below-first s i h a) ∙ false-and (p a));
-      }
-
-  joins : (i a : ℕ) (b c t : Bool) → eqb a i ≡ t → c ≡ (b or t) → (b and p a or p i and t) ≡ (c and p a)
-  joins i a b c true e h =
-      ap₂ (λ (x y : Bool). x or y) refl (and-true (p i) ∙ ap p (sym (eqb-true a i e)))
-      ∙ covered b (p a)
-      ∙ sym (true-and (p a)) ∙ ap (λ (q : Bool). q and p a) (sym (h ∙ or-true b))
-  joins i a b c false e h =
-      ap (λ (x : Bool). b and p a or x) (and-false (p i)) ∙ or-false (b and p a) ∙ ap (λ (q : Bool). q and p a) (sym (h ∙ or-false b))
-
-  pub gather-turn : (i i′ : ℕ) (out out′ : Set) → Gathered s p out i → i < width
-      → out′ ≡ those (λ a. mem out a or p i and eqb a i) → i′ ≡ nextAbove s i → Gathered s p out′ i′
-  unfolding passing
-  gather-turn i i′ out out′ inv l h e =
-      record {
-        at = at-next s i i′ e;
-        got =
-            h ∙ those-of out (passing s p i) (λ a t. t or p i and eqb a i) (inv .got)
-            ∙ those-ext (λ a. passing s p i a or p i and eqb a i) (passing s p i′)
-            (λ a la. joins i a (below s i a) (below s i′ a) (eqb a i) refl (below-next s i i′ (inv .at) l e a));
-      }
-
-  pub gather-end : (i : ℕ) (out : Set) → Gathered s p out i → width ≤ i → out ≡ those (λ a. mem s a and p a)
-  unfolding passing
-  gather-end i out inv h =
-      inv .got ∙ those-ext (passing s p i) (λ a. mem s a and p a) (λ a la. ap (λ (t : Bool). t and p a) (below-all s i a h la))
-
-pub ruleset gathering = (gather-start, gather-turn, gather-end, nearer)
-
 -- ---- one number further, where all are passed
 
 -- a number other than i is below i + 1 where it is below i
@@ -244,6 +194,31 @@ next a i b c h = by (eqb a i) refl
     by false e =
         ap (λ (t : Bool). ltb a i and b or c and t) e ∙ ap (λ (t : Bool). ltb a i and b or t) (and-false c) ∙ or-false (ltb a i and b)
         ∙ ap (λ (s : Bool). s and b) (below-same a i (eqb-false a i e))
+
+-- ---- a loop that gathers: of all activities those that pass
+
+-- of those below i
+pub record Gathered (p : ℕ → Bool) (out : Set) (i : ℕ) : Type 0 where
+  pub got : out ≡ those (λ a. ltb a i and p a)
+
+module _ (p : ℕ → Bool) where
+  pub gather-start : Gathered p noSet 0
+  gather-start =
+      record { got = none (λ a. ltb a 0 and p a) (λ a l. ap (λ (t : Bool). t and p a) (le-ltb a 0 (omega arith)) ∙ false-and (p a)) }
+
+  pub gather-turn : (i : ℕ) (out out′ : Set) → Gathered p out i → out′ ≡ those (λ a. mem out a or p i and eqb a i) → Gathered p out′ (i + 1)
+  gather-turn i out out′ inv h =
+      record {
+        got =
+            h ∙ those-of out (λ a. ltb a i and p a) (λ a t. t or p i and eqb a i) (inv .got)
+            ∙ those-ext (λ a. ltb a i and p a or p i and eqb a i) (λ a. ltb a (i + 1) and p a) (λ a la. next a i (p a) (p i) (λ same. ap p (sym same)));
+      }
+
+  pub gather-end : (i : ℕ) (out : Set) → Gathered p out i → width ≤ i → out ≡ those p
+  gather-end i out inv h =
+      inv .got ∙ those-ext (λ a. ltb a i and p a) p (λ a la. ap (λ (t : Bool). t and p a) (lt-ltb a i (omega arith)) ∙ true-and (p a))
+
+pub ruleset gathering = (gather-start, gather-turn)
 
 -- ---- a loop that scatters: target by target, into the rows of its sources
 

@@ -8,8 +8,9 @@ use sets::Set;
 use sets::rows;
 
 // The relation, at the events, without the pairs from a source to a target that a middle activity joins too; the first middle decides.
-// Every pair is judged on `rows`, which stay as they are, so the order of the pairs makes no difference. Rows by target serve as well as
-// rows by source: a pair turned round is joined by the same middles.
+// A middle is tried once for a source: all targets that it joins go at once, so it need not be tried for the next target again. Every
+// pair is judged on `rows`, which stay as they are, so the order of the pairs makes no difference. Rows by target serve as well as rows by
+// source: a pair turned round is joined by the same middles.
 pub fn reduced(events: Set, rows: &Rows) -> Rows
     ensures { λ r. ⌜ r ≡ rowsFor events (reducedOf (now (rows .entry))) ⌝ }
 {
@@ -19,18 +20,19 @@ pub fn reduced(events: Set, rows: &Rows) -> Rows
         let from = rows::row(rows, source);
         let mut kept = Set::EMPTY;
         let mut targets = from;
+        let mut middles = from;
         'target: while !targets.is_empty() {
             let target = targets.least();
-            targets = targets.difference(Set::one(target));
-            let mut middles = from;
             'middle: while !middles.is_empty() {
-                let middle = middles.least();
-                if rows::row(rows, middle).has(target) {
+                let joined = rows::row(rows, middles.least());
+                middles = middles.without_least();
+                targets = targets.difference(joined);
+                if joined.has(target) {
                     continue 'target;
                 }
-                middles = middles.difference(Set::one(middle));
             }
             kept = kept.union(Set::one(target));
+            targets = targets.difference(Set::one(target));
         }
         rows::put(&mut out, source, kept);
         source = events.next(source);

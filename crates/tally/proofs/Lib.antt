@@ -2,6 +2,8 @@
 pub mod Turns
 pub mod Folds
 pub mod Since
+pub mod Blocks
+pub mod Fused
 pub mod Alternate
 pub mod Walks
 pub mod LogLaws

@@ -51,6 +51,23 @@ since-all e x near (y ∷ past) h k =
     since-step e x y near past h ∙ ap (λ (t : Bool). eqb x y or t)
     (since-all e x (y ∷ near) past (ap₂ _or_ (apart .0) h ∙ or-false false) (apart .1))
 
+-- it does not matter what was passed, where it was no e
+pub since-near : (e x : ℕ) (near other far : List ℕ) → near has e ≡ false → other has e ≡ false → since e x near far ≡ since e x other far
+unfolding _has_ _or_ atSomeFrom
+since-near e x near other [] h k = refl
+since-near e x near other (y ∷ far) h k =
+    since-step e x y near far h
+    ∙ ap (λ (t : Bool). eqb x y or t) (go (eqb e y) refl (since-near e x (y ∷ near) (y ∷ other) far))
+    ∙ sym (since-step e x y other far k)
+  where
+    go : (t : Bool) → eqb e y ≡ t
+        → ((y ∷ near) has e ≡ false → (y ∷ other) has e ≡ false → since e x (y ∷ near) far ≡ since e x (y ∷ other) far)
+        → since e x (y ∷ near) far ≡ since e x (y ∷ other) far
+    go true q ih =
+        since-met e x (y ∷ near) far (ap (λ (t : Bool). t or near has e) q)
+        ∙ sym (since-met e x (y ∷ other) far (ap (λ (t : Bool). t or other has e) q))
+    go false q ih = ih (ap₂ _or_ q h ∙ or-false false) (ap₂ _or_ q k ∙ or-false false)
+
 -- what is still wanted of a set, i places being left of `past`
 abbrev pub wantedOf : ℕ → List ℕ → Set → Set
 wantedOf e past wanted = those (λ x. mem wanted x and notSince e (reverseAux past []) [] x)
@@ -75,7 +92,7 @@ look-start past e wanted h =
     }
 
 -- a set without its members of another is what it was, less those
-regroup : (a b c : Bool) → (a and non b and non c) ≡ (a and non (b or c))
+pub regroup : (a b c : Bool) → (a and non b and non c) ≡ (a and non (b or c))
 unfolding _and_ _or_ non
 regroup true true c = refl
 regroup true false c = refl

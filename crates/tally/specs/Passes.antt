@@ -1,13 +1,16 @@
 -- What the passes over a trace do to rows and to tables of rows: the words of the contracts of src/passes.rt, and of the miner's own
 -- passes. That they are the rules' answers is a theorem, so a reader of `mine` need not believe this file.
+use mathlib.Core.Path.{_≡_}
 use mathlib.Core.Bool.{Bool}
-use mathlib.Core.List.{List, [], _∷_}
-use Prim.Native.Nat.{ℕ, zero, suc}
-use lib.ListN.{take, drop}
-use Rattle.sets.specs.Tests.{_or_, non}
-use Rattle.sets.specs.Members.{mem, those}
-use Rattle.sets.specs.Rows.{rowAt, withRow}
+use mathlib.Core.List.{List, [], _∷_, reverseAux}
+use Prim.Native.Nat.{ℕ, zero, suc, _/_, _≤_}
+use lib.Dec.{eqb}
+use lib.ListN.{length, getD, take, drop}
+use Rattle.sets.specs.Tests.{_and_, _or_, non}
+use Rattle.sets.specs.Members.{mem, those, someBelow}
+use Rattle.sets.specs.Rows.{Relation, rowAt, withRow}
 use Rattle.sets.specs.Tables.{tableAt, withRowIn}
+use Rattle.sets.specs.declared.set.Set.{Set}
 use Rattle.calllog.specs.Logs.{partAt}
 use Rattle.rules.specs.Traces.{Traces, _has_, _beginsWith_, atSome}
 
@@ -80,3 +83,14 @@ notLater e past rest x = non (rest has x)
 -- x stands directly after the place
 unfoldable pub isNext : Fact
 isNext e past rest x = rest beginsWith x
+
+-- ---- a look back
+
+-- x stands in block j: at one of the eight places from 8 j on
+unfoldable pub inBlock : List ℕ → Relation
+inBlock past j x = someBelow (length past) (λ p. eqb (p / 8) j and eqb x (getD past p 0))
+
+-- a look back for what is wanted since the last e has come to place n: there it looks for what is left
+abbrev pub PassedTo : List ℕ → ℕ → Set → Set → ℕ → Type 0
+PassedTo past e wanted left n = (n ≤ length past) × (those (λ x. mem left x and notSince e (reverseAux (take n past) []) [] x)
+    ≡ those (λ x. mem wanted x and notSince e (reverseAux past []) [] x))

@@ -42,7 +42,6 @@ fn note_trace(trace: &[u8], events: Set, tally: &mut Tally) -> Set
     ensures { λ _. ⌜ now (tally .exit) ≡ noted (now (tally .entry)) (now (trace .entry)) ⌝ }
 {
     let seen = passes::forward(trace, tally);
-    passes::alternate(trace, tally);
     passes::backward(trace, tally);
     events.union(seen)
 }

@@ -2,22 +2,28 @@
 // says; `seen` and `after` are the sets of what stands before and after the place.
 ghost use mathlib.Core.Path.{_≡_};
 ghost use mathlib.Core.List.{[], reverseAux};
+ghost use Prim.Native.Nat.{_/_};
+ghost use lib.Dec.{eqb};
+ghost use lib.ListN.{length};
 ghost use Rattle.sets.specs.Members.{mem, those};
-ghost use Rattle.sets.specs.Tests.{_and_, non, when_then_else_};
+ghost use Rattle.sets.specs.Tests.{_and_, _or_, non, when_then_else_};
+ghost use Rattle.sets.specs.Rows.{rowsOf};
 ghost use Rattle.rules.specs.Traces.{_has_};
-ghost use Rattle.tally.specs.Passes.{notedIn, forward, backward, notSince};
+ghost use Rattle.tally.specs.Passes.{notedIn, forward, backward, notSince, inBlock};
 ghost use Rattle.tally.specs.Tallies.{beforeTable, laterTable, unprecededTable, unansweredTable, unchainedTable, unalternatedTable};
 ghost use Rattle.tally.specs.Tallies.{followedTable, notePast, noteSince, noteRest};
 use crate::log::BEFORE;
 use crate::log::FOLLOWED;
 use crate::log::LATER;
 use crate::log::Tally;
-use crate::log::UNALTERNATED;
 use crate::log::UNANSWERED;
 use crate::log::UNCHAINED;
 use crate::log::UNPRECEDED;
+use crate::look_back;
 use sets::Activity;
+use sets::Rows;
 use sets::Set;
+use sets::rows;
 use sets::tables;
 
 // One place: what was seen before it, what was not, and what does not stand directly before it.
@@ -31,17 +37,39 @@ fn note_past(e: Activity, seen: Set, last: Set, tally: &mut Tally)
     tables::join(tally, UNCHAINED, e, last.complement());
 }
 
-// From the first place to the last. It gives the set of what stands in the trace.
+// One place of the forward pass: what its past says, and its block knows it then.
+fn note_place<'a>(
+    past: &'a [u8],
+    e: Activity,
+    seen: Set,
+    last: Set,
+    blocks: &mut Rows,
+    tally: &mut Tally,
+)
+    requires { ⌜ now blocks ≡ rowsOf (inBlock (now past)) ⌝ }
+    ensures { λ _. ⌜ now (blocks .exit) ≡ rowsOf (λ j x. inBlock (now (past .entry)) j x or eqb j (length (now (past .entry)) / 8) and eqb x (e .0)) ⌝ }
+    ensures { λ _. ⌜ now (tally .exit) ≡ notedIn (notedIn
+        (notedIn (notedIn (now (tally .entry)) beforeTable (e .0) (mem seen)) unprecededTable (e .0) (λ x. non (mem seen x))) unchainedTable
+        (e .0) (λ x. non (mem last x))) unalternatedTable (e .0)
+        (λ x. when mem seen (e .0) then notSince (e .0) (reverseAux (now (past .entry)) []) [] x else non (mem seen x)) ⌝ }
+{
+    note_past(e, seen, last, tally);
+    look_back::note_since(past, blocks, e, seen, tally);
+    look_back::put_down(blocks, e, past.len());
+}
+
+// From the first place to the last, looking back from a repeat. It gives the set of what stands in the trace.
 pub fn forward(trace: &[u8], tally: &mut Tally) -> Set
     ensures { λ r. ⌜ r ≡ those (λ x. now (trace .entry) has x) ⌝ }
-    ensures { λ _. ⌜ now (tally .exit) ≡ forward notePast (now (tally .entry)) [] (now (trace .entry)) ⌝ }
+    ensures { λ _. ⌜ now (tally .exit) ≡ forward noteSince (forward notePast (now (tally .entry)) [] (now (trace .entry))) [] (now (trace .entry)) ⌝ }
 {
+    let mut blocks = rows::empty();
     let mut seen = Set::EMPTY;
     let mut last = Set::EMPTY;
     let mut i: usize = 0;
     while i < trace.len() {
         let e = Activity(trace[i]);
-        note_past(e, seen, last, tally);
+        note_place(&trace[0..i], e, seen, last, &mut blocks, tally);
         last = Set::one(e);
         seen = seen.union(last);
         i += 1;
@@ -73,54 +101,5 @@ pub fn backward(trace: &[u8], tally: &mut Tally)
         note_rest(e, after, next, tally);
         next = Set::one(e);
         after = after.union(next);
-    }
-}
-
-// What of `wanted` does not stand between the end of `past` and the last e in it, or its start. It looks back only while some
-// of it is still wanted.
-fn unmet(past: &[u8], e: Activity, wanted: Set) -> Set
-    ensures { λ r. ⌜ r ≡ those (λ x. mem wanted x and notSince (e .0) (reverseAux (now (past .entry)) []) [] x) ⌝ }
-{
-    let mut left = wanted;
-    let mut i = past.len();
-    while 0 < i {
-        if left.is_empty() {
-            return left;
-        }
-        i -= 1;
-        let x = past[i];
-        left = left.difference(Set::one(Activity(x)));
-        if x == e.0 {
-            return left;
-        }
-    }
-    left
-}
-
-// One place: what does not stand since the last e. At the first e of a trace that is what was not seen.
-fn note_since(past: &[u8], e: Activity, seen: Set, tally: &mut Tally)
-    ensures { λ _. ⌜ now (tally .exit) ≡ notedIn (now (tally .entry)) unalternatedTable (e .0)
-        (λ x. when mem seen (e .0) then notSince (e .0) (reverseAux (now (past .entry)) []) [] x else non (mem seen x)) ⌝ }
-{
-    if seen.has(e) {
-        let wanted = tables::row(tally, UNALTERNATED, e).complement();
-        let left = unmet(past, e, wanted);
-        tables::join(tally, UNALTERNATED, e, left);
-    } else {
-        tables::join(tally, UNALTERNATED, e, seen.complement());
-    }
-}
-
-// From the first place to the last, looking back from a repeat.
-pub fn alternate(trace: &[u8], tally: &mut Tally)
-    ensures { λ _. ⌜ now (tally .exit) ≡ forward noteSince (now (tally .entry)) [] (now (trace .entry)) ⌝ }
-{
-    let mut seen = Set::EMPTY;
-    let mut i: usize = 0;
-    while i < trace.len() {
-        let e = Activity(trace[i]);
-        note_since(&trace[0..i], e, seen, tally);
-        seen = seen.union(Set::one(e));
-        i += 1;
     }
 }

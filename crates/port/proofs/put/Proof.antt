@@ -12,8 +12,8 @@ packed-requires c κs = search needs
 returns : tie.Need-returns
 returns c = search (putting, needs)
 
-write-requires : tie.Need-write-requires
-write-requires c κs = search needs
+write-unjudged-requires : tie.Need-write-unjudged-requires
+write-unjudged-requires c κs = search needs
 
 packed-requires-2 : tie.Need-packed-requires-2
 packed-requires-2 c κs = search needs
@@ -31,7 +31,7 @@ put-spec =
     is-done-requires
     packed-requires
     returns
-    write-requires
+    write-unjudged-requires
     packed-requires-2
     same-length
     returns-2)

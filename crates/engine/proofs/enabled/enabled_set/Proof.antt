@@ -7,4 +7,4 @@ returns : tie.Need-returns
 returns c = search (gathered, needs)
 
 pub enabled-set-spec : {M : Type 1} → statement M
-enabled-set-spec = tie.close (tie.spec (λ c κs. search needs) (λ c κs. search needs) returns)
+enabled-set-spec = tie.close (tie.spec (λ c κs. search needs) (λ c κs. search needs) (λ c κs. search needs) returns)

@@ -4,7 +4,7 @@ use Rattle.miner.proofs.conditions.included_after.Statement.{statement}
 use Rattle.miner.proofs.conditions.included_after.Tie as tie
 
 returns : tie.Need-returns
-returns c = included-by _ _ _ _ _ _ _ _ (c .before .before .before .row .ensures) (c .before .before .difference .ensures)
+returns c = included-by _ _ _ _ _ _ _ _ (c .before .before .before .before .row .ensures) (c .before .before .before .difference .ensures)
     (c .before .row2 .ensures) (c .union .ensures)
 
 pub included-after-spec : {M : Type 1} → statement M

@@ -3,6 +3,7 @@ use mathlib.Core.List.{[]}
 use Prim.Native.Nat.{_≤_, _-_}
 use borrow.Author.Needs.{needs}
 use lib.ListN.{length, drop}
+use Rattle.sets.specs.Tables.{tableAt}
 use Rattle.tally.specs.Passes.{gains, forward}
 use Rattle.miner.specs.Facts.{beforeFirst, missed}
 use Rattle.tally.proofs.Turns.{pastAt, seenIn, seen-none, forward-end}
@@ -12,14 +13,14 @@ use Rattle.miner.proofs.conditions.replay_trace.Statement.{statement}
 use Rattle.miner.proofs.conditions.replay_trace.Tie as tie
 
 abbrev Inv-loop : tie.InvT-loop
-Inv-loop trace includes excludes first₀ unmet₀ seen₀ included₀ i₀ first unmet seen included i =
-    (i ≤ length trace) × (seen ≡ seenIn (pastAt trace i)) × (included ≡ openAfter included₀ includes excludes (pastAt trace i))
+Inv-loop trace held first₀ unmet₀ seen₀ included₀ i₀ first unmet seen included i =
+    (i ≤ length trace) × (seen ≡ seenIn (pastAt trace i)) × (included ≡ openAfter included₀ (tableAt held 2) (tableAt held 3) (pastAt trace i))
     × (forward (gains beforeFirst) first (pastAt trace i) (drop i trace) ≡ forward (gains beforeFirst) first₀ [] trace)
-    × (forward (gains (missed included₀ includes excludes)) unmet (pastAt trace i) (drop i trace)
-    ≡ forward (gains (missed included₀ includes excludes)) unmet₀ [] trace)
+    × (forward (gains (missed included₀ (tableAt held 2) (tableAt held 3))) unmet (pastAt trace i) (drop i trace)
+    ≡ forward (gains (missed included₀ (tableAt held 2) (tableAt held 3))) unmet₀ [] trace)
 
 abbrev μ-loop : tie.MeasureT-loop
-μ-loop trace includes excludes first₀ unmet₀ seen₀ included₀ i₀ first unmet seen included i = length trace - i
+μ-loop trace held first₀ unmet₀ seen₀ included₀ i₀ first unmet seen included i = length trace - i
 
 loop-holds : tie.Need-loop-holds Inv-loop μ-loop
 loop-holds c = (search needs, seen-none, open-first _ _ _ (search needs), refl, refl)

@@ -1,4 +1,4 @@
-use Rattle.engine.proofs.Running.{step-refused, step-done}
+use Rattle.engine.proofs.Running.{step-refused, step-done, stepped-as}
 use Rattle.plain.specs.Results.{plainSteppedOf}
 use Rattle.plain.proofs.Stepping.{next-alone, marked-alone}
 use borrow.Author.Needs.{needs}
@@ -11,8 +11,9 @@ returns-2 c =
     let moved = c .before in
     let test = moved .before in
     let done = test .before in
-    step-done _ _ _ (done .before .enabled .ensures) (done .is-done .ensures) _ _ _ _ _ _ (test .if1 .left)
-    (next-alone _ _ _ _ _ _ _ (moved .next .ensures)) (marked-alone _ _ _ _ _ _ _ (c .marked .ensures))
+    stepped-as _ _ _ _ _ _ _ (done .before .enabled .ensures)
+    (step-done _ _ (done .is-done .ensures) _ _ _ _ _ _ (test .if1 .left)
+    (next-alone _ _ _ _ _ _ _ (moved .next .ensures)) (marked-alone _ _ _ _ _ _ _ (c .marked .ensures)))
 
 pub step-spec : {M : Type 1} → statement M
 step-spec =
@@ -20,7 +21,7 @@ step-spec =
     (tie.spec
     (λ c κs. search needs)
     (λ c κs. search needs)
-    (λ c. unfold plainSteppedOf in search (step-refused, needs))
+    (λ c. unfold plainSteppedOf in search (stepped-as, step-refused, needs))
     (λ c κs. search needs)
     (λ c κs. search needs)
     returns-2)

@@ -1,5 +1,5 @@
 use borrow.Author.Needs.{needs}
-use Rattle.port.proofs.Desk.{closing-there}
+use Rattle.port.proofs.Desk.{closing-there, close-served, close-served-table}
 use Rattle.port.proofs.call_desk.skelfora_desk_close.Statement.{statement}
 use Rattle.port.proofs.call_desk.skelfora_desk_close.Tie as tie
 
@@ -10,7 +10,10 @@ returns-2 : tie.Need-returns-2
 returns-2 c = search (closing-there, needs)
 
 returns-3 : tie.Need-returns-3
-returns-3 c = search (closing-there, needs)
+returns-3 c =
+    let known = c .before .before .before .before .before .before .before .before .before .before .before .before .before .before .before .before in
+    let file = known .before .args .file .now in
+    search (close-served file (λ k. known .shared-slice-known .given k .fits), close-served-table file (λ k. known .shared-slice-known .given k .fits), needs)
 
 pub skelfora-desk-close-spec : {M : Type 1} → statement M
 skelfora-desk-close-spec =

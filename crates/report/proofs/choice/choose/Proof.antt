@@ -3,6 +3,9 @@ use Rattle.report.proofs.Choosing.{choosing}
 use Rattle.report.proofs.choice.choose.Statement.{statement}
 use Rattle.report.proofs.choice.choose.Tie as tie
 
+returns : tie.Need-returns
+returns c = search (choosing, needs)
+
 returns-2 : tie.Need-returns-2
 returns-2 c = search (choosing, needs)
 
@@ -13,7 +16,7 @@ pub choose-spec : {M : Type 1} → statement M
 choose-spec =
     tie.close
     (tie.spec
-    (λ c. search (choosing, needs))
+    returns
     returns-2
     (λ c κs. search needs)
     returns-3)

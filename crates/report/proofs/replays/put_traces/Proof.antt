@@ -21,5 +21,5 @@ abbrev μ-loop : tie.MeasureT-loop
 pub put-traces-spec : {M : Type 1} → statement M
 put-traces-spec =
     tie.close
-    (tie.spec Inv-loop μ-loop (λ c. search (traces-start, needs)) (λ c κs. search needs) (λ c κs. search (traces-room, needs)) (λ c. search needs) (λ c. search needs)
-    (λ c. search (traces-turn, needs)) (λ c. search needs) (λ c. search (traces-end, needs)))
+    (tie.spec Inv-loop μ-loop (λ c. search (traces-start, needs)) (λ c κs. search needs) (λ c κs. search (traces-room, needs))
+    (λ c. search needs) (λ c. search needs) (λ c. search (traces-turn, needs)) (λ c. search needs) (λ c. search (traces-end, needs)))

@@ -8,22 +8,15 @@ use Rattle.tally.proofs.Walks.{union-seen}
 use Rattle.tally.proofs.log.note_trace.Statement.{statement}
 use Rattle.tally.proofs.log.note_trace.Tie as tie
 
--- the three passes, one after another
-passed : (σ t one two out : List ℕ) → one ≡ forward notePast t [] σ → two ≡ forward noteSince one [] σ → out ≡ backward noteRest two [] σ
-    → out ≡ noted t σ
+-- the passes, one after another
+passed : (σ t one out : List ℕ) → one ≡ forward noteSince (forward notePast t [] σ) [] σ → out ≡ backward noteRest one [] σ → out ≡ noted t σ
 unfolding noted
-passed σ t one two out h1 h2 h3 =
-    h3 ∙ ap (λ (x : List ℕ). backward noteRest x [] σ) (h2 ∙ ap (λ (x : List ℕ). forward noteSince x [] σ) h1)
+passed σ t one out h1 h2 = h2 ∙ ap (λ (x : List ℕ). backward noteRest x [] σ) h1
 
 returns : tie.Need-returns
 returns c =
-    let since = c .before .before .before in
-    let past = since .before .before .forward .ensures in (
-      union-seen _ _ _ _ (past .0) (c .union .ensures),
-      passed _ _ _ _ _ (past .1) (since .alternate .ensures)
-          (c .before .backward .ensures),
-    )
+    let past = c .before .before .before .forward .ensures in
+    (union-seen _ _ _ _ (past .0) (c .union .ensures), passed _ _ _ _ (past .1) (c .before .backward .ensures))
 
 pub note-trace-spec : {M : Type 1} → statement M
-note-trace-spec =
-    tie.close (tie.spec (λ c κs. search needs) (λ c κs. search needs) (λ c κs. search needs) (λ c κs. search needs) returns)
+note-trace-spec = tie.close (tie.spec (λ c κs. search needs) (λ c κs. search needs) (λ c κs. search needs) returns)

@@ -1,0 +1,157 @@
+-- What the tally of some traces holds, set by set, and that it is what filling leaves. Assumes nothing.
+use mathlib.Core.Path.{_≡_, refl, sym, ap, ap₂, _∙_}
+use mathlib.Core.Logic.{inr}
+use mathlib.Core.Bool.{Bool, true, false}
+use mathlib.Core.List.{List, [], _∷_, _++_}
+use Prim.Native.Nat.{ℕ, zero, suc, _+_, _-_, _*_, _/_, _%_, _≤_, _<_}
+use native.Mathlib.Nat.{not-suc-le-zero, le-of-suc-le-suc}
+use native.Mathlib.Omega.{arith}
+use borrow.Author.Tests.{lt-ltb, le-ltb, ltb-true, ltb-false}
+use lib.Dec.{ltb}
+use lib.ListN.{length, getD, set, drop, length-append, length-set, length-drop}
+use lib.Seq.{getD-set-same, set-append-left}
+use Rattle.sets.specs.Tests.{_or_, non, when_then_else_}
+use Rattle.sets.specs.Members.{width, mem, those, noSet}
+use Rattle.sets.specs.Rows.{rowAt, rowsOf}
+use Rattle.sets.specs.Tables.{noTables, tableAt, tablesOf}
+use Rattle.sets.specs.declared.set.Set.{Set}
+use Rattle.sets.proofs.Tests.{T→true, F→false, split, either, false-or}
+use Rattle.sets.proofs.Members.{those-ext, those-of, none-those}
+use Rattle.sets.proofs.RowLaws.{row-rowsOf, rowsOf-ext}
+use Rattle.bytes.specs.Sets.{setLength, setAt}
+use Rattle.bytes.proofs.SetLaws.{set-apart}
+use Rattle.rules.specs.Traces.{Traces, _has_, someTrace}
+use Rattle.rules.specs.Mining.{event, between}
+use Rattle.tally.specs.Passes.{through}
+use Rattle.tally.specs.Tallies.{tableCount, noted, tallied}
+use Rattle.tally.proofs.Tallying.{before-table, later-table, unpreceded-table, unanswered-table, unchained-table, unalternated-table, followed-table}
+use Rattle.miner.proofs.Composed.{events-by}
+use Rattle.months.specs.Layout.{setCount, tallyLength, firstRow, rowsEnd, firstPair, rowSet, pairSet, setsFrom, activitiesIn, setIn}
+use Rattle.months.specs.Tallies.{asked, held, tallyOf}
+use Rattle.months.specs.Pairs.{over, packed, Gained, initialOf}
+use Rattle.months.proofs.Packed.{length-from, from-ext, read-from, over-low, over-high}
+use Rattle.months.proofs.Initial.{initial-first, initial-events, initial-row, initial-spare}
+
+-- one of the five kinds of sets
+by-kind : (P : Type 0) (w : ℕ) → (w < 1 → P) → (1 ≤ w → w < firstRow → P) → (firstRow ≤ w → w < rowsEnd → P)
+    → (rowsEnd ≤ w → w < firstPair → P) → (firstPair ≤ w → P) → P
+by-kind P w a b c d e =
+    below 1 a (λ g. below firstRow (b g) (λ h. below rowsEnd (c h) (λ k. below firstPair (d k) e)))
+  where
+    below : (n : ℕ) → (w < n → P) → (n ≤ w → P) → P
+    below n low high = either (split (ltb w n)) (λ t. low (ltb-true w n (T→true _ t))) (λ f. high (ltb-false w n (F→false _ f)))
+
+module _ (L : Traces) where
+  module _ (w x : ℕ) where
+    pub held-first : w < 1 → held L w x ≡ false
+    unfolding held
+    held-first l = rw (lt-ltb w 1 l)
+
+    pub held-events : 1 ≤ w → w < firstRow → held L w x ≡ event L x
+    unfolding held
+    held-events g l = rw (le-ltb w 1 g, lt-ltb w firstRow l)
+
+    pub held-row : firstRow ≤ w → w < rowsEnd → held L w x ≡ asked L ((w - firstRow) / width) ((w - firstRow) % width) x
+    unfolding held
+    held-row g l = let one : 1 ≤ w = omega arith in rw (le-ltb w 1 one, le-ltb w firstRow g, lt-ltb w rowsEnd l)
+
+    pub held-spare : rowsEnd ≤ w → w < firstPair → held L w x ≡ false
+    unfolding held
+    held-spare g l =
+        let one : 1 ≤ w = omega arith in
+        let two : firstRow ≤ w = omega arith in
+        rw (le-ltb w 1 one, le-ltb w firstRow two, le-ltb w rowsEnd g, lt-ltb w firstPair l)
+
+    pub held-pair : firstPair ≤ w → held L w x ≡ between L ((w - firstPair) / width) x ((w - firstPair) % width)
+    unfolding held
+    held-pair g =
+        let one : 1 ≤ w = omega arith in
+        let two : firstRow ≤ w = omega arith in
+        let three : rowsEnd ≤ w = omega arith in
+        rw (le-ltb w 1 one, le-ltb w firstRow two, le-ltb w rowsEnd three, le-ltb w firstPair g)
+
+  -- ---- the tables
+
+  pub table-asked : (k : ℕ) → k < tableCount → tableAt (tallied L) k ≡ rowsOf (asked L k)
+  table-asked zero l = before-table L
+  table-asked (suc zero) l = later-table L
+  table-asked (suc (suc zero)) l = unpreceded-table L
+  table-asked (suc (suc (suc zero))) l = unanswered-table L
+  table-asked (suc (suc (suc (suc zero)))) l = unchained-table L
+  table-asked (suc (suc (suc (suc (suc zero))))) l = unalternated-table L
+  table-asked (suc (suc (suc (suc (suc (suc zero)))))) l = followed-table L
+  table-asked (suc (suc (suc (suc (suc (suc (suc k))))))) l = absurd (omega arith)
+
+  row-asked : (k a : ℕ) → k < tableCount → a < width → rowAt (tableAt (tallied L) k) a ≡ those (asked L k a)
+  row-asked k a lk la = ap (λ (rows : List ℕ). rowAt rows a) (table-asked k lk) ∙ row-rowsOf (asked L k) a la
+
+  -- ---- what filling leaves is what is held
+
+  module _ (events : Set) (tables : List ℕ) (he : events ≡ those (event L)) (ht : tables ≡ tallied L) where
+    same-set : (w : ℕ) → w < setCount → over (initialOf events tables) (λ u s v. false or between L u v s) w ≡ those (held L w)
+    same-set w l =
+        by-kind _ w
+        (λ a. low (omega arith) ∙ sym (initial-first events tables w a) ∙ none-those (held L w) (λ x lx. held-first w x a))
+        (λ g a. low (omega arith) ∙ sym (initial-events events tables w g a) ∙ he ∙ those-ext (event L) (held L w) (λ x lx. sym (held-events w x g a)))
+        (λ g a.
+        low (omega arith) ∙ sym (initial-row events tables w _ g a refl) ∙ ap (λ (t : List ℕ). rowAt (tableAt t ((w - firstRow) / width))
+        ((w - firstRow) % width)) ht
+        ∙ row-asked ((w - firstRow) / width) ((w - firstRow) % width) (omega arith) (omega arith)
+        ∙ those-ext _ (held L w) (λ x lx. sym (held-row w x g a)))
+        (λ g a. low a ∙ sym (initial-spare events tables w g) ∙ none-those (held L w) (λ x lx. held-spare w x g a))
+        (λ g. over-high _ _ w g ∙ those-ext _ (held L w) (λ x lx. false-or _ ∙ sym (held-pair w x g)))
+      where
+        low : w < firstPair → over (initialOf events tables) (λ u s v. false or between L u v s) w ≡ initialOf events tables w
+        low a = over-low _ _ w a
+
+    pub filled : (A : ℕ) (t₁ t₂ t₃ tail : List ℕ) → t₁ ≡ setsFrom setCount 0 (initialOf events tables) ++ tail
+        → Gained t₁ (λ u s v. between L u v s) t₂ → t₃ ≡ set t₂ 0 A → t₃ ≡ tallyOf A L ++ tail
+    unfolding tallyOf packed
+    filled A t₁ t₂ t₃ tail h₁ g h₃ =
+        let all = setsFrom setCount 0 (λ w. those (held L w)) in
+        h₃
+        ∙ ap (λ (l : List ℕ). set l 0 A)
+        (g (initialOf events tables) (λ u s v. false) tail
+        (h₁ ∙ ap (λ (l : List ℕ). l ++ tail) (from-ext setCount 0 _ _ (λ w a b. sym (no-pair w))))
+        ∙ ap (λ (l : List ℕ). l ++ tail) (from-ext setCount 0 _ _ (λ w a b. same-set w b)))
+        ∙ set-append-left all tail 0 A (omega (arith, length-from setCount 0 (λ w. those (held L w))))
+      where
+        no-pair : (w : ℕ) → over (initialOf events tables) (λ u s v. false) w ≡ initialOf events tables w
+        no-pair w =
+            either (split (ltb w firstPair))
+            (λ t. over-low _ _ w (ltb-true w firstPair (T→true _ t)))
+            (λ f.
+            let g = ltb-false w firstPair (F→false _ f) in
+            over-high _ _ w g ∙ sym (none-those _ (λ x lx. refl)) ∙ initial-spare events tables w (omega arith))
+
+  -- ---- reading a tally of traces
+
+  module _ (A : ℕ) where
+    pub activities-held : activitiesIn (tallyOf A L) ≡ A
+    unfolding tallyOf
+    activities-held = getD-set-same (setsFrom setCount 0 (λ w. those (held L w))) 0 A 0 (omega (arith, length-from setCount 0 (λ w. those (held L w))))
+
+    -- whatever stands after the tally
+    pub set-held : (rest : List ℕ) (w : ℕ) → 1 ≤ w → w < setCount → setIn (tallyOf A L ++ rest) w ≡ those (held L w)
+    unfolding tallyOf
+    set-held rest w g l =
+        let all = setsFrom setCount 0 (λ v. those (held L v)) in
+        ap (λ (bytes : List ℕ). setAt bytes (setLength * w))
+        (sym (set-append-left all rest 0 A (omega (arith, length-from setCount 0 (λ v. those (held L v))))))
+        ∙ set-apart (all ++ rest) (setLength * w) 0 (A ∷ []) (inr (omega arith))
+        ∙ read-from setCount w (λ v. those (held L v)) rest l (those-of (those (held L w)) (held L w) (λ a t. t) refl)
+
+    pub length-held : length (tallyOf A L) ≡ tallyLength
+    unfolding tallyOf
+    length-held = length-set (setsFrom setCount 0 (λ v. those (held L v))) 0 A ∙ length-from setCount 0 (λ v. those (held L v))
+
+-- from what the passes leave
+pub tally-filled : (A : ℕ) (L : Traces) (none tables : List ℕ) (events : Set) (t₁ t₂ tail : List ℕ) → none ≡ noTables tableCount
+    → events ≡ those (λ x. someTrace L (λ σ. σ has x)) → tables ≡ through noted none L
+    → t₁ ≡ setsFrom setCount 0 (initialOf events tables) ++ tail → Gained t₁ (λ u s v. between L u v s) t₂ → set t₂ 0 A ≡ tallyOf A L ++ tail
+tally-filled A L none tables events t₁ t₂ tail hn he ht h₁ g =
+    filled L events tables (events-by L events he) (ht ∙ ap (λ (x : List ℕ). through noted x L) hn) A t₁ t₂ (set t₂ 0 A) tail h₁ g refl
+
+pub filled-long : (A : ℕ) (L : Traces) (t out : List ℕ) → tallyLength ≤ length t → out ≡ tallyOf A L ++ drop tallyLength t → length out ≡ length t
+filled-long A L t out h e =
+    ap length e ∙ length-append (tallyOf A L) (drop tallyLength t) ∙ omega (arith, length-held L A, length-drop tallyLength t)

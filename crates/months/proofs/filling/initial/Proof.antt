@@ -1,0 +1,13 @@
+use borrow.Author.Needs.{needs}
+use Rattle.months.proofs.Initial.{initials}
+use Rattle.months.proofs.filling.initial.Statement.{statement}
+use Rattle.months.proofs.filling.initial.Tie as tie
+
+returns-4 : tie.Need-returns-4
+returns-4 c = search (initials, needs)
+
+pub initial-spec : {M : Type 1} → statement M
+initial-spec =
+    tie.close
+    (tie.spec (λ c. search (initials, needs)) (λ c. search (initials, needs)) (λ c. search (initials, needs)) (λ c. search needs) (λ c. search needs)
+    (λ c κs. search needs) returns-4)

@@ -1,0 +1,5 @@
+pub mod Layout
+pub mod Tallies
+pub mod Pairs
+pub mod Readings
+pub mod Months

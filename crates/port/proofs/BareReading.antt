@@ -1,0 +1,73 @@
+-- A file read without the set of enabled activities: what is had is the file's graph, and reading has judged it. Assumes nothing.
+use mathlib.Core.Path.{_≡_, sym, ap, _∙_}
+use mathlib.Core.Bool.{Bool, true, false, not}
+use mathlib.Core.List.{List}
+use Prim.Native.Nat.{ℕ}
+use borrow.Author.Tests.{not-false}
+use Rattle.sets.specs.Tests.{when_then_else_}
+use Rattle.sets.specs.Members.{noSet}
+use Rattle.sets.specs.Tables.{noTables}
+use Rattle.sets.specs.Answers.{isDone}
+use Rattle.sets.specs.declared.set.Set.{Set}
+use Rattle.sets.specs.declared.answer.Answer.{Answer}
+use Rattle.sets.specs.declared.answer.Answer.the-variants.{Done}
+use Rattle.sets.proofs.Asking.{gone-on}
+use Rattle.engine.specs.Markings.{emptyState}
+use Rattle.engine.specs.Relations.{Relations, relationCount, inTables, relationsOf, emptyGraph}
+use Rattle.engine.specs.Judged.{judged}
+use Rattle.graphfile.specs.Refusals.{judgedFile}
+use Rattle.graphfile.specs.Layout.{eventsIn, stateIn}
+use Rattle.graphfile.specs.Held.{relationsIn, graphIn, bareOf, readOf}
+use Rattle.graphfile.specs.declared.reader.Bare.{Bare}
+use Rattle.bytes.proofs.Codec.{Bytes}
+use Rattle.graphfile.proofs.RoundTrips.{file-graph}
+use Rattle.engine.specs.declared.graph.Graph.{Graph}
+
+module _ (file : List ℕ) (r : Bare) (hr : r ≡ bareOf file) where
+  -- either reading has the same answer
+  pub bare-answer : r .answer ≡ readOf file .answer
+  unfolding readOf bareOf
+  bare-answer = ap (λ (x : Bare). x .answer) hr
+
+  module _ (d : Bool) (hd : d ≡ isDone (r .answer)) where
+    pub file-done : (t : Bool) → d ≡ t → isDone (readOf file .answer) ≡ t
+    file-done t h = sym (ap isDone bare-answer) ∙ sym hd ∙ h
+
+    -- of a file that is accepted
+    module _ (n : not d ≡ false) where
+      accepted : judgedFile file ≡ Done
+      unfolding readOf
+      accepted = gone-on (r .answer) (judgedFile file) d bare-answer hd n
+
+      abbrev graphBy : Answer → Graph
+      graphBy a = when isDone a then graphIn file else emptyGraph
+
+      pub bare-events : r .events ≡ readOf file .graph .head .events
+      unfolding readOf bareOf graphIn
+      bare-events =
+          ap (λ (x : Bare). x .events) hr
+          ∙ ap (λ (a : Answer). when isDone a then eventsIn file else noSet) accepted
+          ∙ sym (ap (λ (a : Answer). graphBy a .head .events) accepted)
+
+      pub bare-state : r .state ≡ readOf file .graph .head .opening .state
+      unfolding readOf bareOf graphIn
+      bare-state =
+          ap (λ (x : Bare). x .state) hr
+          ∙ ap (λ (a : Answer). when isDone a then stateIn file else emptyState) accepted
+          ∙ sym (ap (λ (a : Answer). graphBy a .head .opening .state) accepted)
+
+      pub bare-relations : r .relations ≡ readOf file .graph .relations
+      unfolding readOf bareOf graphIn
+      bare-relations =
+          ap (λ (x : Bare). x .relations) hr
+          ∙ ap (λ (a : Answer). when isDone a then relationsIn file relationCount else noTables relationCount) accepted
+          ∙ sym (ap (λ (a : Answer). graphBy a .relations) accepted)
+
+      -- so what is said of the events and relations read is said of the graph's
+      pub bare-graph : {A : Type 0} (F : Set → Relations → A)
+          → F (r .events) (inTables (r .relations)) ≡ F (readOf file .graph .head .events) (relationsOf (readOf file .graph))
+      bare-graph F j = F (bare-events j) (inTables (bare-relations j))
+
+      pub read-judged : Bytes file → judged (readOf file .graph) ≡ Done
+      unfolding readOf
+      read-judged small = ap (λ (a : Answer). judged (graphBy a)) accepted ∙ file-graph file small accepted

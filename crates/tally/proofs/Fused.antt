@@ -1,0 +1,89 @@
+-- Two passes over a trace that put into different tables are one: place by place, both turns. Assumes nothing.
+use mathlib.Core.Path.{_≡_, refl, sym, ap, _∙_}
+use mathlib.Core.Bool.{Bool}
+use mathlib.Core.List.{List, [], _∷_}
+use Prim.Native.Nat.{ℕ, _+_, _*_, _<_}
+use native.Mathlib.Omega.{arith}
+use borrow.Author.Tests.{ltb-true, ltb-false}
+use lib.Dec.{ltb}
+use lib.ListN.{set}
+use lib.Seq.{set-comm}
+use Rattle.sets.specs.Tests.{_or_}
+use Rattle.sets.specs.Members.{width, mem, those}
+use Rattle.sets.specs.Rows.{rowAt}
+use Rattle.sets.specs.Tables.{tableAt, withRowIn}
+use Rattle.sets.specs.declared.set.Set.{Set}
+use Rattle.sets.proofs.Tests.{T→true, F→false, split, either}
+use Rattle.sets.proofs.TableLaws.{table-put, table-put-above, table-put-other}
+use Rattle.tally.specs.Passes.{Turn, notedIn, forward, isEarlier, notEarlier, notDirectly, notSince}
+use Rattle.tally.specs.Tallies.{beforeTable, unprecededTable, unchainedTable, unalternatedTable, notePast, noteSince}
+
+-- ---- puts into different tables, in either order
+
+put-comm : (tables : List ℕ) (j k a b : ℕ) (s t : Set) → (j ≡ k → ⊥) → withRowIn (withRowIn tables j a s) k b t
+    ≡ withRowIn (withRowIn tables k b t) j a s
+put-comm tables j k a b s t ne =
+    either (split (ltb a width))
+    (λ x. either (split (ltb b width)) (λ y. both (ltb-true a width (T→true _ x)) (ltb-true b width (T→true _ y)))
+    (λ y. let g = ltb-false b width (F→false _ y) in sym (table-put-above (withRowIn tables j a s) k b t g)
+    ∙ ap (λ (l : List ℕ). withRowIn l j a s) (table-put-above tables k b t g)))
+    (λ x. let g = ltb-false a width (F→false _ x) in ap (λ (l : List ℕ). withRowIn l k b t) (sym (table-put-above tables j a s g))
+    ∙ table-put-above (withRowIn tables k b t) j a s g)
+  where
+    apart : a < width → b < width → j * width + a ≡ k * width + b → ⊥
+    apart la lb q = ne (omega (arith, la, lb, q))
+
+    both : a < width → b < width → withRowIn (withRowIn tables j a s) k b t ≡ withRowIn (withRowIn tables k b t) j a s
+    both la lb =
+        sym (table-put (withRowIn tables j a s) k b t lb)
+        ∙ ap (λ (l : List ℕ). set l (k * width + b) (t .bits)) (sym (table-put tables j a s la))
+        ∙ set-comm tables (j * width + a) (k * width + b) (s .bits) (t .bits) (apart la lb)
+        ∙ ap (λ (l : List ℕ). set l (j * width + a) (s .bits)) (table-put tables k b t lb)
+        ∙ table-put (withRowIn tables k b t) j a s la
+
+noted-comm : (tables : List ℕ) (j k a b : ℕ) (p q : ℕ → Bool) → (j ≡ k → ⊥) → notedIn (notedIn tables j a p) k b q
+    ≡ notedIn (notedIn tables k b q) j a p
+unfolding notedIn
+noted-comm tables j k a b p q ne =
+    ap (λ (l : List ℕ). withRowIn (notedIn tables j a p) k b (those (λ x. mem (rowAt l b) x or q x)))
+    (table-put-other tables j a (those (λ x. mem (rowAt (tableAt tables j) a) x or p x)) k (λ h. ne (sym h)))
+    ∙ put-comm tables j k a b (those (λ x. mem (rowAt (tableAt tables j) a) x or p x)) (those (λ x. mem (rowAt (tableAt tables k) b) x or q x)) ne
+    ∙ ap (λ (l : List ℕ). withRowIn (notedIn tables k b q) j a (those (λ x. mem (rowAt l a) x or p x)))
+    (sym (table-put-other tables k b (those (λ x. mem (rowAt (tableAt tables k) b) x or q x)) j ne))
+
+-- ---- the turns of the past and of a look back
+
+since-past : (tally : List ℕ) (e f : ℕ) (past rest back on : List ℕ) → notePast (noteSince tally e past rest) f back on
+    ≡ noteSince (notePast tally f back on) e past rest
+unfolding notePast noteSince
+since-past tally e f past rest back on =
+    let since = notSince e past rest in
+    let seen = isEarlier f back on in
+    let unseen = notEarlier f back on in
+    let apart = notDirectly f back on in
+    ap (λ (l : List ℕ). notedIn (notedIn l unprecededTable f unseen) unchainedTable f apart)
+    (noted-comm tally unalternatedTable beforeTable e f since seen (λ q. omega (arith, q)))
+    ∙ ap (λ (l : List ℕ). notedIn l unchainedTable f apart)
+    (noted-comm (notedIn tally beforeTable f seen) unalternatedTable unprecededTable e f since unseen (λ q. omega (arith, q)))
+    ∙ noted-comm (notedIn (notedIn tally beforeTable f seen) unprecededTable f unseen) unalternatedTable unchainedTable e f since apart
+    (λ q. omega (arith, q))
+
+-- a turn of the one may come before all turns of the other
+since-first : (tally : List ℕ) (e : ℕ) (past rest back on : List ℕ) → forward notePast (noteSince tally e past rest) back on
+    ≡ noteSince (forward notePast tally back on) e past rest
+unfolding forward
+since-first tally e past rest back [] = refl
+since-first tally e past rest back (f ∷ on) =
+    ap (λ (l : List ℕ). forward notePast l (f ∷ back) on) (since-past tally e f past rest back on)
+    ∙ since-first (notePast tally f back on) e past rest (f ∷ back) on
+
+-- both turns of a place
+unfoldable pub noteBoth : Turn
+noteBoth tally e past rest = noteSince (notePast tally e past rest) e past rest
+
+pub fused : (tally past rest : List ℕ) → forward noteBoth tally past rest ≡ forward noteSince (forward notePast tally past rest) past rest
+unfolding forward noteBoth
+fused tally past [] = refl
+fused tally past (e ∷ rest) =
+    fused (noteSince (notePast tally e past rest) e past rest) (e ∷ past) rest
+    ∙ ap (λ (l : List ℕ). forward noteSince l (e ∷ past) rest) (since-first (notePast tally e past rest) e past rest (e ∷ past) rest)

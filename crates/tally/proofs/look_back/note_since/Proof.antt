@@ -1,0 +1,44 @@
+use mathlib.Core.Path.{_≡_, sym, subst, _∙_}
+use mathlib.Core.Bool.{Bool, true}
+use Prim.Native.Nat.{ℕ, _<_}
+use borrow.Author.Needs.{needs}
+use lib.Dec.{T}
+use Rattle.sets.specs.Members.{width, mem, those}
+use Rattle.sets.specs.declared.set.Set.{Set}
+use Rattle.sets.proofs.Tests.{true→T}
+use Rattle.sets.proofs.Members.{those-e, those-mem}
+use Rattle.tally.proofs.Alternate.{note-full, note-repeat, note-first}
+use Rattle.tally.proofs.look_back.note_since.Statement.{statement}
+use Rattle.tally.proofs.look_back.note_since.Tie as tie
+
+-- what is in a set is below the width
+member-low : (s : Set) (e : ℕ) (r : Bool) → those (mem s) ≡ s → r ≡ mem s e → r ≡ true → e < width
+member-low s e r hs hr ht = those-e (mem s) e (subst (λ (u : Set). T (mem u e)) (sym hs) (true→T (sym hr ∙ ht))) .0
+
+-- the row has all
+returns : tie.Need-returns
+returns c = search (note-full, those-mem, needs)
+
+unmet-by-requires : tie.Need-unmet-by-requires
+unmet-by-requires c κs = (search needs, search (member-low, those-mem, needs))
+
+-- a repeat
+returns-2 : tie.Need-returns-2
+returns-2 c =
+    let asked = c .before .before .before .before in
+    let wanted = asked .before .before .before in
+    note-repeat _ _ _ _ _ _ (asked .has .ensures) _ _ _ _ (c .before .before .before .if2 .taken) (wanted .before .row .ensures)
+    (wanted .complement .ensures) (c .before .before .unmet-by .ensures) (c .join .ensures)
+
+-- the first in its trace
+returns-3 : tie.Need-returns-3
+returns-3 c =
+    let asked = c .before .before .before .before in
+    note-first _ _ _ _ _ _ (asked .has .ensures) _ _ (c .before .before .before .if2 .left) (c .before .complement2 .ensures)
+    (c .join2 .ensures)
+
+pub note-since-spec : {M : Type 1} → statement M
+note-since-spec =
+    tie.close
+    (tie.spec (λ c κs. search needs) (λ c κs. search needs) (λ c κs. search needs) returns (λ c κs. search needs) unmet-by-requires
+    (λ c κs. search needs) (λ c κs. search needs) (λ c κs. search needs) returns-2 returns-3)
