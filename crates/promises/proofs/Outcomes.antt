@@ -41,6 +41,11 @@ use Rattle.bytes.proofs.number.number_at.Reads as number-at
 use Rattle.bytes.proofs.number.put_number.Reads as put-number
 use Rattle.bytes.proofs.set.set_at.Reads as set-at
 use Rattle.bytes.proofs.set.put_set.Reads as put-set
+use Rattle.bytes.proofs.set.length.Reads as set-length
+use Rattle.bytes.proofs.edition.edition_for.Reads as edition-for
+use Rattle.bytes.proofs.edition.edition_in.Reads as edition-in
+use Rattle.bytes.proofs.edition.opens_file.Reads as opens-file
+use Rattle.bytes.proofs.edition.is_beyond.Reads as is-beyond
 use Rattle.engine.proofs.marking.State.of.Reads as State-of
 use Rattle.engine.proofs.marking.State.opening.Reads as State-opening
 use Rattle.engine.proofs.enabled.enabled_set.Reads as enabled-set
@@ -93,6 +98,8 @@ use Rattle.graphfile.proofs.marking.read_marking_at.Reads as read-marking-at
 use Rattle.graphfile.proofs.marking.write_marking_at.Reads as write-marking-at
 use Rattle.graphfile.proofs.marking.read_marking.Reads as read-marking
 use Rattle.graphfile.proofs.marking.write_marking.Reads as write-marking
+use Rattle.graphfile.proofs.marking.length.Reads as marking-length
+use Rattle.graphfile.proofs.head.length.Reads as head-length
 use Rattle.desk.proofs.requests.judge_place.Reads as desk-judge-place
 use Rattle.desk.proofs.requests.open.Reads as desk-open
 use Rattle.desk.proofs.requests.step.Reads as desk-step
@@ -294,6 +301,21 @@ set-at-once κ a r r′ s s′ h h′ = h ∙ sym h′
 pub put-set-once : OnceLeft put-set.Post (λ κ s. now (s .0))
 put-set-once κ a r r′ s s′ h h′ = h ∙ sym h′
 
+pub set-length-once : Once set-length.Post
+set-length-once κ a r r′ s s′ h h′ = h ∙ sym h′
+
+pub edition-for-once : Once edition-for.Post
+edition-for-once κ a r r′ s s′ h h′ = h ∙ sym h′
+
+pub edition-in-once : Once edition-in.Post
+edition-in-once κ a r r′ s s′ h h′ = h ∙ sym h′
+
+pub opens-file-once : Once opens-file.Post
+opens-file-once κ a r r′ s s′ h h′ = h ∙ sym h′
+
+pub is-beyond-once : Once is-beyond.Post
+is-beyond-once κ a r r′ s s′ h h′ = h ∙ sym h′
+
 -- ---- engine
 
 pub State-of-once : Once State-of.Post
@@ -483,6 +505,12 @@ read-marking-once κ a r r′ s s′ h h′ = h ∙ sym h′
 
 pub write-marking-once : OnceLeft write-marking.Post (λ κ s. now (s .1 .0))
 write-marking-once κ a r r′ s s′ h h′ = h ∙ sym h′
+
+pub marking-length-once : Once marking-length.Post
+marking-length-once κ a r r′ s s′ h h′ = h ∙ sym h′
+
+pub head-length-once : Once head-length.Post
+head-length-once κ a r r′ s s′ h h′ = h ∙ sym h′
 
 -- ---- desk
 
