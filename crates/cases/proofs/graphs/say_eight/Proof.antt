@@ -1,16 +1,16 @@
 use Prim.Native.Nat.{_-_, _≤_}
 use borrow.Author.Needs.{needs}
-use Rattle.cases.proofs.graphs.say_contents.Statement.{statement}
-use Rattle.cases.proofs.graphs.say_contents.Tie as tie
+use Rattle.cases.proofs.graphs.say_eight.Statement.{statement}
+use Rattle.cases.proofs.graphs.say_eight.Tie as tie
 
 abbrev Inv-loop : tie.InvT-loop
-Inv-loop bytes at₀ at = at ≤ 53
+Inv-loop bytes from i₀ i = i ≤ 17
 
 abbrev μ-loop : tie.MeasureT-loop
-μ-loop bytes at₀ at = 53 - at
+μ-loop bytes from i₀ i = 17 - i
 
-pub say-contents-spec : {M : Type 1} → statement M
-say-contents-spec =
+pub say-eight-spec : {M : Type 1} → statement M
+say-eight-spec =
     tie.close
     (tie.spec Inv-loop μ-loop (λ c. search needs) (λ c κs. search needs) (λ c. search needs) (λ c. search needs) (λ c. search needs)
     (λ c. search needs) (λ c κs. search needs) (λ c. search needs) (λ c. search needs) (λ c. search needs) (λ c. search needs))
