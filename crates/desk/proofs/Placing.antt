@@ -50,13 +50,14 @@ module _ (wide : Bool) (n : ℕ) (e : n ≡ placeLength wide) where
   pub start-fits : (p : ℕ) → p < placeCount → n * p < 2 ^ 64
   start-fits p l = omega (arith, start-is p, place-room wide p l, place-most wide)
 
-  pub table-is : n * placeCount ≡ tableLength wide
-  table-is = ap (λ (k : ℕ). k * placeCount) e
-
   pub table-fits : n * placeCount < 2 ^ 64
   table-fits = omega (arith, place-most wide)
 
-pub ruleset starts = (start-is, start-fits, table-is, table-fits)
+pub ruleset starts = (start-is, start-fits, table-fits)
+
+-- a place's marking stands after its first byte
+pub mark-fits : (wide : Bool) (p at : ℕ) → p < placeCount → at ≡ placeStart wide p → at + 1 < 2 ^ 64
+mark-fits wide p at l e = omega (arith, place-room wide p l, place-most wide)
 
 -- ---- ways through the code
 
@@ -212,6 +213,6 @@ pub length-after : (wide : Bool) (table table′ : List ℕ) (p at first : ℕ) 
     → length table′ ≡ length table
 length-after wide table table′ p at first m e = ap length e ∙ length-marked wide (set table at first) p m ∙ length-set table at first
 
-pub ruleset placing = (open-above, byte-room, open-byte, held-at, stored-at, placed-at, length-after)
+pub ruleset placing = (mark-fits, open-above, byte-room, open-byte, held-at, stored-at, placed-at, length-after)
 
 pub ruleset lowest = (lowest-here, lowest-none)

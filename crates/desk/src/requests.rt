@@ -129,7 +129,12 @@ fn put_step(
 {
     let m = table::marking_at(table, place, wide);
     let after = rules::next(relations, m.state, a);
-    table::put_marking(table, place, enabled::marked(events, relations, after), wide);
+    table::put_marking(
+        table,
+        place,
+        enabled::marked(events, relations, after),
+        wide,
+    );
 }
 
 // One activity at one place. Beside 10 the answer has the blocker.
