@@ -29,7 +29,7 @@ use Rattle.port.specs.Port.{packedOf, blockedOf}
 use Rattle.port.specs.Desk.{beforeOpen, beforePlace, refusedOpen, deskOpenedOf, deskOpenNumber, deskOpenTable}
 use Rattle.port.specs.Desk.{deskStepNumber, deskStepTable, deskCloseNumber, deskCloseTable}
 use Rattle.port.proofs.BareReading.{bare-answer, bare-graph, read-judged, read-form}
-use Rattle.port.proofs.Packing.{short-of, room-for}
+use Rattle.port.proofs.Lending.{short-of, room-for}
 
 -- ---- x is what is asked before there is a graph: refused with a, or done
 
@@ -71,7 +71,7 @@ module _ (file table : List ℕ) where
     unfolding beforeOpen
     too-few =
         taken (ltb (length table) (tableLength (wideIn file))) BufferTooSmall (readOf file .answer) BufferTooSmall
-        (sym (short-of (length table) room (tableLength (wideIn file)) least short)) refl
+        (short-of (length table) room (tableLength (wideIn file)) least short) refl
 
     pub open-short : (n : ℕ) → n ≡ packedOf BufferTooSmall noPlace → n ≡ deskOpenNumber file table
     open-short n e = open-refused-number BufferTooSmall too-few refl n e
@@ -84,7 +84,7 @@ module _ (file table : List ℕ) where
     unfolding beforeOpen
     the-file =
         passed-by (ltb (length table) (tableLength (wideIn file))) BufferTooSmall (readOf file .answer) (r .answer)
-        (sym (room-for (length table) room (tableLength (wideIn file)) least long)) (ap (λ (x : Reading). x .answer) hr)
+        (room-for (length table) room (tableLength (wideIn file)) least long) (ap (λ (x : Reading). x .answer) hr)
 
     pub open-no-file : (n : ℕ) → not d ≡ true → n ≡ packedOf (r .answer) noPlace → n ≡ deskOpenNumber file table
     open-no-file n t e = open-refused-number (r .answer) the-file (sym hd ∙ not-true d t) n e

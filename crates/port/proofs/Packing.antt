@@ -41,6 +41,7 @@ use Rattle.miner.proofs.Given.{mined-judged}
 use Rattle.report.specs.declared.writer.Listed.{Listed}
 use Rattle.port.specs.Port.{packedOf, verdictOf, blockedOf, stepNumber, storedOf, putNumber, putBuffer, profileOf, inProfile, inProfileBuffer}
 use Rattle.port.specs.Port.{replayNumber, refusedStep, stepOf, openingAnswer, openingBytes}
+use Rattle.port.proofs.Lending.{short-of, room-for}
 use Rattle.port.proofs.BareReading.{bare-answer, file-done, bare-events, bare-state, bare-relations, bare-graph, read-judged}
 
 pub packed-is : (a : Answer) (n low : ℕ) → low ≡ numberOf a → low + 256 * (n % 16777216) ≡ packedOf a n
@@ -195,15 +196,6 @@ module _ (file trace : List ℕ) (r : Bare) (hr : r ≡ bareOf file) (d : Bool) 
 
 pub ruleset replaying = (replay-refused, replay-too-long)
 
--- ---- what is lent beside a file: too little of it, or enough
-
-module _ (lent room least : ℕ) (e : room ≡ least) where
-  pub short-of : lent < room → ltb lent least ≡ true
-  short-of l = lt-ltb lent least (omega arith)
-
-  pub room-for : room ≤ lent → ltb lent least ≡ false
-  room-for l = le-ltb lent least (omega arith)
-
 -- ---- a step
 
 module _ (file bytes : List ℕ) (a : ℕ) where
@@ -226,7 +218,7 @@ module _ (file bytes : List ℕ) (a : ℕ) where
     pub step-short : (room : ℕ) → not d ≡ false → room ≡ markingLength (wideIn file) → length bytes < room
         → refusedStep BufferTooSmall ≡ stepOf file bytes a
     unfolding non
-    step-short room n e l = choice true true (not-false d n) (short-of (length bytes) room (markingLength (wideIn file)) e l)
+    step-short room n e l = choice true true (not-false d n) (sym (short-of (length bytes) room (markingLength (wideIn file)) e l))
 
 -- reading has judged the graph
 pub step-taken : (file : List ℕ) → Bytes file → (bytes : List ℕ) (a : ℕ) (r : Bare) (d : Bool) → r ≡ bareOf file → d ≡ isDone (r .answer)
@@ -239,7 +231,7 @@ step-taken file small bytes a r d hr hd m s room n e l hm hs =
     ∙ ap (λ (x : Marking). steppedOn (r .events) (inTables (r .relations)) x a) hm
     ∙ bare-graph file r hr d hd n (λ E R. steppedOn E R (markingFrom (wideIn file) bytes) a)
     ∙ sym (stepped-on (readOf file .graph) (read-judged file r hr d hd n small) (markingFrom (wideIn file) bytes) a)
-    ∙ choice file bytes a r d hr hd true false (not-false d n) (room-for (length bytes) room (markingLength (wideIn file)) e l)
+    ∙ choice file bytes a r d hr hd true false (not-false d n) (sym (room-for (length bytes) room (markingLength (wideIn file)) e l))
 
 -- of any step that gives s
 module _ (s x : Stepped) (hs : s ≡ x) where
@@ -289,7 +281,7 @@ module _ (file bytes : List ℕ) (r : Reading) (d : Bool) (hr : r ≡ readOf fil
 
     module _ (room : ℕ) (enough : room ≡ markingLength (wideIn file)) (l : length bytes < room) where
       few : openingAnswer file (length bytes) ≡ BufferTooSmall
-      few = opens Done true read (short-of (length bytes) room (markingLength (wideIn file)) enough l)
+      few = opens Done true read (sym (short-of (length bytes) room (markingLength (wideIn file)) enough l))
 
       pub opening-short : (k : ℕ) → k ≡ numberOf BufferTooSmall → k ≡ numberOf (openingAnswer file (length bytes))
       opening-short k e = e ∙ ap numberOf (sym few)
@@ -299,7 +291,7 @@ module _ (file bytes : List ℕ) (r : Reading) (d : Bool) (hr : r ≡ readOf fil
 
     module _ (room : ℕ) (enough : room ≡ markingLength (wideIn file)) (l : room ≤ length bytes) where
       roomy : openingAnswer file (length bytes) ≡ Done
-      roomy = opens Done false read (room-for (length bytes) room (markingLength (wideIn file)) enough l)
+      roomy = opens Done false read (sym (room-for (length bytes) room (markingLength (wideIn file)) enough l))
 
       pub opening-number : (k : ℕ) → k ≡ numberOf (r .answer) → k ≡ numberOf (openingAnswer file (length bytes))
       opening-number k e = e ∙ ap numberOf (ap (λ (x : Reading). x .answer) hr ∙ read ∙ sym roomy)

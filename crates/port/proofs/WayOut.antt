@@ -26,7 +26,7 @@ use Rattle.desk.specs.WayOut.{finishedAt}
 use Rattle.desk.specs.Desk.{placeAnswer}
 use Rattle.port.specs.Desk.{beforePlace}
 use Rattle.port.specs.WayOut.{wayInto, wayAfter, finishIn, deskFinishIn, shutNumber}
-use Rattle.port.proofs.Packing.{short-of, room-for}
+use Rattle.port.proofs.Lending.{short-of, room-for}
 use Rattle.port.proofs.Desk.{the-place, the-file-then, asked}
 
 -- ---- a way put down
@@ -70,11 +70,11 @@ module _ (file marking : List ℕ) (room : ℕ) where
     module _ (n : not d ≡ false) (least : ℕ) (e : least ≡ markingLength (wideIn file)) where
       pub finish-short : length marking < least → finishedBy BufferTooSmall [] ≡ finishIn file marking room
       unfolding non
-      finish-short l = choice true true _ (not-false d n) (short-of (length marking) least (markingLength (wideIn file)) e l) refl
+      finish-short l = choice true true _ (not-false d n) (sym (short-of (length marking) least (markingLength (wideIn file)) e l)) refl
 
       module _ (l : least ≤ length marking) where
         enough : ltb (length marking) (markingLength (wideIn file)) ≡ false
-        enough = room-for (length marking) least (markingLength (wideIn file)) e l
+        enough = sym (room-for (length marking) least (markingLength (wideIn file)) e l)
 
         pub finish-narrow : room < 4 → finishedBy BufferTooSmall [] ≡ finishIn file marking room
         unfolding non
