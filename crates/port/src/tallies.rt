@@ -22,7 +22,7 @@ use sets::Answer;
 use sets::Set;
 use sets::tables;
 
-// The rows of all relations, of 64 activities as a tally has them, and where they begin: after A and the events. Sets are of 8 bytes here.
+// The rows of all relations, and where they begin: after A and the events.
 const ROWS: usize = KINDS as usize * WIDTH;
 
 const ROWS_START: usize = 1 + set::NARROW;

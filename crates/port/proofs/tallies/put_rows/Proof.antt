@@ -2,8 +2,8 @@ use mathlib.Core.Path.{_≡_, refl}
 use Prim.Native.Nat.{_-_, _*_, _≤_}
 use borrow.Author.Needs.{needs}
 use lib.ListN.{length}
-use Rattle.engine.specs.Relations.{relationCount}
 use Rattle.months.specs.Layout.{tallyWidth}
+use Rattle.engine.specs.Relations.{relationCount}
 use Rattle.port.specs.Tallies.{knownLength}
 use Rattle.port.proofs.Tallied.{rowsTo, rows-begin, rows-next, rows-long, rows-finish}
 use Rattle.port.proofs.tallies.put_rows.Statement.{statement}
