@@ -92,6 +92,9 @@ impl Comparison {
 /// Of so many graphs of two events one is recorded.
 const RECORDED: u16 = 2048;
 
+/// Of so many of them one has its events at the border of the two sizes.
+const OVER_64: u16 = 16;
+
 /// How many markings such a graph has.
 const MARKINGS_OF_TWO: u128 = 64;
 
@@ -107,11 +110,14 @@ pub fn once(comparison: &mut Comparison) {
 fn of_two(comparison: &mut Comparison, numbers: &[u16]) {
     for &k in numbers {
         comparison.input("half-done: of two events");
-        let graph = finish::of_two(k);
-        let file = graphs::file(&graph);
+        let mut graph = finish::of_two(k);
+        if k % OVER_64 == 5 {
+            graph = graphs::with_numbers(&graph, 65, &[63, 64]);
+        }
+        let (file, form) = (graphs::file(&graph), Form::of(graph.a));
         for marking in 0..MARKINGS_OF_TWO {
             let marking = finish::marking_of_two(&graph, marking);
-            comparison.finish(&file, &graphs::marking_bytes(&marking, Form::NARROW), WAY);
+            comparison.finish(&file, &graphs::marking_bytes(&marking, form), WAY);
         }
     }
 }

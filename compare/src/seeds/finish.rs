@@ -23,12 +23,13 @@ pub fn of_two(k: u16) -> GraphValue {
     graph
 }
 
-/// Marking k of such a graph, k below 64.
+/// Marking k of such a graph, k below 64: the events stand side by side, from the first on.
 pub fn marking_of_two(graph: &GraphValue, k: u128) -> MarkingValue {
+    let first = graph.events.trailing_zeros();
     let sets = MarkingValue {
-        executed: k & 3,
-        pending: k >> 2 & 3,
-        included: k >> 4 & 3,
+        executed: (k & 3) << first,
+        pending: (k >> 2 & 3) << first,
+        included: (k >> 4 & 3) << first,
         enabled: 0,
     };
     kept(graph, sets)

@@ -47,6 +47,11 @@ pub fn value_of_size(prng: &mut Prng, a: u8) -> GraphValue {
 pub fn spread(prng: &mut Prng, graph: &GraphValue) -> GraphValue {
     let a = prng.one_of(&[65, 66, 97, 97, 127, 128]);
     let numbers = logs::numbers_below(prng, a, usize::from(graph.a));
+    with_numbers(graph, a, &numbers)
+}
+
+/// Activity e becomes the one that stands at place e of the numbers, of a in all.
+pub fn with_numbers(graph: &GraphValue, a: u8, numbers: &[u8]) -> GraphValue {
     let set = |set: u128| {
         let others = numbers.iter().enumerate();
         others.fold(0, |all, (e, other)| all | (set >> e & 1) << other)
@@ -179,8 +184,10 @@ fn member(prng: &mut Prng, of: u128) -> u128 {
 pub fn damaged_value(prng: &mut Prng) -> GraphValue {
     let mut graph = value(prng);
     for _ in 0..prng.within(1, 2) {
-        let stray = 1 << prng.below(128);
-        let key = prng.below(128);
+        let near = Form::of(graph.a).activities();
+        let stray = 1 << prng.below(near);
+        let keys = prng.one_of(&[near, 128]);
+        let key = prng.below(keys);
         match prng.below(11) {
             0 => graph.a = prng.one_of(&[64, 65, 66, 128, 129, 255]),
             1 => graph.a = graph.a.saturating_sub(1),

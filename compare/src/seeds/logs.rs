@@ -268,7 +268,7 @@ fn wide_borders(prng: &mut Prng) -> Vec<(u8, Vec<u8>)> {
         (0, log_file(97, &[vec![96; 512]])),
         (
             0,
-            log_file(97, &traces(prng, 1024, |prng| random_trace(prng, 97, 32))),
+            log_file(97, &traces(prng, 1024, |prng| random_trace(prng, 97, 5))),
         ),
     ]
 }
