@@ -47,7 +47,7 @@ fn replayed(graph: &GraphValue, trace: &[u8]) -> [Replayed; 2] {
 }
 
 fn g() -> GraphValue {
-    yardstick::graph_file::read(&g_file()).expect("G is accepted")
+    yardstick::value::read(&g_file()).expect("G is accepted")
 }
 
 #[test]

@@ -77,11 +77,11 @@ fn room_for_a_listing() {
     for door in doors() {
         for (log, room, wanted) in [
             (wide_l(), 671_798, 7),
-            (wide_l(), 671_799, 256 * 114),
+            (wide_l(), 671_799, 256 * 126),
             (cut.clone(), 671_798, 7),
             (cut.clone(), 671_799, 1 + 256 * 10),
             (L.to_vec(), 147_505, 7),
-            (L.to_vec(), 147_506, 256 * 104),
+            (L.to_vec(), 147_506, 256 * 108),
         ] {
             let mut out = vec![9; room];
             let given = (door.listing)(&log, FULL, &mut out);
