@@ -1,5 +1,6 @@
 //! Wrong versions of a step and of enabled.
 use super::{all_found, SEEDS};
+use compare::door::Form;
 use compare::judge::door::DOOR as JUDGE;
 use compare::judge::engine::{blocked, stepped};
 use compare::judge::graph::{graph_of, marking_of, Graph, Marking};
@@ -194,7 +195,8 @@ fn found_in_the_number() {
         let trace = graphs::trace(&mut prng, value.a);
         let mut given = vec![(JUDGE.replay)(&file, &trace)];
         given.push((JUDGE.replay)(&file[..file.len() - 1], &trace));
-        let mut lent = graphs::marking_bytes(&graphs::marking(&mut prng, &value));
+        let marking = graphs::marking(&mut prng, &value);
+        let mut lent = graphs::marking_bytes(&marking, Form::of(value.a));
         let activity = graphs::activity(&mut prng, value.a);
         given.push((JUDGE.step)(&file, &mut lent, activity));
         given.iter().any(|&number| mutant(number) != number)
