@@ -9,15 +9,16 @@ use Rattle.engine.specs.declared.graph.Graph.{Graph}
 use Rattle.finish.specs.Ways.{finishedBy, finishOf}
 use Rattle.finish.specs.declared.search.Finished.{Finished}
 use Rattle.desk.specs.Places.{tableLength, isOpen, markingAtPlace}
+use Rattle.desk.specs.Desk.{formOf}
 use Rattle.desk.specs.Histories.{Call, none, since, markingAfter}
 
 -- 7 where the bytes are too few for a table, 14 where the place is above 31 or not open, then what the search gives at the place's own marking:
 -- 3, 5, 16, 17, or the way; a refusal returns four 255s
 unfoldable pub finishedAt : Graph → List ℕ → ℕ → Finished
 finishedAt g table p =
-    when ltb (length table) tableLength then finishedBy BufferTooSmall []
-    else when non (isOpen table p) then finishedBy NotOpen []
-    else finishOf g (markingAtPlace table p)
+    when ltb (length table) (tableLength (formOf g)) then finishedBy BufferTooSmall []
+    else when non (isOpen (formOf g) table p) then finishedBy NotOpen []
+    else finishOf g (markingAtPlace (formOf g) table p)
 
 -- what is given at a place, by the graph and the place's own call alone
 unfoldable pub finishBy : Graph → Call → Finished

@@ -8,24 +8,26 @@ use engine::Relations;
 use finish::Finished;
 use finish::Way;
 use finish::search;
+use graphfile::wide_for;
 use sets::Answer;
 
 // 7 and 14 as step and close have them, then 3, 5, 16 and 17 at the place's own marking; four 255s where it is refused.
 pub fn finish<'a>(head: Head, relations: &'a Relations, table: &'a [u8], place: usize) -> Finished
     ensures { λ r. ⌜ r ≡ finishedAt (graphOf head (now (relations .entry))) (now (table .entry)) place ⌝ }
 {
-    if table.len() < table::LENGTH {
+    let wide = wide_for(head.activities);
+    if table.len() < table::length(wide) {
         return Finished {
             answer: Answer::BufferTooSmall,
             way: Way::NONE,
         };
     }
-    if !table::is_open(table, place) {
+    if !table::is_open(table, place, wide) {
         return Finished {
             answer: Answer::NotOpen,
             way: Way::NONE,
         };
     }
-    let m = table::marking_at(table, place);
+    let m = table::marking_at(table, place, wide);
     search::way_out(head, relations, m)
 }

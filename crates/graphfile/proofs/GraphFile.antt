@@ -48,6 +48,7 @@ use Rattle.graphfile.proofs.Places.{sum-ext}
 use Rattle.graphfile.proofs.Stores.{length-head, length-entries, length-relations, length-file}
 use Rattle.graphfile.proofs.Legal.{Legal, rowsFilled, length-rowsFilled, relationIn, length-relationsIn, table-read, legal-done}
 use Rattle.graphfile.proofs.GraphBack.{Held, rows-forth}
+use Rattle.graphfile.proofs.WithinForm.{event-below, set-held}
 
 -- a graph as every `Graph` of the code is: whole sets, and four tables
 pub record Machine (g : Graph) : Type 0 where
@@ -172,16 +173,7 @@ unfolding bytesBy headBytes stateBytes setBytes littleEndian
 state-part true g = (refl, refl, refl)
 state-part false g = (refl, refl, refl)
 
--- the form that goes with A holds what is below A
-form-holds : (a : ℕ) → a ≤ mostActivities → (s : Set) → ((x : ℕ) → T (mem s x) → x < a) → Holds (wideFor a) s
-unfolding editionFor
-form-holds a l s below x t = by (ltb word a) refl
-  where
-    by : (b : Bool) → ltb word a ≡ b → x < 8 * setLength (eqb (when b then wideEdition else narrowEdition) wideEdition)
-    by true e = omega (arith, below x t)
-    by false e = omega (arith, below x t, ltb-false word a e)
-
--- and has room for A rows
+-- the form that goes with A has room for A rows
 form-room : (a : ℕ) → a ≤ mostActivities → a ≤ mostRows (wideFor a)
 unfolding editionFor
 form-room a l = by (ltb word a) refl
@@ -215,17 +207,8 @@ module _ (g : Graph) (machine : Machine g) (ok : judged g ≡ Done) where
   within-read : T (graphWithin g)
   within-read = judged-within g 0 ok
 
-  -- every set of the graph is within the events, and the events below A
-  event-below : (x : ℕ) → T (mem (g .head .events) x) → x < g .head .activities
-  event-below x t =
-      let low = whole-low (g .head .events) (machine .events) x t in
-      ltb-true x (g .head .activities)
-      (T→true _ (those-e (λ a. ltb a (g .head .activities)) x (within-e (g .head .events) (those (λ a. ltb a (g .head .activities))) (events-inside g within-read) x low t) .1))
-
-  held : (s : Set) → Whole s → T (within s (g .head .events)) → Holds form s
-  held s whole inside =
-      form-holds (g .head .activities) (judged-activities g 0 ok) s
-      (λ x t. event-below x (within-e s (g .head .events) inside x (whole-low s whole x t) t))
+  event-low : (x : ℕ) → T (mem (g .head .events) x) → x < g .head .activities
+  event-low x t = event-below g ok x (whole-low (g .head .events) (machine .events) x t) t
 
   -- the file says its form
   edition-read : editionIn file ≡ editionFor (g .head .activities)
@@ -241,7 +224,7 @@ module _ (g : Graph) (machine : Machine g) (ok : judged g ≡ Done) where
   events-read : eventsIn file ≡ g .head .events
   unfolding bytesBy headBytes
   events-read =
-      set-read form file eventsPlace (g .head .events) (head-part form g) (machine .events) (held (g .head .events) (machine .events) (same-inside (g .head .events)))
+      set-read form file eventsPlace (g .head .events) (head-part form g) (machine .events) (set-held g ok (g .head .events) (machine .events) (same-inside (g .head .events)))
 
   activities-read : activitiesIn file ≡ g .head .activities
   unfolding bytesBy headBytes
@@ -255,11 +238,11 @@ module _ (g : Graph) (machine : Machine g) (ok : judged g ≡ Done) where
       let parts = state-part form g in
       λ i.
       stateOf
-      (set-read form file (executedPlace form) (s .executed) (parts .0) (machine .executed) (held (s .executed) (machine .executed) (and-l _ _ (and-l _ _ inside))) i)
+      (set-read form file (executedPlace form) (s .executed) (parts .0) (machine .executed) (set-held g ok (s .executed) (machine .executed) (and-l _ _ (and-l _ _ inside))) i)
       (set-read form file (executedPlace form + setLength form) (s .pending) (parts .1) (machine .pending)
-      (held (s .pending) (machine .pending) (and-r _ _ (and-l _ _ inside))) i)
+      (set-held g ok (s .pending) (machine .pending) (and-r _ _ (and-l _ _ inside))) i)
       (set-read form file (executedPlace form + 2 * setLength form) (s .included) (parts .2) (machine .included)
-      (held (s .included) (machine .included) (and-r _ _ inside)) i)
+      (set-held g ok (s .included) (machine .included) (and-r _ _ inside)) i)
 
   head-read : Head file
   unfolding bytesBy headBytes opensFile opensWith _and_
@@ -325,7 +308,7 @@ module _ (g : Graph) (machine : Machine g) (ok : judged g ≡ Done) where
   row-held r l b =
       either (split (ltb b width))
       (λ t.
-      held (rowAt (tableAt (g .relations) r) b) (machine .rows r b)
+      set-held g ok (rowAt (tableAt (g .relations) r) b) (machine .rows r b)
       (and-l _ _ (every-e width (λ a. rowWithin (g .head .events) a (rowAt (tableAt (g .relations) r) a)) (rows-inside g within-read r l) b (ltb-true b width (T→true _ t)))))
       (λ f. subst (Holds form) (row-out (tableAt (g .relations) r) b (ltb-false b width (F→false _ f))) (λ x t. absurd (false→F (mem-none x) t)))
 
@@ -351,7 +334,7 @@ module _ (g : Graph) (machine : Machine g) (ok : judged g ≡ Done) where
       (λ t.
       let inside = every-e width (λ a. rowWithin (g .head .events) a (rowAt (tableAt (g .relations) r) a)) (rows-inside g within-read r l) x (ltb-true x width (T→true _ t)) in
       either (or-e (mem (g .head .events) x) (isEmpty (rowAt (tableAt (g .relations) r) x)) (and-r _ _ inside))
-      (λ m. let low = event-below x m in absurd (omega arith))
+      (λ m. let low = event-low x m in absurd (omega arith))
       (λ e. T→true _ e))
       (λ f. ap isEmpty (sym (row-out (tableAt (g .relations) r) x (ltb-false x width (F→false _ f)))) ∙ empty-noSet))
 

@@ -12,6 +12,7 @@ pub mod Writes
 pub mod Legal
 pub mod FileBack
 pub mod GraphBack
+pub mod WithinForm
 pub mod GraphFile
 pub mod RoundTrips
 pub mod LoneMarkings

@@ -43,7 +43,7 @@ const NARROW_ROW: usize = 1 + set::NARROW;
 const WIDE_ROW: usize = 1 + set::WIDE;
 
 // Whether a file has wide sets (02, 10/12).
-pub(crate) fn is_wide(bytes: &[u8]) -> bool
+pub fn is_wide(bytes: &[u8]) -> bool
     ensures { λ r. ⌜ r ≡ wideIn (now (bytes .entry)) ⌝ }
 {
     edition_in(bytes) == WIDE

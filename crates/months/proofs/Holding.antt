@@ -10,15 +10,15 @@ use borrow.Author.Tests.{lt-ltb, le-ltb, ltb-true, ltb-false}
 use lib.Dec.{ltb}
 use lib.ListN.{length, getD, set, drop, length-append, length-set, length-drop}
 use lib.Seq.{getD-set-same, set-append-left}
-use Rattle.sets.specs.Tests.{_or_, non, when_then_else_}
+use Rattle.sets.specs.Tests.{_and_, _or_, non, when_then_else_}
 use Rattle.sets.specs.Members.{width, mem, those, noSet}
 use Rattle.sets.specs.Rows.{rowAt, rowsOf}
 use Rattle.sets.specs.Tables.{noTables, tableAt, tablesOf}
 use Rattle.sets.specs.declared.set.Set.{Set}
 use Rattle.sets.proofs.Tests.{T→true, F→false, split, either, false-or}
-use Rattle.sets.proofs.Members.{those-ext, those-of, none-those}
+use Rattle.sets.proofs.Members.{those-ext, none-those}
 use Rattle.sets.proofs.RowLaws.{row-rowsOf, rowsOf-ext}
-use Rattle.bytes.specs.Sets.{setLength, setAt}
+use Rattle.bytes.specs.Sets.{setLength, setBytes, setAt}
 use Rattle.bytes.proofs.SetLaws.{set-apart}
 use Rattle.rules.specs.Traces.{Traces, _has_, someTrace}
 use Rattle.rules.specs.Mining.{event, between}
@@ -26,9 +26,10 @@ use Rattle.tally.specs.Passes.{through}
 use Rattle.tally.specs.Tallies.{tableCount, noted, tallied}
 use Rattle.tally.proofs.Tallying.{before-table, later-table, unpreceded-table, unanswered-table, unchained-table, unalternated-table, followed-table}
 use Rattle.miner.proofs.Composed.{events-by}
-use Rattle.months.specs.Layout.{setCount, tallyLength, firstRow, rowsEnd, firstPair, rowSet, pairSet, setsFrom, activitiesIn, setIn}
+use Rattle.months.specs.Layout.{tallyWidth, setCount, tallyLength, firstRow, rowsEnd, firstPair, rowSet, pairSet, setsFrom, activitiesIn, setIn}
 use Rattle.months.specs.Tallies.{asked, held, tallyOf}
 use Rattle.months.specs.Pairs.{over, packed, Gained, initialOf}
+use Rattle.months.proofs.Narrow.{narrowed}
 use Rattle.months.proofs.Packed.{length-from, from-ext, read-from, over-low, over-high}
 use Rattle.months.proofs.Initial.{initial-first, initial-events, initial-row, initial-spare}
 
@@ -51,7 +52,7 @@ module _ (L : Traces) where
     unfolding held
     held-events g l = rw (le-ltb w 1 g, lt-ltb w firstRow l)
 
-    pub held-row : firstRow ≤ w → w < rowsEnd → held L w x ≡ asked L ((w - firstRow) / width) ((w - firstRow) % width) x
+    pub held-row : firstRow ≤ w → w < rowsEnd → held L w x ≡ asked L ((w - firstRow) / tallyWidth) ((w - firstRow) % tallyWidth) x
     unfolding held
     held-row g l = let one : 1 ≤ w = omega arith in rw (le-ltb w 1 one, le-ltb w firstRow g, lt-ltb w rowsEnd l)
 
@@ -62,7 +63,7 @@ module _ (L : Traces) where
         let two : firstRow ≤ w = omega arith in
         rw (le-ltb w 1 one, le-ltb w firstRow two, le-ltb w rowsEnd g, lt-ltb w firstPair l)
 
-    pub held-pair : firstPair ≤ w → held L w x ≡ between L ((w - firstPair) / width) x ((w - firstPair) % width)
+    pub held-pair : firstPair ≤ w → held L w x ≡ between L ((w - firstPair) / tallyWidth) x ((w - firstPair) % tallyWidth)
     unfolding held
     held-pair g =
         let one : 1 ≤ w = omega arith in
@@ -94,9 +95,9 @@ module _ (L : Traces) where
         (λ a. low (omega arith) ∙ sym (initial-first events tables w a) ∙ none-those (held L w) (λ x lx. held-first w x a))
         (λ g a. low (omega arith) ∙ sym (initial-events events tables w g a) ∙ he ∙ those-ext (event L) (held L w) (λ x lx. sym (held-events w x g a)))
         (λ g a.
-        low (omega arith) ∙ sym (initial-row events tables w _ g a refl) ∙ ap (λ (t : List ℕ). rowAt (tableAt t ((w - firstRow) / width))
-        ((w - firstRow) % width)) ht
-        ∙ row-asked ((w - firstRow) / width) ((w - firstRow) % width) (omega arith) (omega arith)
+        low (omega arith) ∙ sym (initial-row events tables w _ g a refl) ∙ ap (λ (t : List ℕ). rowAt (tableAt t ((w - firstRow) / tallyWidth))
+        ((w - firstRow) % tallyWidth)) ht
+        ∙ row-asked ((w - firstRow) / tallyWidth) ((w - firstRow) % tallyWidth) (omega arith) (omega arith)
         ∙ those-ext _ (held L w) (λ x lx. sym (held-row w x g a)))
         (λ g a. low a ∙ sym (initial-spare events tables w g) ∙ none-those (held L w) (λ x lx. held-spare w x g a))
         (λ g. over-high _ _ w g ∙ those-ext _ (held L w) (λ x lx. false-or _ ∙ sym (held-pair w x g)))
@@ -112,8 +113,8 @@ module _ (L : Traces) where
         h₃
         ∙ ap (λ (l : List ℕ). set l 0 A)
         (g (initialOf events tables) (λ u s v. false) tail
-        (h₁ ∙ ap (λ (l : List ℕ). l ++ tail) (from-ext setCount 0 _ _ (λ w a b. sym (no-pair w))))
-        ∙ ap (λ (l : List ℕ). l ++ tail) (from-ext setCount 0 _ _ (λ w a b. same-set w b)))
+        (h₁ ∙ ap (λ (l : List ℕ). l ++ tail) (from-ext setCount 0 _ _ (λ w a b. ap (setBytes false) (sym (no-pair w)))))
+        ∙ ap (λ (l : List ℕ). l ++ tail) (from-ext setCount 0 _ _ (λ w a b. ap (setBytes false) (same-set w b))))
         ∙ set-append-left all tail 0 A (omega (arith, length-from setCount 0 (λ w. those (held L w))))
       where
         no-pair : (w : ℕ) → over (initialOf events tables) (λ u s v. false) w ≡ initialOf events tables w
@@ -132,14 +133,14 @@ module _ (L : Traces) where
     activities-held = getD-set-same (setsFrom setCount 0 (λ w. those (held L w))) 0 A 0 (omega (arith, length-from setCount 0 (λ w. those (held L w))))
 
     -- whatever stands after the tally
-    pub set-held : (rest : List ℕ) (w : ℕ) → 1 ≤ w → w < setCount → setIn (tallyOf A L ++ rest) w ≡ those (held L w)
+    pub set-held : (rest : List ℕ) (w : ℕ) → 1 ≤ w → w < setCount → setIn (tallyOf A L ++ rest) w ≡ narrowed (held L w)
     unfolding tallyOf
     set-held rest w g l =
         let all = setsFrom setCount 0 (λ v. those (held L v)) in
-        ap (λ (bytes : List ℕ). setAt bytes (setLength * w))
+        ap (λ (bytes : List ℕ). setAt false bytes (setLength false * w))
         (sym (set-append-left all rest 0 A (omega (arith, length-from setCount 0 (λ v. those (held L v))))))
-        ∙ set-apart (all ++ rest) (setLength * w) 0 (A ∷ []) (inr (omega arith))
-        ∙ read-from setCount w (λ v. those (held L v)) rest l (those-of (those (held L w)) (held L w) (λ a t. t) refl)
+        ∙ set-apart false (all ++ rest) (setLength false * w) 0 (A ∷ []) (inr (omega arith))
+        ∙ read-from setCount w (λ v. those (held L v)) rest l (held L w) refl
 
     pub length-held : length (tallyOf A L) ≡ tallyLength
     unfolding tallyOf

@@ -14,7 +14,6 @@ use bytes::set;
 use sets::Activity;
 use sets::Answer;
 use sets::Set;
-use sets::activity::WIDTH;
 use sets::tables;
 use tally::Tally;
 use tally::log;
@@ -33,7 +32,11 @@ fn initial(events: Set, tables: &Tally, w: usize) -> Set
         return Set::EMPTY;
     }
     let i = w - layout::FIRST_ROW;
-    tables::row(tables, (i / WIDTH) as u8, Activity((i % WIDTH) as u8))
+    tables::row(
+        tables,
+        (i / layout::WIDTH) as u8,
+        Activity((i % layout::WIDTH) as u8),
+    )
 }
 
 // All sets, so that nothing is left of what the bytes held.
@@ -43,7 +46,7 @@ fn put_initial(events: Set, tables: &Tally, tally: &mut [u8])
 {
     let mut w: usize = 0;
     while w < layout::SETS {
-        bytes::put_set(tally, set::LENGTH * w, initial(events, tables, w));
+        bytes::put_set(tally, set::NARROW * w, initial(events, tables, w), false);
         w += 1;
     }
 }
@@ -73,7 +76,7 @@ pub fn fill(log: &[u8], tally: &mut [u8]) -> Answer
     if tally.len() < layout::LENGTH {
         return Answer::BufferTooSmall;
     }
-    if Activity::LIMIT < judged.activities {
+    if layout::LIMIT < judged.activities {
         return Answer::AboveLimit;
     }
     put_tally(log, judged.activities, judged.traces, tally);

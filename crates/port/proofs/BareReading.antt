@@ -4,6 +4,7 @@ use mathlib.Core.Bool.{Bool, true, false, not}
 use mathlib.Core.List.{List}
 use Prim.Native.Nat.{ℕ}
 use borrow.Author.Tests.{not-false}
+use lib.Dec.{eqb}
 use Rattle.sets.specs.Tests.{when_then_else_}
 use Rattle.sets.specs.Members.{noSet}
 use Rattle.sets.specs.Tables.{noTables}
@@ -16,11 +17,13 @@ use Rattle.engine.specs.Markings.{emptyState}
 use Rattle.engine.specs.Relations.{Relations, relationCount, inTables, relationsOf, emptyGraph}
 use Rattle.engine.specs.Judged.{judged}
 use Rattle.graphfile.specs.Refusals.{judgedFile}
-use Rattle.graphfile.specs.Layout.{eventsIn, stateIn}
+use Rattle.graphfile.specs.Layout.{wideIn, wideFor, eventsIn, stateIn}
 use Rattle.graphfile.specs.Held.{relationsIn, graphIn, bareOf, readOf}
 use Rattle.graphfile.specs.declared.reader.Bare.{Bare}
 use Rattle.bytes.proofs.Codec.{Bytes}
 use Rattle.graphfile.proofs.RoundTrips.{file-graph}
+use Rattle.bytes.specs.Editions.{wideEdition}
+use Rattle.graphfile.proofs.Accepted.{accepted as parts, head-done}
 use Rattle.engine.specs.declared.graph.Graph.{Graph}
 
 module _ (file : List ℕ) (r : Bare) (hr : r ≡ bareOf file) where
@@ -62,6 +65,13 @@ module _ (file : List ℕ) (r : Bare) (hr : r ≡ bareOf file) where
           ap (λ (x : Bare). x .relations) hr
           ∙ ap (λ (a : Answer). when isDone a then relationsIn file relationCount else noTables relationCount) accepted
           ∙ sym (ap (λ (a : Answer). graphBy a .relations) accepted)
+
+      -- its form is that of its graph
+      pub read-form : wideIn file ≡ wideFor (readOf file .graph .head .activities)
+      unfolding readOf graphIn
+      read-form =
+          ap (λ (n : ℕ). eqb n wideEdition) (head-done file (parts file accepted .head) .edition)
+          ∙ sym (ap (λ (a : Answer). wideFor (graphBy a .head .activities)) accepted)
 
       -- so what is said of the events and relations read is said of the graph's
       pub bare-graph : {A : Type 0} (F : Set → Relations → A)

@@ -13,6 +13,7 @@ use Rattle.sets.specs.declared.answer.Answer.{Answer}
 use Rattle.sets.specs.declared.answer.Answer.the-variants.{BufferTooSmall}
 use Rattle.engine.specs.Relations.{relationsOf}
 use Rattle.engine.specs.declared.marking.Marking.{Marking}
+use Rattle.graphfile.specs.Layout.{wideIn}
 use Rattle.graphfile.specs.Held.{readOf}
 use Rattle.graphfile.specs.Markings.{markingLength, markingFrom}
 use Rattle.graphfile.specs.declared.reader.Reading.{Reading}
@@ -25,6 +26,7 @@ use Rattle.desk.specs.WayOut.{finishedAt}
 use Rattle.desk.specs.Desk.{placeAnswer}
 use Rattle.port.specs.Desk.{beforePlace}
 use Rattle.port.specs.WayOut.{wayInto, wayAfter, finishIn, deskFinishIn, shutNumber}
+use Rattle.port.proofs.Lending.{short-of, room-for}
 use Rattle.port.proofs.Desk.{the-place, the-file-then, asked}
 
 -- ---- a way put down
@@ -50,10 +52,10 @@ module _ (file marking : List ℕ) (room : ℕ) where
       when non d then finishedBy (readOf file .answer) []
       else when short then finishedBy BufferTooSmall []
       else when narrow then finishedBy BufferTooSmall []
-      else finishOf (readOf file .graph) (markingFrom marking)
+      else finishOf (readOf file .graph) (markingFrom (wideIn file) marking)
 
   module _ (r : Reading) (d : Bool) (hr : r ≡ readOf file) (hd : d ≡ isDone (r .answer)) where
-    choice : (t short narrow : Bool) → d ≡ t → ltb (length marking) markingLength ≡ short → ltb room 4 ≡ narrow
+    choice : (t short narrow : Bool) → d ≡ t → ltb (length marking) (markingLength (wideIn file)) ≡ short → ltb room 4 ≡ narrow
         → chosen t short narrow ≡ finishIn file marking room
     unfolding finishIn
     choice t short narrow e l n =
@@ -65,21 +67,26 @@ module _ (file marking : List ℕ) (room : ℕ) where
     unfolding non
     finish-refused n = ap (λ (x : Reading). finishedBy (x .answer) []) hr ∙ choice false _ _ (not-true d n) refl refl
 
-    pub finish-short : not d ≡ false → length marking < markingLength → finishedBy BufferTooSmall [] ≡ finishIn file marking room
-    unfolding non
-    finish-short n l = choice true true _ (not-false d n) (lt-ltb (length marking) markingLength l) refl
+    module _ (n : not d ≡ false) (least : ℕ) (e : least ≡ markingLength (wideIn file)) where
+      pub finish-short : length marking < least → finishedBy BufferTooSmall [] ≡ finishIn file marking room
+      unfolding non
+      finish-short l = choice true true _ (not-false d n) (sym (short-of (length marking) least (markingLength (wideIn file)) e l)) refl
 
-    pub finish-narrow : not d ≡ false → markingLength ≤ length marking → room < 4 → finishedBy BufferTooSmall [] ≡ finishIn file marking room
-    unfolding non
-    finish-narrow n l k = choice true false true (not-false d n) (le-ltb (length marking) markingLength l) (lt-ltb room 4 k)
+      module _ (l : least ≤ length marking) where
+        enough : ltb (length marking) (markingLength (wideIn file)) ≡ false
+        enough = sym (room-for (length marking) least (markingLength (wideIn file)) e l)
 
-    pub finish-searched : (m : Marking) (f : Finished) → not d ≡ false → markingLength ≤ length marking → 4 ≤ room → m ≡ markingFrom marking
-        → f ≡ finishOf (r .graph) m → f ≡ finishIn file marking room
-    unfolding non
-    finish-searched m f n l k hm hf =
-        hf
-        ∙ ap₂ (λ (x : Reading) (y : Marking). finishOf (x .graph) y) hr hm
-        ∙ choice true false false (not-false d n) (le-ltb (length marking) markingLength l) (le-ltb room 4 k)
+        pub finish-narrow : room < 4 → finishedBy BufferTooSmall [] ≡ finishIn file marking room
+        unfolding non
+        finish-narrow k = choice true false true (not-false d n) enough (lt-ltb room 4 k)
+
+        pub finish-searched : (m : Marking) (f : Finished) → 4 ≤ room → m ≡ markingFrom (wideIn file) marking → f ≡ finishOf (r .graph) m
+            → f ≡ finishIn file marking room
+        unfolding non
+        finish-searched m f k hm hf =
+            hf
+            ∙ ap₂ (λ (x : Reading) (y : Marking). finishOf (x .graph) y) hr hm
+            ∙ choice true false false (not-false d n) enough (le-ltb room 4 k)
 
 pub ruleset finding = (finish-refused, finish-short, finish-narrow, finish-searched)
 
@@ -101,19 +108,19 @@ module _ (file table : List ℕ) (p room : ℕ) where
   unfolding non
   refused-there a same e = ap (λ (x : Answer). finishedBy x []) same ∙ by-both false _ (ap isDone (sym same) ∙ e) refl
 
-  module _ (b : Answer) (d : Bool) (hb : b ≡ placeAnswer table p) (hd : d ≡ isDone b) where
+  module _ (w : Bool) (hw : w ≡ wideIn file) (b : Answer) (d : Bool) (told : b ≡ placeAnswer w table p) (hd : d ≡ isDone b) where
     pub no-such-call : not d ≡ true → finishedBy b [] ≡ deskFinishIn file table p room
-    no-such-call t = refused-there b (the-place file table p b d hb hd t) (sym hd ∙ not-true d t)
+    no-such-call t = refused-there b (the-place file table p w hw b d told hd t) (sym hd ∙ not-true d t)
 
     module _ (t : not d ≡ false) (r : Reading) (f : Bool) (hr : r ≡ readOf file) (hf : f ≡ isDone (r .answer)) where
       pub no-graph-there : not f ≡ true → finishedBy (r .answer) [] ≡ deskFinishIn file table p room
       no-graph-there u =
-          refused-there (r .answer) (the-file-then file table p b d hb hd t (r .answer) f (ap (λ (x : Reading). x .answer) hr) hf)
+          refused-there (r .answer) (the-file-then file table p w hw b d told hd t (r .answer) f (ap (λ (x : Reading). x .answer) hr) hf)
           (sym hf ∙ not-true f u)
 
       module _ (u : not f ≡ false) where
         before : isDone (beforePlace file table p) ≡ true
-        before = asked file table p b d hb hd t (r .answer) f (ap (λ (x : Reading). x .answer) hr) hf u
+        before = asked file table p w hw b d told hd t (r .answer) f (ap (λ (x : Reading). x .answer) hr) hf u
 
         pub narrow-there : room < 4 → finishedBy BufferTooSmall [] ≡ deskFinishIn file table p room
         unfolding non

@@ -4,6 +4,7 @@ ghost use lib.ListN.{length};
 ghost use Rattle.sets.specs.Answers.{numberOf};
 ghost use Rattle.port.specs.WayOut.{wayInto, wayAfter, finishIn, finishNumber, finishBytes, shutNumber};
 ghost use Rattle.port.specs.WayOut.{deskFinishIn, deskFinishNumber, deskFinishBytes};
+use crate::lent;
 use crate::packed;
 use finish::Finished;
 use finish::Way;
@@ -54,7 +55,7 @@ fn finished<'a>(file: &'a [u8], marking: &'a [u8], room: usize) -> Finished
             way: Way::NONE,
         };
     }
-    if marking.len() < graphfile::marking::LENGTH {
+    if marking.len() < lent::marking_room(file) {
         return Finished {
             answer: Answer::BufferTooSmall,
             way: Way::NONE,
@@ -67,11 +68,11 @@ fn finished<'a>(file: &'a [u8], marking: &'a [u8], room: usize) -> Finished
         };
     }
     let g = r.graph;
-    let m = graphfile::marking::read_marking(marking);
+    let m = lent::marking_beside(file, marking);
     finish::search::finish(g, m)
 }
 
-// The way out from a marking of 32 bytes into four lent bytes, 255 in those that are not used; they stay as they were where it is refused.
+// The way out from a marking of 32 or 64 bytes into four lent bytes, 255 in those that are not used; they stay as they were where it is refused.
 #[no_mangle]
 pub extern "C" fn skelfora_finish<'a, 'w>(
     file: &'a [u8],
@@ -89,7 +90,7 @@ pub extern "C" fn skelfora_finish<'a, 'w>(
 fn finished_at<'a>(file: &'a [u8], table: &'a [u8], place: usize, room: usize) -> Finished
     ensures { λ r. ⌜ r ≡ deskFinishIn (now (file .entry)) (now (table .entry)) place room ⌝ }
 {
-    let asked = desk::judge_place(table, place);
+    let asked = desk::judge_place(table, place, graphfile::is_wide(file));
     if !asked.is_done() {
         return Finished {
             answer: asked,

@@ -6,11 +6,11 @@ use mathlib.Core.List.{List, []}
 use Prim.Native.Nat.{ℕ, _+_, _*_, _≤_, _<_}
 use borrow.Author.Tests.{ltb-true, ltb-false}
 use lib.Dec.{ltb}
-use lib.ListN.{getD}
+use lib.ListN.{getD, set}
 use lib.Seq.{set-getD}
 use Rattle.sets.specs.Tests.{_and_, _or_, non, when_then_else_}
 use Rattle.sets.specs.Members.{width, mem, those, isEmpty}
-use Rattle.sets.specs.Rows.{rowAt}
+use Rattle.sets.specs.Rows.{rowAt, rowWords}
 use Rattle.sets.specs.Tables.{tableAt, withRowIn, gainedIn}
 use Rattle.sets.specs.declared.set.Set.{Set}
 use Rattle.sets.proofs.Tests.{T→true, F→false, true→T, T-eq, non-i, split, either}
@@ -67,8 +67,9 @@ put-back tables k e =
     (λ t.
     let l = ltb-true e width (T→true _ t) in
     ap (withRowIn tables k e) (sym (table-row tables k e l))
-    ∙ sym (table-put tables k e (record { bits = getD tables (k * width + e) 0 }) l)
-    ∙ set-getD tables (k * width + e) 0)
+    ∙ sym (table-put tables k e (record { low = getD tables (k * rowWords + e) 0; high = getD tables (k * rowWords + e + width) 0 }) l)
+    ∙ ap (λ (t : List ℕ). set t (k * rowWords + e + width) (getD tables (k * rowWords + e + width) 0)) (set-getD tables (k * rowWords + e) 0)
+    ∙ set-getD tables (k * rowWords + e + width) 0)
     (λ f. sym (table-put-above tables k e _ (ltb-false e width (F→false _ f))))
 
 pub note-full : (tables : List ℕ) (k e : ℕ) (p : ℕ → Bool) (row wanted : Set) (r : Bool) → those (mem row) ≡ row

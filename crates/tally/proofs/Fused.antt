@@ -10,7 +10,7 @@ use lib.ListN.{set}
 use lib.Seq.{set-comm}
 use Rattle.sets.specs.Tests.{_or_}
 use Rattle.sets.specs.Members.{width, mem, those}
-use Rattle.sets.specs.Rows.{rowAt}
+use Rattle.sets.specs.Rows.{rowAt, rowWords}
 use Rattle.sets.specs.Tables.{tableAt, withRowIn}
 use Rattle.sets.specs.declared.set.Set.{Set}
 use Rattle.sets.proofs.Tests.{T→true, F→false, split, either}
@@ -30,16 +30,23 @@ put-comm tables j k a b s t ne =
     (λ x. let g = ltb-false a width (F→false _ x) in ap (λ (l : List ℕ). withRowIn l k b t) (sym (table-put-above tables j a s g))
     ∙ table-put-above (withRowIn tables k b t) j a s g)
   where
-    apart : a < width → b < width → j * width + a ≡ k * width + b → ⊥
-    apart la lb q = ne (omega (arith, la, lb, q))
+    -- one word, put before a row of another table or after it
+    one-word : (l : List ℕ) (i x : ℕ) → a < width → (j * rowWords + a ≡ i → ⊥) → (j * rowWords + a + width ≡ i → ⊥)
+        → set (withRowIn l j a s) i x ≡ withRowIn (set l i x) j a s
+    one-word l i x la low high =
+        ap (λ (q : List ℕ). set q i x) (sym (table-put l j a s la))
+        ∙ set-comm (set l (j * rowWords + a) (s .low)) (j * rowWords + a + width) i (s .high) x high
+        ∙ ap (λ (q : List ℕ). set q (j * rowWords + a + width) (s .high)) (set-comm l (j * rowWords + a) i (s .low) x low)
+        ∙ table-put (set l i x) j a s la
 
     both : a < width → b < width → withRowIn (withRowIn tables j a s) k b t ≡ withRowIn (withRowIn tables k b t) j a s
     both la lb =
         sym (table-put (withRowIn tables j a s) k b t lb)
-        ∙ ap (λ (l : List ℕ). set l (k * width + b) (t .bits)) (sym (table-put tables j a s la))
-        ∙ set-comm tables (j * width + a) (k * width + b) (s .bits) (t .bits) (apart la lb)
-        ∙ ap (λ (l : List ℕ). set l (j * width + a) (s .bits)) (table-put tables k b t lb)
-        ∙ table-put (withRowIn tables k b t) j a s la
+        ∙ ap (λ (l : List ℕ). set l (k * rowWords + b + width) (t .high))
+        (one-word tables (k * rowWords + b) (t .low) la (λ q. ne (omega (arith, la, lb, q))) (λ q. ne (omega (arith, la, lb, q))))
+        ∙ one-word (set tables (k * rowWords + b) (t .low)) (k * rowWords + b + width) (t .high) la (λ q. ne (omega (arith, la, lb, q)))
+        (λ q. ne (omega (arith, la, lb, q)))
+        ∙ ap (λ (l : List ℕ). withRowIn l j a s) (table-put tables k b t lb)
 
 noted-comm : (tables : List ℕ) (j k a b : ℕ) (p q : ℕ → Bool) → (j ≡ k → ⊥) → notedIn (notedIn tables j a p) k b q
     ≡ notedIn (notedIn tables k b q) j a p

@@ -17,11 +17,15 @@ use sets::Activity;
 use sets::Place;
 use sets::Rows;
 use sets::Set;
+use sets::activity::WIDTH;
 use sets::rows;
 use sets::tables;
 
 // How many places a row is of.
 const BLOCK: usize = 8;
+
+// How many places have a row: at least as many as a trace has.
+const PLACES: usize = WIDTH * BLOCK;
 
 // What of `wanted` does not stand between the end of `past` and the last e in it, or its start. It looks back only while some
 // of it is still wanted.
@@ -114,11 +118,11 @@ pub fn note_since<'a>(past: &'a [u8], blocks: &'a Rows, e: Activity, seen: Set, 
     }
 }
 
-// The row of the place's block gains e. No row is of a place past the greatest length of a trace.
+// The row of the place's block gains e. Past the last row nothing changes.
 pub fn put_down(blocks: &mut Rows, e: Activity, at: usize)
     ensures { λ _. ⌜ ((r : Relation) → now (blocks .entry) ≡ rowsOf r → now (blocks .exit) ≡ rowsOf (λ j x. r j x or eqb j (at / 8) and eqb x (e .0))) ⌝ }
 {
-    if at < Place::LIMIT {
+    if at < PLACES {
         let j = at / BLOCK;
         rows::join(blocks, Activity(j as u8), Set::one(e));
     }

@@ -11,7 +11,7 @@ returns-2 c = search (stepping-there, needs)
 
 returns-3 : tie.Need-returns-3
 returns-3 c =
-    let known = c .before .before .before .before .before .before .before .before .before .before .before .before .before .before .before .before in
+    let known = c .before .before .before .before .before .before .before .before .before .before .before .before .before .before .before .before .before in
     let file = known .before .args .file .now in
     search (step-served file (λ k. known .shared-slice-known .given k .fits), step-served-table file (λ k. known .shared-slice-known .given k .fits), needs)
 
@@ -19,6 +19,7 @@ pub skelfora-desk-step-spec : {M : Type 1} → statement M
 skelfora-desk-step-spec =
     tie.close
     (tie.spec
+    (λ c κs. search needs)
     (λ c κs. search needs)
     (λ c κs. search needs)
     (λ c κs. search needs)

@@ -6,5 +6,5 @@ use Rattle.port.proofs.way_out.finished.Tie as tie
 pub finished-spec : {M : Type 1} → statement M
 finished-spec =
     tie.close
-    (tie.spec (λ c κs. search needs) (λ c κs. search needs) (λ c. search (finding, needs)) (λ c. search (finding, needs))
+    (tie.spec (λ c κs. search needs) (λ c κs. search needs) (λ c. search (finding, needs)) (λ c κs. search needs) (λ c. search (finding, needs))
     (λ c. search (finding, needs)) (λ c κs. search needs) (λ c κs. search needs) (λ c. search (finding, needs)))

@@ -9,6 +9,6 @@ returns c = search (finding-there, needs)
 pub finished-at-spec : {M : Type 1} → statement M
 finished-at-spec =
     tie.close
-    (tie.spec (λ c κs. search needs) (λ c κs. search needs) returns (λ c κs. search needs)
+    (tie.spec (λ c κs. search needs) (λ c κs. search needs) (λ c κs. search needs) returns (λ c κs. search needs)
     (λ c κs. search needs) (λ c. search (finding-there, needs)) (λ c. search (finding-there, needs)) (λ c κs. search needs)
     (λ c. search (finding-there, needs)))
