@@ -146,8 +146,8 @@ fn on_graph(comparison: &mut Comparison, prng: &mut Prng, kind: &'static str, gr
     comparison.input(kind);
     let (file, marking) = finish::bytes(graph);
     comparison.finish(&file, &marking, WAY);
-    let trace = short_trace(prng, graph.a);
-    comparison.shut_by(&file, &trace, graphs::activity(prng, graph.a));
+    let trace = short_trace(prng, graph);
+    comparison.shut_by(&file, &trace, graphs::activity(prng, graph));
     refusals(comparison, prng, &file, graph);
 }
 
@@ -155,7 +155,7 @@ fn on_graph(comparison: &mut Comparison, prng: &mut Prng, kind: &'static str, gr
 fn refusals(comparison: &mut Comparison, prng: &mut Prng, file: &[u8], graph: &GraphValue) {
     let form = Form::of(graph.a);
     let marking = graphs::marking_bytes(&graphs::any_marking(prng, graph), form);
-    let trace = short_trace(prng, 8);
+    let trace = short_trace(prng, graph);
     match prng.below(4) {
         0 => {
             let damaged = damage::graph(prng, file);
@@ -174,11 +174,9 @@ fn refusals(comparison: &mut Comparison, prng: &mut Prng, file: &[u8], graph: &G
 }
 
 /// Any bytes now and then.
-fn short_trace(prng: &mut Prng, a: u8) -> Vec<u8> {
+fn short_trace(prng: &mut Prng, graph: &GraphValue) -> Vec<u8> {
     let length = prng.one_of(&[0, 1, 2, 3, 5, 8, 20]);
-    (0..length)
-        .map(|_| graphs::activity(prng, a.max(1)))
-        .collect()
+    (0..length).map(|_| graphs::activity(prng, graph)).collect()
 }
 
 /// The graph of a log where its own calls are half-done, and where they go astray.
@@ -194,9 +192,9 @@ fn on_mined(comparison: &mut Comparison, prng: &mut Prng, log: &[u8], profile: u
     };
     for trace in sound.traces.iter().take(4) {
         let half = &trace[..prng.within(0, trace.len())];
-        let half = graphs::changed_trace(prng, half, sound.a);
+        let half = graphs::changed_trace(prng, half, &graph);
         let marking = yardstick::engine::replay(&graph, &half).marking;
-        comparison.shut_by(&file, &half, graphs::activity(prng, sound.a));
+        comparison.shut_by(&file, &half, graphs::activity(prng, &graph));
         if open(&graph, &marking) <= MOST_OPEN {
             comparison.input("half-done: mined");
             let form = Form::of(graph.a);

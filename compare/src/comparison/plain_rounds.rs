@@ -84,14 +84,14 @@ fn on_plain(
     walk: &[u8],
 ) {
     comparison.input(kind);
-    let a = graph.head.first().copied().unwrap_or(0);
-    let changed = graphs::changed_trace(prng, walk, a);
-    for trace in [walk, &changed, &graphs::trace(prng, a)] {
+    let steps = graphs::Steps::from(&plain::value_in(graph));
+    let changed = graphs::changed_trace(prng, walk, steps);
+    for trace in [walk, &changed, &graphs::trace(prng, steps)] {
         comparison.plain_replay(graph, trace);
     }
     for _ in 0..3 {
         let marking = plain::marking(prng, graph);
-        let activity = graphs::activity(prng, a);
+        let activity = graphs::activity(prng, steps);
         comparison.plain_step(graph, &marking, activity);
         comparison.plain_accepting(graph, &marking);
     }
@@ -118,11 +118,12 @@ pub fn on_traces(comparison: &mut Comparison, prng: &mut Prng, file: &[u8], trac
     if prng.percent(50) {
         plain::reordered(prng, &mut graph);
     }
+    let steps = graphs::Steps::from(&plain::value_in(&graph));
     for trace in traces.iter().take(2) {
-        let changed = graphs::changed_trace(prng, trace, file[3]);
+        let changed = graphs::changed_trace(prng, trace, steps);
         for trace in [trace, &changed] {
             let marking = plain::marking(prng, &graph);
-            let activity = graphs::activity(prng, file[3]);
+            let activity = graphs::activity(prng, steps);
             comparison.on_both(file, &graph, trace, &marking, activity);
         }
     }

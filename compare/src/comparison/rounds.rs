@@ -87,7 +87,7 @@ fn on_log(comparison: &mut Comparison, prng: &mut Prng, kind: &'static str, log:
     let sound = judge::log::read(log).expect("accepted above");
     for trace in sound.traces.iter().take(4) {
         comparison.replay(&file, trace);
-        let changed = graphs::changed_trace(prng, trace, sound.a);
+        let changed = graphs::changed_trace(prng, trace, &sound);
         comparison.replay(&file, &changed);
     }
     plain_rounds::on_traces(comparison, prng, &file, &sound.traces);
@@ -145,21 +145,20 @@ fn on_graph_file(comparison: &mut Comparison, prng: &mut Prng, kind: &'static st
     let room = prng.one_of(&[0, 51, file.len().saturating_sub(1), file.len()]);
     comparison.rewrite(file, room);
     let graph = graphs::graph_in(file);
-    let a = graph.a;
-    let trace = graphs::trace(prng, a);
+    let trace = graphs::trace(prng, &graph);
     comparison.replay(file, &trace);
     let form = Form::in_file(file);
     let other = prng.one_of(&graphs::other_lengths(form));
     comparison.opening(file, prng.one_of(&[form.marking(), other]));
     for _ in 0..2 {
         let marking = graphs::marking_bytes(&graphs::any_marking(prng, &graph), form);
-        let activity = graphs::activity(prng, a);
+        let activity = graphs::activity(prng, &graph);
         comparison.step(file, &marking, activity);
     }
     // too few bytes for a marking, and more than it needs
     let mut marking = graphs::marking_bytes(&graphs::any_marking(prng, &graph), form);
     marking.resize(other, 0);
-    comparison.step(file, &marking, graphs::activity(prng, a));
+    comparison.step(file, &marking, graphs::activity(prng, &graph));
     plain_rounds::on_graph_file(comparison, prng, file, trace);
 }
 
@@ -186,11 +185,11 @@ fn on_graph_value(
     let length = seeds::graphs::file(value).len();
     let room = prng.one_of(&[0, length - 1, length, length + 5]);
     comparison.value_write(value, room);
-    let trace = graphs::trace(prng, value.a);
+    let trace = graphs::trace(prng, value);
     comparison.value_replay(value, &trace);
     for _ in 0..3 {
         let marking = graphs::any_marking(prng, value);
-        let activity = graphs::activity(prng, value.a);
+        let activity = graphs::activity(prng, value);
         comparison.value_step(value, &marking, activity);
     }
 }

@@ -81,11 +81,11 @@ pub fn place(prng: &mut Prng, file: &[u8], table: &[u8]) -> usize {
 }
 
 pub fn request(prng: &mut Prng, file: &[u8], table: &[u8]) -> Request {
-    let a = file.get(3).copied().unwrap_or(0);
+    let steps = graphs::steps_in(file);
     let place = place(prng, file, table);
     match prng.below(10) {
         0..=2 => Request::Open,
-        3..=6 => Request::Step(place, graphs::activity(prng, a)),
+        3..=6 => Request::Step(place, graphs::activity(prng, steps)),
         _ => Request::Close(place),
     }
 }

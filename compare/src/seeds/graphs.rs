@@ -1,6 +1,7 @@
 //! Graphs as values and as files, markings, traces: sound ones and others.
 use super::{logs, Prng};
 use crate::door::Form;
+use crate::judge::log::Log;
 use crate::value::{GraphValue, MarkingValue, Rows};
 use crate::yardstick::engine::kept;
 use crate::yardstick::word::{below, Word};
@@ -82,14 +83,23 @@ pub fn with_numbers(graph: &GraphValue, a: u8, numbers: &[u8]) -> GraphValue {
 
 /// The graph of a file; where that is refused, its events without a pair.
 pub fn graph_in(file: &[u8]) -> GraphValue {
+    let Steps { a, events } = steps_in(file);
+    values::read(file).unwrap_or(GraphValue {
+        a,
+        events,
+        ..GraphValue::EMPTY
+    })
+}
+
+/// What a file has for A and events, whatever else is wrong with it.
+pub fn steps_in(file: &[u8]) -> Steps {
     let form = Form::in_file(file);
-    let head = file.get(3..4 + form.set).map(|head| GraphValue {
+    let head = file.get(3..4 + form.set);
+    let there = head.map(|head| Steps {
         a: head[0],
         events: set_at(head, 1, form),
-        ..GraphValue::EMPTY
     });
-    let read = values::read(file).ok();
-    read.or(head).unwrap_or(GraphValue::EMPTY)
+    there.unwrap_or(Steps { a: 0, events: 0 })
 }
 
 /// A set in either form.
@@ -169,15 +179,14 @@ pub fn false_set(prng: &mut Prng, graph: &GraphValue, set: u128) -> u128 {
 }
 
 /// One of these alone, or none of none.
-fn member(prng: &mut Prng, of: u128) -> u128 {
-    let members: Vec<u128> = (0..128)
-        .map(|a| 1 << a)
-        .filter(|bit| of & bit != 0)
-        .collect();
-    if members.is_empty() {
+fn member(prng: &mut Prng, mut of: u128) -> u128 {
+    if of == 0 {
         return 0;
     }
-    prng.one_of(&members)
+    for _ in 0..prng.below(of.count()) {
+        of = of.without_least();
+    }
+    1 << of.least()
 }
 
 /// A value with one or two faults; now and then its set is worked out anew, for what it is then.
@@ -245,6 +254,9 @@ pub fn borders() -> Vec<(u8, Vec<u8>)> {
                 let mut bytes = vec![0; length];
                 bytes[..3].copy_from_slice(&[66, 71, edition]);
                 bytes.get_mut(3..4).into_iter().for_each(|byte| byte[0] = a);
+                let mut lettered = bytes.clone();
+                lettered[1] = 76;
+                all.push((if length < 52 { 1 } else { 2 }, lettered));
                 all.push((empty_number(&bytes), bytes));
             }
         }
@@ -325,31 +337,63 @@ pub fn other_lengths(form: Form) -> [usize; 8] {
     [0, 8, 24, 32, whole - form.set, whole - 1, whole + 1, whole + 16]
 }
 
-/// An activity: mostly below a, sometimes any byte.
-pub fn activity(prng: &mut Prng, a: u8) -> u8 {
+/// What activities are taken from: A, and the events, which may be few of them.
+#[derive(Clone, Copy)]
+pub struct Steps {
+    pub a: u8,
+    pub events: u128,
+}
+
+/// All below a.
+impl From<u8> for Steps {
+    fn from(a: u8) -> Steps {
+        let events = below(a);
+        Steps { a, events }
+    }
+}
+
+impl From<&GraphValue> for Steps {
+    fn from(graph: &GraphValue) -> Steps {
+        let GraphValue { a, events, .. } = *graph;
+        Steps { a, events }
+    }
+}
+
+impl From<&Log> for Steps {
+    fn from(log: &Log) -> Steps {
+        let all = log.traces.iter().flatten();
+        let events = all.fold(0, |events, e| events | 1 << e);
+        Steps { a: log.a, events }
+    }
+}
+
+/// An activity: mostly an event, else mostly below A, sometimes any byte.
+pub fn activity(prng: &mut Prng, of: impl Into<Steps>) -> u8 {
+    let Steps { a, events } = of.into();
     if a == 0 || prng.percent(8) {
         return prng.byte();
     }
-    prng.below(usize::from(a)) as u8
+    if events == 0 || prng.percent(8) {
+        return prng.below(usize::from(a)) as u8;
+    }
+    member(prng, events).least() as u8
 }
 
-pub fn trace(prng: &mut Prng, a: u8) -> Vec<u8> {
+pub fn trace(prng: &mut Prng, of: impl Into<Steps>) -> Vec<u8> {
+    let mut steps = of.into();
     let length = prng.one_of(&[0, 1, 2, 3, 5, 8, 20, 511, 512, 513, 600]);
     let stray = prng.percent(30);
-    let safe = a.max(1);
+    steps.a = steps.a.max(1);
     (0..length)
-        .map(|_| {
-            if stray {
-                activity(prng, safe)
-            } else {
-                prng.below(usize::from(safe)) as u8
-            }
+        .map(|_| match stray || steps.events == 0 {
+            true => activity(prng, steps),
+            false => member(prng, steps.events).least() as u8,
         })
         .collect()
 }
 
 /// A recorded trace with a small change, so that it goes wrong late.
-pub fn changed_trace(prng: &mut Prng, recorded: &[u8], a: u8) -> Vec<u8> {
+pub fn changed_trace(prng: &mut Prng, recorded: &[u8], a: impl Into<Steps>) -> Vec<u8> {
     let mut trace = recorded.to_vec();
     let place = prng.within(0, trace.len());
     match prng.below(4) {

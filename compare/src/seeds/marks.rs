@@ -64,13 +64,17 @@ fn changed(prng: &mut Prng, log: &[u8]) -> Vec<u8> {
         return log.to_vec();
     };
     let a = (sound.a + 1).min(128);
+    let steps = graphs::Steps {
+        a,
+        ..graphs::Steps::from(&sound)
+    };
     let traces: Vec<Vec<u8>> = sound
         .traces
         .iter()
         .map(|trace| match prng.below(3) {
             0 => trace.clone(),
             _ => {
-                let mut other = graphs::changed_trace(prng, trace, a);
+                let mut other = graphs::changed_trace(prng, trace, steps);
                 other.retain(|&e| e < a);
                 other.truncate(trace.len());
                 other

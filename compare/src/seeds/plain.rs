@@ -232,7 +232,7 @@ pub fn walk(prng: &mut Prng, value: &GraphValue, length: usize) -> Vec<u8> {
     let mut marking = value.marking;
     let mut trace = Vec::new();
     for _ in 0..4 * length {
-        let e = graphs::activity(prng, value.a);
+        let e = graphs::activity(prng, value);
         if let (Ok(after), true) = (step(value, marking, e), trace.len() < length) {
             marking = after;
             trace.push(e);

@@ -221,7 +221,7 @@ fn found_on_files(mutant: OnFile) -> Option<u64> {
         (0..3).any(|_| {
             let form = Form::of(value.a);
             let mut lent = graphs::marking_bytes(&graphs::any_marking(&mut prng, &value), form);
-            let e = graphs::activity(&mut prng, value.a);
+            let e = graphs::activity(&mut prng, &value);
             let mut wanted = lent.clone();
             let differs = (JUDGE.step)(&file, &mut wanted, e) != mutant(&file, &mut lent, e);
             differs || lent != wanted
@@ -333,7 +333,7 @@ fn a_replay_that_believes() {
     let found = (0..SEEDS).find(|&seed| {
         let mut prng = Prng::new(seed);
         on_lists::graphs_of(seed).iter().any(|graph| {
-            let trace = graphs::trace(&mut prng, graph.head.first().copied().unwrap_or(0));
+            let trace = graphs::trace(&mut prng, &lists::value_in(graph));
             let believed = (JUDGE.plain_replay)(&put_right(graph), &trace);
             believed != (JUDGE.plain_replay)(graph, &trace)
         })

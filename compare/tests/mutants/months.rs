@@ -2,7 +2,7 @@
 use super::wrong_steps::step7_of_01;
 use super::{all_found, SEEDS};
 use compare::door::TALLY_ROOM;
-use compare::judge::facts::{gather, gather_asking, nothing_seen};
+use compare::judge::facts::{gather_asking, nothing_seen};
 use compare::judge::log::{read, Log};
 use compare::judge::miner::{relations_by, Profile};
 use compare::judge::months::{bytes, facts_in, facts_of, filled, first_eight, joined, relations};
@@ -89,7 +89,10 @@ fn told_by_relations() -> Vec<(&'static str, Months)> {
         ),
         (
             "absence limited to the month's events",
-            filling(|log| bytes(log.a, &gather(log))),
+            filling(|log| {
+                let events = log.traces.iter().flatten().copied().collect();
+                bytes(log.a, &gather_asking(&log.traces, events, 64))
+            }),
         ),
         (
             "what stands between, from the nearest u",

@@ -31,10 +31,10 @@ pub fn graphs_of(seed: u64) -> Vec<PlainGraph> {
 
 /// A step and a verdict at markings, and a replay, as the comparison makes them.
 fn told_apart(prng: &mut Prng, graph: &PlainGraph, mutant: Reading) -> bool {
-    let a = graph.head.first().copied().unwrap_or(0);
+    let steps = graphs::Steps::from(&plain::value_in(graph));
     for _ in 0..3 {
         let marking = plain::marking(prng, graph);
-        let activity = graphs::activity(prng, a);
+        let activity = graphs::activity(prng, steps);
         let mut lent = [marking.clone(), marking.clone()];
         let wanted = (JUDGE.plain_step)(graph, &mut lent[0], activity);
         let given = match mutant(graph) {
@@ -45,7 +45,7 @@ fn told_apart(prng: &mut Prng, graph: &PlainGraph, mutant: Reading) -> bool {
             return true;
         }
     }
-    let trace = graphs::trace(prng, a);
+    let trace = graphs::trace(prng, steps);
     let given = match mutant(graph) {
         Ok(other) => (JUDGE.plain_replay)(&other, &trace),
         Err(number) => door::replayed(number, 0, false),
@@ -296,13 +296,13 @@ pub fn found_step(mutant: Execute) -> Option<u64> {
     for seed in 0..SEEDS {
         let mut prng = Prng::new(seed + SEEDS);
         for graph in graphs_of(seed) {
-            let a = graph.head.first().copied().unwrap_or(0);
+            let steps = graphs::Steps::from(&plain::value_in(&graph));
             let Ok(judged) = read(&graph, 0) else {
                 continue;
             };
             for _ in 0..3 {
                 let bytes = plain::marking(&mut prng, &graph);
-                let activity = graphs::activity(&mut prng, a);
+                let activity = graphs::activity(&mut prng, steps);
                 if (JUDGE.plain_accepting)(&graph, &bytes) % 256 != 0 {
                     continue;
                 }
