@@ -16,3 +16,4 @@ pub mod Losing
 pub mod Reopening
 pub mod Settling
 pub mod Given
+pub mod AtEvents
