@@ -23,11 +23,11 @@ use Rattle.rules.specs.Traces.{Traces, _has_, someTrace}
 use Rattle.rules.specs.Mining.{event}
 use Rattle.steps.specs.Rowwise.{excluders, inEither, reducedOf, waited}
 use Rattle.tally.specs.Passes.{gains, forward, through}
-use Rattle.tally.specs.Tallies.{tableCount, noted, tallied, beforeTable, laterTable}
+use Rattle.tally.specs.Tallies.{tableCount, notedFor, talliedFor, beforeTable, laterTable}
 use Rattle.tally.proofs.Folds.{forward-rowsOf, through-rowsOf}
 use Rattle.miner.specs.Facts.{Less, letIn, beforeFirst, missed}
 use Rattle.miner.specs.Stages.{conditionsOf, chainsOf, responsesOf, neverOf, fiveOf, followersOf, redundantBy, sevenFrom, includesSix, excludesSix}
-use Rattle.miner.specs.Stages.{waitedOf, fourTables, tablesRead, graphFound}
+use Rattle.miner.specs.Stages.{waitedOf, fourTables, tablesRead, graphFoundIn}
 use Rattle.miner.proofs.Holding.{Held, held-any, length-held, held-c, held-r, held-i, held-x, held-four, held-is, taken-from, put-long}
 
 -- step 6, of the includes
@@ -188,27 +188,27 @@ pub events-by : (L : Traces) (r : Set) → r ≡ those (λ x. someTrace L (λ σ
 unfolding event
 events-by L r h = h
 
-pub tally-by : (L : Traces) (events : Set) (p : Profile) (none tally t t′ : List ℕ) → none ≡ noTables tableCount → tally ≡ through noted none L
+pub tally-by : (wide : Bool) (L : Traces) (events : Set) (p : Profile) (none tally t t′ : List ℕ) → none ≡ noTables tableCount → tally ≡ through (notedFor wide) none L
     → (length t ≡ relationCount * rowWords → t′
     ≡ fourTables (eightOf L events tally p) (answersOf L events tally p) (includesSix p events tally L) (afterSeven L events tally p))
     → length t ≡ relationCount * rowWords → t′
-    ≡ fourTables (eightOf L events (tallied L) p) (answersOf L events (tallied L) p) (includesSix p events (tallied L) L)
-    (afterSeven L events (tallied L) p)
-tally-by L events p none tally t t′ h₀ ht h long =
+    ≡ fourTables (eightOf L events (talliedFor wide L) p) (answersOf L events (talliedFor wide L) p) (includesSix p events (talliedFor wide L) L)
+    (afterSeven L events (talliedFor wide L) p)
+tally-by wide L events p none tally t t′ h₀ ht h long =
     h long
     ∙ ap (λ (x : List ℕ). fourTables (eightOf L events x p) (answersOf L events x p) (includesSix p events x L) (afterSeven L events x p))
-    (ht ∙ ap (λ (x : List ℕ). through noted x L) h₀)
+    (ht ∙ ap (λ (x : List ℕ). through (notedFor wide) x L) h₀)
 
 -- steps 9 and 10, and the head
-module _ (A : ℕ) (L : Traces) (p : Profile) (events : Set) (t₁ t₂ t₃ : List ℕ) (s : State) (opening : Marking) where
+module _ (wide : Bool) (A : ℕ) (L : Traces) (p : Profile) (events : Set) (t₁ t₂ t₃ : List ℕ) (s : State) (opening : Marking) where
   abbrev eight : List ℕ
-  eight = eightOf L events (tallied L) p
+  eight = eightOf L events (talliedFor wide L) p
 
   abbrev included : List ℕ
-  included = includesSix p events (tallied L) L
+  included = includesSix p events (talliedFor wide L) L
 
   abbrev excluding : List ℕ
-  excluding = afterSeven L events (tallied L) p
+  excluding = afterSeven L events (talliedFor wide L) p
 
   abbrev nineFrom : List ℕ → List ℕ → List ℕ → List ℕ
   nineFrom c i x =
@@ -217,17 +217,17 @@ module _ (A : ℕ) (L : Traces) (p : Profile) (events : Set) (t₁ t₂ t₃ : L
       (through (λ r σ. forward (gains (missed events i x)) r [] σ) noRows L))
 
   pub found-by : events ≡ those (event L)
-      → (length (noTables relationCount) ≡ relationCount * rowWords → t₁ ≡ fourTables eight (answersOf L events (tallied L) p) included excluding)
+      → (length (noTables relationCount) ≡ relationCount * rowWords → t₁ ≡ fourTables eight (answersOf L events (talliedFor wide L) p) included excluding)
       → t₂ ≡ withTable t₁ 0
       (nineFrom (withTable noRows 0 (tableAt t₁ 0)) (tableAt t₁ 2) (tableAt t₁ 3))
       → t₃ ≡ withTable t₂ 0 (rowsFor events (reducedOf (withTable noRows 0 (tableAt t₂ 0))))
-      → s ≡ openingOf events → opening ≡ marked events (inTables t₃) s → graphOf (headOf A events opening) t₃ ≡ graphFound A L p
-  unfolding graphFound
+      → s ≡ openingOf events → opening ≡ marked events (inTables t₃) s → graphOf (headOf A events opening) t₃ ≡ graphFoundIn wide A L p
+  unfolding graphFoundIn
   found-by hv h₁ h₂ h₃ hs ho =
-      let four = eight-four L events (tallied L) p in
+      let four = eight-four L events (talliedFor wide L) p in
       let is = h₁ (length-replicate {A = ℕ} (relationCount * rowWords) 0) in
-      let one : Held t₁ eight (answersOf L events (tallied L) p) included excluding = subst (λ (x : List ℕ). Held x eight
-      (answersOf L events (tallied L) p) included excluding) (sym is) four in
+      let one : Held t₁ eight (answersOf L events (talliedFor wide L) p) included excluding = subst (λ (x : List ℕ). Held x eight
+      (answersOf L events (talliedFor wide L) p) included excluding) (sym is) four in
       let nine = held-c _ _ _ _ _ t₂ (nineFrom eight included excluding) one (length-for events _)
       (h₂
       ∙ (λ i. withTable t₁ 0 (nineFrom (taken-from t₁ 0 eight (one .conditions) (length-for events _) i) (one .includes i)
@@ -235,7 +235,7 @@ module _ (A : ℕ) (L : Traces) (p : Profile) (events : Set) (t₁ t₂ t₃ : L
       let ten = held-c _ _ _ _ _ t₃ (waitedOf events eight included excluding L) nine (length-for events _)
       (h₃ ∙ ap (λ (x : List ℕ). withTable t₂ 0 (rowsFor events (reducedOf x)))
       (taken-from t₂ 0 _ (nine .conditions) (length-for events _))) in
-      let all = held-is _ _ _ _ (length-for events _) (length-for events _) (length-includes L events (tallied L) p) (length-rowsOf _) t₃ ten in
+      let all = held-is _ _ _ _ (length-for events _) (length-for events _) (length-includes L events (talliedFor wide L) p) (length-rowsOf _) t₃ ten in
       (λ i. graphOf (headOf A events (ho i)) t₃)
       ∙ (λ i. graphAt A events (hs i) (all i))
-      ∙ ap (λ (v : Set). graphAt A v (openingOf v) (tablesRead L v (tallied L) p)) hv
+      ∙ ap (λ (v : Set). graphAt A v (openingOf v) (tablesRead L v (talliedFor wide L) p)) hv

@@ -17,3 +17,4 @@ pub mod Reopening
 pub mod Settling
 pub mod Given
 pub mod AtEvents
+pub mod InForm

@@ -1,5 +1,6 @@
 -- What the stages of mining put together, from the tally of a log and its events: what the functions of src/mining.rt, src/includes.rt,
 -- src/redundant.rt and src/conditions.rt give. That it is the rules' graph is a theorem, so a reader of `mine` need not believe this file.
+use mathlib.Core.Bool.{Bool}
 use mathlib.Core.List.{List, []}
 use Prim.Native.Nat.{ℕ}
 use Rattle.sets.specs.Tests.{_and_, non}
@@ -18,7 +19,7 @@ use Rattle.rules.specs.Mining.{event}
 use Rattle.steps.specs.Rowwise.{unbroken, absent, excluders, inEither, reducedOf, waited}
 use Rattle.tally.specs.Passes.{gains, forward, through}
 use Rattle.tally.specs.Tallies.{beforeTable, laterTable, unprecededTable, unansweredTable, unchainedTable, unalternatedTable, followedTable}
-use Rattle.tally.specs.Tallies.{tallied}
+use Rattle.tally.specs.Tallies.{tallied, talliedFor}
 use Rattle.miner.specs.Facts.{letIn, reopened, doubted, beforeFirst, missed}
 
 -- conditions and chains by target, responses by source (steps 2 and 3)
@@ -98,6 +99,10 @@ tablesAfterSix L events tally includes six =
 abbrev pub tablesRead : Traces → Set → List ℕ → Profile → List ℕ
 tablesRead L events tally p = tablesAfterSix L events tally (includesSix p events tally L) (excludesSix p events tally)
 
--- the graph, from the traces
+-- the graph, from the traces, by a tally in a form
+unfoldable pub graphFoundIn : Bool → ℕ → Traces → Profile → Graph
+graphFoundIn wide A L p = graphAt A (those (event L)) (openingOf (those (event L))) (tablesRead L (those (event L)) (talliedFor wide L) p)
+
+-- the same over the whole width
 unfoldable pub graphFound : ℕ → Traces → Profile → Graph
 graphFound A L p = graphAt A (those (event L)) (openingOf (those (event L))) (tablesRead L (those (event L)) (tallied L) p)

@@ -2,8 +2,9 @@
 // returns: that is what keeps the stack small (02, 4/12).
 ghost use mathlib.Core.Path.{_≡_};
 ghost use Prim.Native.Nat.{_*_};
+ghost use lib.Dec.{ltb};
 ghost use lib.ListN.{length};
-ghost use Rattle.sets.specs.Members.{those};
+ghost use Rattle.sets.specs.Members.{word, those};
 ghost use Rattle.sets.specs.Rows.{rowWords, rowsFor};
 ghost use Rattle.sets.specs.Tables.{tableAt, withTable};
 ghost use Rattle.engine.specs.Relations.{relationCount};
@@ -11,9 +12,9 @@ ghost use Rattle.rules.specs.declared.Profile.the-variants.{Light};
 ghost use Rattle.rules.specs.Mining.{event};
 ghost use Rattle.steps.specs.Rowwise.{reducedOf};
 ghost use Rattle.tally.specs.Passes.{walked};
-ghost use Rattle.tally.specs.Tallies.{tallied};
+ghost use Rattle.tally.specs.Tallies.{talliedFor};
 ghost use Rattle.miner.specs.Stages.{conditionsOf, responsesOf, neverOf, includesSix, excludesSix, sevenFrom};
-ghost use Rattle.miner.specs.Stages.{fourTables, graphFound};
+ghost use Rattle.miner.specs.Stages.{fourTables, graphFoundIn};
 ghost use Rattle.miner.specs.Mine.{minedOf};
 use crate::conditions;
 use crate::excludes;
@@ -30,6 +31,7 @@ use rules::Profile;
 use sets::Answer;
 use sets::Rows;
 use sets::Set;
+use sets::activity::WORD;
 use sets::rows::WORDS;
 use sets::tables;
 use steps::reduce;
@@ -120,28 +122,35 @@ fn put_eight<'a>(
 }
 
 // The same of a log's first traces; it gives their events. The tally, the largest of all, is gone when it returns.
-fn tables_eight(bytes: &[u8], traces: usize, profile: Profile, out: &mut Relations) -> Set
+fn tables_eight(
+    bytes: &[u8],
+    traces: usize,
+    wide: bool,
+    profile: Profile,
+    out: &mut Relations,
+) -> Set
     ensures { λ r. ⌜ r ≡ those (event (walked (now (bytes .entry)) traces 0)) ⌝ }
     ensures { λ r. ⌜ (length (now (out .entry)) ≡ relationCount * rowWords → now (out .exit) ≡ fourTables
-        (rowsFor r (reducedOf (conditionsOf r (tallied (walked (now (bytes .entry)) traces 0)))))
-        (rowsFor r (reducedOf (responsesOf r (tallied (walked (now (bytes .entry)) traces 0)))))
-        (includesSix profile r (tallied (walked (now (bytes .entry)) traces 0)) (walked (now (bytes .entry)) traces 0))
-        (sevenFrom r (tallied (walked (now (bytes .entry)) traces 0))
-        (includesSix profile r (tallied (walked (now (bytes .entry)) traces 0)) (walked (now (bytes .entry)) traces 0))
-        (excludesSix profile r (tallied (walked (now (bytes .entry)) traces 0))) (walked (now (bytes .entry)) traces 0))) ⌝ }
+        (rowsFor r (reducedOf (conditionsOf r (talliedFor wide (walked (now (bytes .entry)) traces 0)))))
+        (rowsFor r (reducedOf (responsesOf r (talliedFor wide (walked (now (bytes .entry)) traces 0)))))
+        (includesSix profile r (talliedFor wide (walked (now (bytes .entry)) traces 0)) (walked (now (bytes .entry)) traces 0))
+        (sevenFrom r (talliedFor wide (walked (now (bytes .entry)) traces 0))
+        (includesSix profile r (talliedFor wide (walked (now (bytes .entry)) traces 0)) (walked (now (bytes .entry)) traces 0))
+        (excludesSix profile r (talliedFor wide (walked (now (bytes .entry)) traces 0))) (walked (now (bytes .entry)) traces 0))) ⌝ }
 {
     let mut tally = log::empty();
-    let events = log::note_traces(bytes, traces, &mut tally);
+    let events = log::note_traces_in(bytes, traces, wide, &mut tally);
     put_eight(bytes, traces, events, &tally, profile, out);
     events
 }
 
-// The graph of a log's first traces.
+// The graph of a log's first traces. Where all activities are below 64, its passes keep one word of each set.
 fn graph_found(bytes: &[u8], activities: u8, traces: usize, profile: Profile) -> Graph
-    ensures { λ r. ⌜ r ≡ graphFound activities (walked (now (bytes .entry)) traces 0) profile ⌝ }
+    ensures { λ r. ⌜ r ≡ graphFoundIn (ltb word activities) activities (walked (now (bytes .entry)) traces 0) profile ⌝ }
 {
     let mut found: Relations = [0; KINDS as usize * WORDS];
-    let events = tables_eight(bytes, traces, profile, &mut found);
+    let wide = WORD < activities;
+    let events = tables_eight(bytes, traces, wide, profile, &mut found);
     conditions::put_nine(bytes, traces, events, &mut found);
     conditions::put_ten(events, &mut found);
     Graph {
