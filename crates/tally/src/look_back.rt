@@ -5,12 +5,13 @@ ghost use mathlib.Core.List.{List, [], reverseAux};
 ghost use Prim.Native.Nat.{ℕ, _/_, _≤_, _<_};
 ghost use lib.Dec.{eqb};
 ghost use lib.ListN.{length};
-ghost use Rattle.sets.specs.Tests.{_and_, _or_, non, when_then_else_};
+ghost use Rattle.sets.specs.Tests.{_and_, _or_, non};
 ghost use Rattle.sets.specs.Members.{width, mem, those, isEmpty};
 ghost use Rattle.sets.specs.Rows.{Relation, rowsOf};
 ghost use Rattle.sets.specs.Sizes.{longestTrace};
-ghost use Rattle.tally.specs.Passes.{notedIn, notSince, inBlock, PassedTo};
-ghost use Rattle.tally.specs.Tallies.{unalternatedTable};
+ghost use Rattle.tally.specs.Passes.{notSince, inBlock, PassedTo};
+ghost use Rattle.tally.specs.Tallies.{sinceBy};
+use crate::form::in_form;
 use crate::log::Tally;
 use crate::log::UNALTERNATED;
 use sets::Activity;
@@ -101,12 +102,18 @@ fn unmet_by<'a>(past: &'a [u8], blocks: &'a Rows, e: Activity, wanted: Set) -> S
 
 // One place: what does not stand since the last e. At the first e of a trace that is what was not seen. A row that has all can gain
 // nothing, and that is the first question, since the answer is mostly the same.
-pub fn note_since<'a>(past: &'a [u8], blocks: &'a Rows, e: Activity, seen: Set, tally: &mut Tally)
+pub fn note_since<'a>(
+    past: &'a [u8],
+    blocks: &'a Rows,
+    e: Activity,
+    seen: Set,
+    wide: bool,
+    tally: &mut Tally,
+)
     requires { ⌜ now blocks ≡ rowsOf (inBlock (now past)) ⌝ }
-    ensures { λ _. ⌜ now (tally .exit) ≡ notedIn (now (tally .entry)) unalternatedTable (e .0)
-        (λ x. when mem seen (e .0) then notSince (e .0) (reverseAux (now (past .entry)) []) [] x else non (mem seen x)) ⌝ }
+    ensures { λ _. ⌜ now (tally .exit) ≡ sinceBy wide (now (tally .entry)) (e .0) (now (past .entry)) seen ⌝ }
 {
-    let wanted = tables::row(tally, UNALTERNATED, e).complement();
+    let wanted = in_form(tables::row(tally, UNALTERNATED, e).complement(), wide);
     if wanted.is_empty() {
         return;
     }
@@ -114,7 +121,7 @@ pub fn note_since<'a>(past: &'a [u8], blocks: &'a Rows, e: Activity, seen: Set, 
         let left = unmet_by(past, blocks, e, wanted);
         tables::join(tally, UNALTERNATED, e, left);
     } else {
-        tables::join(tally, UNALTERNATED, e, seen.complement());
+        tables::join(tally, UNALTERNATED, e, in_form(seen.complement(), wide));
     }
 }
 
