@@ -10,14 +10,14 @@ use borrow.Author.Tests.{lt-ltb, le-ltb, ltb-true, ltb-false}
 use lib.Dec.{ltb}
 use lib.ListN.{length, getD, set, drop, length-append, length-set, length-drop}
 use lib.Seq.{getD-set-same, set-append-left}
-use Rattle.sets.specs.Tests.{_and_, _or_, non, when_then_else_}
-use Rattle.sets.specs.Members.{width, mem, those, noSet}
-use Rattle.sets.specs.Rows.{rowAt, rowsOf}
-use Rattle.sets.specs.Tables.{noTables, tableAt, tablesOf}
+use Rattle.sets.specs.Tests.{_or_}
+use Rattle.sets.specs.Members.{those}
+use Rattle.sets.specs.Rows.{inRow, rowsOf}
+use Rattle.sets.specs.Tables.{noTables, tableAt}
 use Rattle.sets.specs.declared.set.Set.{Set}
 use Rattle.sets.proofs.Tests.{T→true, F→false, split, either, false-or}
 use Rattle.sets.proofs.Members.{those-ext, none-those}
-use Rattle.sets.proofs.RowLaws.{row-rowsOf, rowsOf-ext}
+use Rattle.sets.proofs.RowLaws.{in-rowsOf}
 use Rattle.bytes.specs.Sets.{setLength, setBytes, setAt}
 use Rattle.bytes.proofs.SetLaws.{set-apart}
 use Rattle.rules.specs.Traces.{Traces, _has_, someTrace}
@@ -29,7 +29,7 @@ use Rattle.miner.proofs.Composed.{events-by}
 use Rattle.months.specs.Layout.{tallyWidth, setCount, tallyLength, firstRow, rowsEnd, firstPair, rowSet, pairSet, setsFrom, activitiesIn, setIn}
 use Rattle.months.specs.Tallies.{asked, held, tallyOf}
 use Rattle.months.specs.Pairs.{over, packed, Gained, initialOf}
-use Rattle.months.proofs.Narrow.{narrowed}
+use Rattle.months.proofs.Narrow.{narrow-ext, narrowed}
 use Rattle.months.proofs.Packed.{length-from, from-ext, read-from, over-low, over-high}
 use Rattle.months.proofs.Initial.{initial-first, initial-events, initial-row, initial-spare}
 
@@ -83,27 +83,32 @@ module _ (L : Traces) where
   table-asked (suc (suc (suc (suc (suc (suc zero)))))) l = followed-table L
   table-asked (suc (suc (suc (suc (suc (suc (suc k))))))) l = absurd (omega arith)
 
-  row-asked : (k a : ℕ) → k < tableCount → a < width → rowAt (tableAt (tallied L) k) a ≡ those (asked L k a)
-  row-asked k a lk la = ap (λ (rows : List ℕ). rowAt rows a) (table-asked k lk) ∙ row-rowsOf (asked L k) a la
+  -- tables that answer what is asked, of the activities that a tally can hold
+  abbrev Answered : List ℕ → Type 0
+  Answered tables = (k a x : ℕ) → k < tableCount → a < tallyWidth → x < tallyWidth → inRow (tableAt tables k) a x ≡ asked L k a x
+
+  pub tallied-answers : Answered (tallied L)
+  tallied-answers k a x lk la lx = ap (λ (rows : List ℕ). inRow rows a x) (table-asked k lk) ∙ in-rowsOf (asked L k) a x (omega arith) (omega arith)
 
   -- ---- what filling leaves is what is held
 
-  module _ (events : Set) (tables : List ℕ) (he : events ≡ those (event L)) (ht : tables ≡ tallied L) where
-    same-set : (w : ℕ) → w < setCount → over (initialOf events tables) (λ u s v. false or between L u v s) w ≡ those (held L w)
+  module _ (events : Set) (tables : List ℕ) (he : events ≡ those (event L)) (ht : Answered tables) where
+    -- set by set, as far as the narrow form goes
+    same-set : (w : ℕ) → w < setCount → setBytes false (over (initialOf events tables) (λ u s v. false or between L u v s) w) ≡ setBytes false (those (held L w))
     same-set w l =
         by-kind _ w
-        (λ a. low (omega arith) ∙ sym (initial-first events tables w a) ∙ none-those (held L w) (λ x lx. held-first w x a))
-        (λ g a. low (omega arith) ∙ sym (initial-events events tables w g a) ∙ he ∙ those-ext (event L) (held L w) (λ x lx. sym (held-events w x g a)))
+        (λ a. low (omega arith) _ (sym (initial-first events tables w a) ∙ none-those (held L w) (λ x lx. held-first w x a)))
+        (λ g a. low (omega arith) _ (sym (initial-events events tables w g a) ∙ he ∙ those-ext (event L) (held L w) (λ x lx. sym (held-events w x g a))))
         (λ g a.
-        low (omega arith) ∙ sym (initial-row events tables w _ g a refl) ∙ ap (λ (t : List ℕ). rowAt (tableAt t ((w - firstRow) / tallyWidth))
-        ((w - firstRow) % tallyWidth)) ht
-        ∙ row-asked ((w - firstRow) / tallyWidth) ((w - firstRow) % tallyWidth) (omega arith) (omega arith)
-        ∙ those-ext _ (held L w) (λ x lx. sym (held-row w x g a)))
-        (λ g a. low a ∙ sym (initial-spare events tables w g) ∙ none-those (held L w) (λ x lx. held-spare w x g a))
-        (λ g. over-high _ _ w g ∙ those-ext _ (held L w) (λ x lx. false-or _ ∙ sym (held-pair w x g)))
+        low (omega arith) _ (sym (initial-row events tables w g a))
+        ∙ narrow-ext _ (held L w) (λ x lx. ht ((w - firstRow) / tallyWidth) ((w - firstRow) % tallyWidth) x (omega arith) (omega arith) lx
+        ∙ sym (held-row w x g a)))
+        (λ g a. low a _ (sym (initial-spare events tables w g) ∙ none-those (held L w) (λ x lx. held-spare w x g a)))
+        (λ g. ap (setBytes false) (over-high _ _ w g ∙ those-ext _ (held L w) (λ x lx. false-or _ ∙ sym (held-pair w x g))))
       where
-        low : w < firstPair → over (initialOf events tables) (λ u s v. false or between L u v s) w ≡ initialOf events tables w
-        low a = over-low _ _ w a
+        low : w < firstPair → (s : Set) → initialOf events tables w ≡ s
+            → setBytes false (over (initialOf events tables) (λ u s v. false or between L u v s) w) ≡ setBytes false s
+        low a s h = ap (setBytes false) (over-low _ _ w a ∙ h)
 
     pub filled : (A : ℕ) (t₁ t₂ t₃ tail : List ℕ) → t₁ ≡ setsFrom setCount 0 (initialOf events tables) ++ tail
         → Gained t₁ (λ u s v. between L u v s) t₂ → t₃ ≡ set t₂ 0 A → t₃ ≡ tallyOf A L ++ tail
@@ -114,7 +119,7 @@ module _ (L : Traces) where
         ∙ ap (λ (l : List ℕ). set l 0 A)
         (g (initialOf events tables) (λ u s v. false) tail
         (h₁ ∙ ap (λ (l : List ℕ). l ++ tail) (from-ext setCount 0 _ _ (λ w a b. ap (setBytes false) (sym (no-pair w)))))
-        ∙ ap (λ (l : List ℕ). l ++ tail) (from-ext setCount 0 _ _ (λ w a b. ap (setBytes false) (same-set w b))))
+        ∙ ap (λ (l : List ℕ). l ++ tail) (from-ext setCount 0 _ _ (λ w a b. same-set w b)))
         ∙ set-append-left all tail 0 A (omega (arith, length-from setCount 0 (λ w. those (held L w))))
       where
         no-pair : (w : ℕ) → over (initialOf events tables) (λ u s v. false) w ≡ initialOf events tables w
@@ -151,7 +156,9 @@ pub tally-filled : (A : ℕ) (L : Traces) (none tables : List ℕ) (events : Set
     → events ≡ those (λ x. someTrace L (λ σ. σ has x)) → tables ≡ through noted none L
     → t₁ ≡ setsFrom setCount 0 (initialOf events tables) ++ tail → Gained t₁ (λ u s v. between L u v s) t₂ → set t₂ 0 A ≡ tallyOf A L ++ tail
 tally-filled A L none tables events t₁ t₂ tail hn he ht h₁ g =
-    filled L events tables (events-by L events he) (ht ∙ ap (λ (x : List ℕ). through noted x L) hn) A t₁ t₂ (set t₂ 0 A) tail h₁ g refl
+    let answers : Answered L tables =
+    λ k a x lk la lx. ap (λ (t : List ℕ). inRow (tableAt t k) a x) (ht ∙ ap (λ (t : List ℕ). through noted t L) hn) ∙ tallied-answers L k a x lk la lx in
+    filled L events tables (events-by L events he) answers A t₁ t₂ (set t₂ 0 A) tail h₁ g refl
 
 pub filled-long : (A : ℕ) (L : Traces) (t out : List ℕ) → tallyLength ≤ length t → out ≡ tallyOf A L ++ drop tallyLength t → length out ≡ length t
 filled-long A L t out h e =

@@ -8,8 +8,8 @@ use borrow.Author.Tests.{lt-ltb, le-ltb}
 use lib.Dec.{ltb}
 use lib.ListN.{length, drop}
 use Rattle.sets.specs.Tests.{when_then_else_}
-use Rattle.sets.specs.Members.{noSet}
-use Rattle.sets.specs.Rows.{rowAt}
+use Rattle.sets.specs.Members.{mem, those, noSet}
+use Rattle.sets.specs.Rows.{rowAt, inRow}
 use Rattle.sets.specs.Tables.{tableAt}
 use Rattle.sets.specs.declared.set.Set.{Set}
 use Rattle.bytes.specs.Sets.{setLength, setPut}
@@ -33,14 +33,17 @@ module _ (events : Set) (tables : List ℕ) (w : ℕ) where
       let two : firstRow ≤ w = omega arith in
       rw (le-ltb w 1 one, le-ltb w firstRow two, le-ltb w rowsEnd g)
 
-  pub initial-row : (r : Set) → firstRow ≤ w → w < rowsEnd → r ≡ rowAt (tableAt tables ((w - firstRow) / tallyWidth)) ((w - firstRow) % tallyWidth)
-      → r ≡ initialOf events tables w
+  pub initial-row : firstRow ≤ w → w < rowsEnd
+      → those (inRow (tableAt tables ((w - firstRow) / tallyWidth)) ((w - firstRow) % tallyWidth)) ≡ initialOf events tables w
   unfolding initialOf
-  initial-row r g l h =
-      let one : 1 ≤ w = omega arith in
-      h ∙ (rw (le-ltb w 1 one, le-ltb w firstRow g, lt-ltb w rowsEnd l))
+  initial-row g l = let one : 1 ≤ w = omega arith in rw (le-ltb w 1 one, le-ltb w firstRow g, lt-ltb w rowsEnd l)
 
-pub ruleset initials = (initial-first, initial-events, initial-spare, initial-row)
+  pub initial-read : (r : Set) → firstRow ≤ w → w < rowsEnd → those (mem r) ≡ r
+      → r ≡ rowAt (tableAt tables ((w - firstRow) / tallyWidth)) ((w - firstRow) % tallyWidth) → r ≡ initialOf events tables w
+  unfolding inRow
+  initial-read r g l whole h = sym whole ∙ ap (λ (s : Set). those (mem s)) h ∙ initial-row g l
+
+pub ruleset initials = (initial-first, initial-events, initial-spare, initial-read)
 
 -- ---- all of them, one after another
 

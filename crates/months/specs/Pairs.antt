@@ -42,7 +42,7 @@ unfoldable pub initialOf : Set → List ℕ → ℕ → Set
 initialOf events tables w =
     when ltb w 1 then noSet
     else when ltb w firstRow then events
-    else when ltb w rowsEnd then rowAt (tableAt tables ((w - firstRow) / tallyWidth)) ((w - firstRow) % tallyWidth)
+    else when ltb w rowsEnd then those (inRow (tableAt tables ((w - firstRow) / tallyWidth)) ((w - firstRow) % tallyWidth))
     else noSet
 
 -- ---- what is kept of the first places
