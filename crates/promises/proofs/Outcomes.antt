@@ -100,7 +100,10 @@ use Rattle.graphfile.proofs.marking.read_marking.Reads as read-marking
 use Rattle.graphfile.proofs.marking.write_marking.Reads as write-marking
 use Rattle.graphfile.proofs.marking.length.Reads as marking-length
 use Rattle.graphfile.proofs.head.length.Reads as head-length
+use Rattle.graphfile.proofs.layout.is_wide.Reads as is-wide
+use Rattle.graphfile.proofs.layout.wide_for.Reads as wide-for
 use Rattle.desk.proofs.requests.judge_place.Reads as desk-judge-place
+use Rattle.desk.proofs.table.length.Reads as desk-table-length
 use Rattle.desk.proofs.requests.open.Reads as desk-open
 use Rattle.desk.proofs.requests.step.Reads as desk-step
 use Rattle.desk.proofs.requests.step_on.Reads as desk-step-on
@@ -115,6 +118,8 @@ use Rattle.steps.proofs.relations.union_of.Reads as union-of
 use Rattle.steps.proofs.relations.waited.Reads as waited
 use Rattle.steps.proofs.reduce.reduced.Reads as reduced
 use Rattle.tally.proofs.log.empty.Reads as log-empty
+use Rattle.tally.proofs.form.in_form.Reads as in-form
+use Rattle.tally.proofs.log.note_traces_in.Reads as log-note-traces-in
 use Rattle.tally.proofs.log.note_traces.Reads as log-note-traces
 use Rattle.miner.proofs.conditions_eight.Reads as conditions-eight
 use Rattle.miner.proofs.excluded_five.Reads as excluded-five
@@ -512,10 +517,19 @@ marking-length-once κ a r r′ s s′ h h′ = h ∙ sym h′
 pub head-length-once : Once head-length.Post
 head-length-once κ a r r′ s s′ h h′ = h ∙ sym h′
 
+pub is-wide-once : Once is-wide.Post
+is-wide-once κ a r r′ s s′ h h′ = h ∙ sym h′
+
+pub wide-for-once : Once wide-for.Post
+wide-for-once κ a r r′ s s′ h h′ = h ∙ sym h′
+
 -- ---- desk
 
 pub desk-judge-place-once : Once desk-judge-place.Post
 desk-judge-place-once κ a r r′ s s′ h h′ = h ∙ sym h′
+
+pub desk-table-length-once : Once desk-table-length.Post
+desk-table-length-once κ a r r′ s s′ h h′ = h ∙ sym h′
 
 pub desk-open-once : OnceLent desk-open.Post (λ κ s. now (s .1 .1 .0))
 desk-open-once κ a r r′ s s′ h h′ = (h .0 ∙ sym (h′ .0), h .1 ∙ sym (h′ .1))
@@ -562,6 +576,12 @@ reduced-once κ a r r′ s s′ h h′ = h ∙ sym h′
 
 pub log-empty-once : Once log-empty.Post
 log-empty-once κ a r r′ s s′ h h′ = h ∙ sym h′
+
+pub in-form-once : Once in-form.Post
+in-form-once κ a r r′ s s′ h h′ = h ∙ sym h′
+
+pub log-note-traces-in-once : OnceLent log-note-traces-in.Post (λ κ s. now (s .1 .1 .1 .0))
+log-note-traces-in-once κ a r r′ s s′ h h′ = (h .0 ∙ sym (h′ .0), h .1 ∙ sym (h′ .1))
 
 pub log-note-traces-once : OnceLent log-note-traces.Post (λ κ s. now (s .1 .1 .0))
 log-note-traces-once κ a r r′ s s′ h h′ = (h .0 ∙ sym (h′ .0), h .1 ∙ sym (h′ .1))
