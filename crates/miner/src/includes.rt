@@ -64,15 +64,15 @@ pub fn last_places(trace: &[u8], last: &mut Places) -> Set
     all
 }
 
-// What stands after a place of e, given what stands from it on: less e, where this is its last place.
+// What stands after a place of e, given what stands from it on: less e, where this is its last place. A set without a branch, since which
+// place is the last is not foreseen.
 fn left_after(after: Set, last: &Places, e: Activity, at: Place) -> Set
     ensures { λ r. ⌜ r ≡ those (λ x. mem after x and non (eqb x (e .0) and eqb (getD (now (last .entry)) (e .0) 0) (at .0))) ⌝ }
 {
     let n = e.0 as usize;
     if n < WIDTH {
-        if last[n] == at.0 {
-            return after.difference(Set::one(e));
-        }
+        let gone = Set::one_if(last[n] == at.0, e);
+        return after.difference(gone);
     }
     after
 }
