@@ -1,33 +1,37 @@
 -- A log is mined the same in the form of its A: that form holds every event, and the stages ask at events alone. Assumes nothing.
 use mathlib.Core.Path.{_≡_, refl, sym, ap, ap₂, _∙_}
 use mathlib.Core.Bool.{Bool, true, false}
-use mathlib.Core.List.{List, []}
+use mathlib.Core.List.{List, [], _∷_}
 use Prim.Native.Nat.{ℕ, _<_}
 use native.Mathlib.Omega.{arith}
 use borrow.Author.Tests.{lt-ltb, ltb-false}
 use lib.Dec.{T, eqb, ltb}
 use Rattle.sets.specs.Tests.{_and_, _or_, non}
 use Rattle.sets.specs.Members.{word, mem}
-use Rattle.sets.specs.Rows.{noRows, inRow, rowsFor}
+use Rattle.sets.specs.Rows.{Relation, noRows, inRow, rowsOf, rowsFor, turned}
 use Rattle.sets.specs.declared.set.Set.{Set}
-use Rattle.sets.proofs.Tests.{T-eq}
+use Rattle.sets.proofs.Tests.{T-eq, T-ext, T→true, true→T, and-l, or-r, split, either}
 use Rattle.sets.proofs.Members.{mem-those}
 use Rattle.sets.proofs.RowLaws.{in-rowsOf, rowsOf-ext}
 use Rattle.engine.specs.Markings.{openingOf}
 use Rattle.engine.specs.Enabled.{graphAt}
 use Rattle.rules.specs.declared.Profile.{Profile}
-use Rattle.rules.specs.Traces.{Traces}
+use Rattle.rules.specs.declared.Profile.the-variants.{Full, Light}
+use Rattle.rules.specs.Traces.{Traces, _has_}
 use Rattle.rules.specs.Mining.{event}
 use Rattle.rules.specs.Replays.{Accepted}
 use Rattle.rules.proofs.Places.{some-trace}
+use Rattle.rules.proofs.InTurn.{is-event}
 use Rattle.steps.specs.Rowwise.{reducedOf, waited}
 use Rattle.tally.specs.Passes.{Fact, gains, forward, through, reaches, cut}
 use Rattle.tally.specs.Tallies.{tallied, talliedFor}
-use Rattle.tally.proofs.Folds.{heard, forward-rowsOf, through-all}
+use Rattle.tally.proofs.Folds.{heard, forward-rowsOf, through-rowsOf, through-all}
+use Rattle.tally.proofs.Turns.{has-past}
 use Rattle.tally.proofs.WholeForm.{heard-in}
 use Rattle.tally.proofs.Tallying.{form-agrees}
-use Rattle.miner.specs.Facts.{beforeFirst, missed}
-use Rattle.miner.specs.Stages.{conditionsOf, responsesOf, includesSix, excludesSix, sevenFrom, waitedOf, waitedIn, fourTables, graphFound, graphFoundIn}
+use Rattle.miner.specs.Facts.{letIn, beforeFirst, missed}
+use Rattle.miner.specs.Stages.{conditionsOf, chainsOf, responsesOf, neverOf, includesIn, includesSix, excludesSix, sevenFrom, waitedOf, waitedIn, fourTables, graphFound, graphFoundIn}
+use Rattle.miner.proofs.OverLog.{some-place}
 use Rattle.miner.proofs.EarlySteps.{events}
 use Rattle.miner.proofs.AtEvents.{AgreeIn, AgreeAt, where-so, tables-at}
 
@@ -74,12 +78,42 @@ module _ (A : ℕ) (L : Traces) (ok : Accepted A L) where
       ap (λ (rows : List ℕ). rowsFor E (reducedOf rows))
       (waited-as eight _ _ _ _ (walk-at beforeFirst) (walk-at (missed E includes excludes)))
 
+  -- ---- step 6
+
+  -- what is let in comes later, so it is an event
+  let-in-event : (never : List ℕ) (a x : ℕ) → T (heard (letIn never) L a x) → T (event L x)
+  unfolding letIn _has_
+  let-in-event never a x h =
+      let k = some-place a (λ past rest. letIn never a past rest x) L h in
+      is-event L x (k .2) (T-eq (sym (has-past x (k .0) (a ∷ k .1))) (or-r _ _ (or-r _ _ (and-l _ _ (k .3)))))
+
+  let-in-same : (never : List ℕ) (a x : ℕ) → heard (cut (ltb word A) (letIn never)) L a x ≡ heard (letIn never) L a x
+  unfolding cut
+  let-in-same never a x =
+      either (split (reaches (ltb word A) x)) (λ t. heard-in (ltb word A) (letIn never) L a x (T→true _ t))
+      (λ f. T-ext _ _
+      (λ h. let k = some-place a (λ past rest. cut (ltb word A) (letIn never) a past rest x) L h in absurd (f (and-l _ _ (k .3))))
+      (λ h. absurd (f (true→T (all-reached x (let-in-event never a x h))))))
+
+  includes-form : (p : Profile) (t : List ℕ) → includesIn (ltb word A) p E t L ≡ includesSix p E t L
+  includes-form Light t = refl
+  includes-form Full t =
+      let never : List ℕ = neverOf E t in
+      let start : Relation = turned (chainsOf E t) in
+      let walk : (q : Fact) → through (λ r σ. forward (gains q) r [] σ) (rowsOf start) L ≡ rowsOf (λ a x. start a x or heard q L a x) =
+      λ q. through-rowsOf q (λ r σ. forward (gains q) r [] σ) (λ r σ. forward-rowsOf q r [] σ) start L in
+      walk (cut (ltb word A) (letIn never))
+      ∙ rowsOf-ext _ _ (λ a x la lx. ap (λ (b : Bool). start a x or b) (let-in-same never a x))
+      ∙ sym (walk (letIn never))
+
   pub form-graph : (p : Profile) → graphFoundIn (ltb word A) A L p ≡ graphFound A L p
   unfolding graphFoundIn graphFound
   form-graph p =
       let t : List ℕ = talliedFor (ltb word A) L in
       ap (graphAt A E (openingOf E))
-      (ap (λ (c : List ℕ). fourTables c (rowsFor E (reducedOf (responsesOf E t))) (includesSix p E t L)
+      (ap (λ (i : List ℕ). fourTables (waitedIn (ltb word A) E (rowsFor E (reducedOf (conditionsOf E t))) i (sevenFrom E t i (excludesSix p E t) L) L)
+      (rowsFor E (reducedOf (responsesOf E t))) i (sevenFrom E t i (excludesSix p E t) L)) (includes-form p t)
+      ∙ ap (λ (c : List ℕ). fourTables c (rowsFor E (reducedOf (responsesOf E t))) (includesSix p E t L)
       (sevenFrom E t (includesSix p E t L) (excludesSix p E t) L))
       (waited-form (rowsFor E (reducedOf (conditionsOf E t))) (includesSix p E t L) (sevenFrom E t (includesSix p E t L) (excludesSix p E t) L))
       ∙ tables-at L t (tallied L) agree p)

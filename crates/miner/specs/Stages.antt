@@ -101,6 +101,14 @@ tablesRead L events tally p = tablesAfterSix L events tally (includesSix p event
 
 -- ---- the same in a form
 
+-- the includes after step 6, what is let in as far as the form holds it
+abbrev pub letInOf : Bool → List ℕ → List ℕ → Traces → List ℕ
+letInOf wide never rows L = through (λ r σ. forward (gains (cut wide (letIn never))) r [] σ) rows L
+
+abbrev pub includesIn : Bool → Profile → Set → List ℕ → Traces → List ℕ
+includesIn wide Full events tally L = letInOf wide (neverOf events tally) (rowsOf (turned (chainsOf events tally))) L
+includesIn wide Light events tally L = rowsOf (turned (chainsOf events tally))
+
 -- what step 9's replay puts into rows
 abbrev pub aheadOf : Bool → List ℕ → Traces → List ℕ
 aheadOf wide rows L = through (λ r σ. forward (gains (cut wide beforeFirst)) r [] σ) rows L
@@ -115,11 +123,11 @@ waitedIn wide events eight includes excludes L =
 abbrev pub tablesIn : Bool → Traces → Set → List ℕ → Profile → List ℕ
 tablesIn wide L events tally p =
     fourTables
-    (waitedIn wide events (rowsFor events (reducedOf (conditionsOf events tally))) (includesSix p events tally L)
-    (sevenFrom events tally (includesSix p events tally L) (excludesSix p events tally) L) L)
+    (waitedIn wide events (rowsFor events (reducedOf (conditionsOf events tally))) (includesIn wide p events tally L)
+    (sevenFrom events tally (includesIn wide p events tally L) (excludesSix p events tally) L) L)
     (rowsFor events (reducedOf (responsesOf events tally)))
-    (includesSix p events tally L)
-    (sevenFrom events tally (includesSix p events tally L) (excludesSix p events tally) L)
+    (includesIn wide p events tally L)
+    (sevenFrom events tally (includesIn wide p events tally L) (excludesSix p events tally) L)
 
 -- the graph, from the traces, by a tally in a form
 unfoldable pub graphFoundIn : Bool → ℕ → Traces → Profile → Graph

@@ -13,7 +13,7 @@ ghost use Rattle.rules.specs.Mining.{event};
 ghost use Rattle.steps.specs.Rowwise.{reducedOf};
 ghost use Rattle.tally.specs.Passes.{walked};
 ghost use Rattle.tally.specs.Tallies.{talliedFor};
-ghost use Rattle.miner.specs.Stages.{conditionsOf, responsesOf, neverOf, includesSix, excludesSix, sevenFrom};
+ghost use Rattle.miner.specs.Stages.{conditionsOf, responsesOf, neverOf, includesIn, excludesSix, sevenFrom};
 ghost use Rattle.miner.specs.Stages.{fourTables, graphFoundIn};
 ghost use Rattle.miner.specs.Mine.{minedOf};
 use crate::conditions;
@@ -74,22 +74,23 @@ fn put_six<'a>(
     traces: usize,
     events: Set,
     tally: &'a Tally,
+    wide: bool,
     profile: Profile,
     out: &mut Relations,
 )
     ensures { λ _. ⌜ length (now (out .exit)) ≡ length (now (out .entry)) ⌝ }
     ensures { λ _. ⌜ (length (now (out .entry)) ≡ relationCount * rowWords
-        → tableAt (now (out .entry)) 2 ≡ includesSix Light events (now (tally .entry)) (walked (now (bytes .entry)) traces 0)
-        → tableAt (now (out .exit)) 2 ≡ includesSix profile events (now (tally .entry)) (walked (now (bytes .entry)) traces 0)) ⌝ }
+        → tableAt (now (out .entry)) 2 ≡ includesIn wide Light events (now (tally .entry)) (walked (now (bytes .entry)) traces 0)
+        → tableAt (now (out .exit)) 2 ≡ includesIn wide profile events (now (tally .entry)) (walked (now (bytes .entry)) traces 0)) ⌝ }
     ensures { λ _. ⌜ (length (now (out .entry)) ≡ relationCount * rowWords
-        → tableAt (now (out .entry)) 2 ≡ includesSix Light events (now (tally .entry)) (walked (now (bytes .entry)) traces 0)
+        → tableAt (now (out .entry)) 2 ≡ includesIn wide Light events (now (tally .entry)) (walked (now (bytes .entry)) traces 0)
         → tableAt (now (out .entry)) 3 ≡ excludesSix Light events (now (tally .entry))
         → tableAt (now (out .exit)) 3 ≡ excludesSix profile events (now (tally .entry))) ⌝ }
 {
     match profile {
         Profile::Full => {
             put_never(events, tally, out);
-            includes::put_six(bytes, traces, out);
+            includes::put_six(bytes, traces, wide, out);
             excludes::put_six(events, out);
         }
         Profile::Light => {}
@@ -102,20 +103,21 @@ fn put_eight<'a>(
     traces: usize,
     events: Set,
     tally: &'a Tally,
+    wide: bool,
     profile: Profile,
     out: &mut Relations,
 )
     ensures { λ _. ⌜ (length (now (out .entry)) ≡ relationCount * rowWords → now (out .exit) ≡ fourTables
         (rowsFor events (reducedOf (conditionsOf events (now (tally .entry)))))
         (rowsFor events (reducedOf (responsesOf events (now (tally .entry)))))
-        (includesSix profile events (now (tally .entry)) (walked (now (bytes .entry)) traces 0))
-        (sevenFrom events (now (tally .entry)) (includesSix profile events (now (tally .entry)) (walked (now (bytes .entry)) traces 0))
+        (includesIn wide profile events (now (tally .entry)) (walked (now (bytes .entry)) traces 0))
+        (sevenFrom events (now (tally .entry)) (includesIn wide profile events (now (tally .entry)) (walked (now (bytes .entry)) traces 0))
         (excludesSix profile events (now (tally .entry))) (walked (now (bytes .entry)) traces 0))) ⌝ }
 {
     includes::put_three(events, tally, out);
     excludes::put_excluded(events, tally, out);
     excludes::turn(out);
-    put_six(bytes, traces, events, tally, profile, out);
+    put_six(bytes, traces, events, tally, wide, profile, out);
     redundant::put_seven(bytes, traces, events, tally, out);
     conditions::put_eight(events, tally, out);
     put_responses(events, tally, out);
@@ -133,14 +135,14 @@ fn tables_eight(
     ensures { λ r. ⌜ (length (now (out .entry)) ≡ relationCount * rowWords → now (out .exit) ≡ fourTables
         (rowsFor r (reducedOf (conditionsOf r (talliedFor wide (walked (now (bytes .entry)) traces 0)))))
         (rowsFor r (reducedOf (responsesOf r (talliedFor wide (walked (now (bytes .entry)) traces 0)))))
-        (includesSix profile r (talliedFor wide (walked (now (bytes .entry)) traces 0)) (walked (now (bytes .entry)) traces 0))
+        (includesIn wide profile r (talliedFor wide (walked (now (bytes .entry)) traces 0)) (walked (now (bytes .entry)) traces 0))
         (sevenFrom r (talliedFor wide (walked (now (bytes .entry)) traces 0))
-        (includesSix profile r (talliedFor wide (walked (now (bytes .entry)) traces 0)) (walked (now (bytes .entry)) traces 0))
+        (includesIn wide profile r (talliedFor wide (walked (now (bytes .entry)) traces 0)) (walked (now (bytes .entry)) traces 0))
         (excludesSix profile r (talliedFor wide (walked (now (bytes .entry)) traces 0))) (walked (now (bytes .entry)) traces 0))) ⌝ }
 {
     let mut tally = log::empty();
     let events = log::note_traces_in(bytes, traces, wide, &mut tally);
-    put_eight(bytes, traces, events, &tally, profile, out);
+    put_eight(bytes, traces, events, &tally, wide, profile, out);
     events
 }
 

@@ -1,16 +1,7 @@
-use mathlib.Core.Path.{_≡_, sym, ap, _∙_}
-use mathlib.Core.Bool.{Bool}
-use mathlib.Core.List.{List, []}
-use Prim.Native.Nat.{ℕ}
 use borrow.Author.Needs.{needs}
-use Rattle.tally.specs.Passes.{Fact, gains, forward, cut}
+use Rattle.miner.proofs.Gains.{as-asked}
 use Rattle.miner.proofs.conditions.replay_in.Statement.{statement}
 use Rattle.miner.proofs.conditions.replay_in.Tie as tie
-
--- the pass in the form that was asked for
-as-asked : (wide form : Bool) (p : Fact) (rows rows′ σ : List ℕ) → wide ≡ form → rows′ ≡ forward (gains (cut form p)) rows [] σ
-    → rows′ ≡ forward (gains (cut wide p)) rows [] σ
-as-asked wide form p rows rows′ σ h e = e ∙ ap (λ (b : Bool). forward (gains (cut b p)) rows [] σ) (sym h)
 
 returns : tie.Need-returns
 returns c =
