@@ -34,12 +34,13 @@ fn take_rows(bytes: &[u8], r: u8, count: usize, first: usize, held: &mut Relatio
     ensures { λ a. ⌜ a ≡ firstRefusal count (judgedRow (now (bytes .entry)) first) ⌝ }
     ensures { λ a. ⌜ (a ≡ Done → now (held .exit) ≡ filled (now (bytes .entry)) (now (held .entry)) r count first) ⌝ }
 {
-    let events = set_at(bytes, layout::EVENTS, layout::is_wide(bytes));
+    let wide = layout::is_wide(bytes);
+    let events = set_at(bytes, layout::EVENTS, wide);
     let mut j = 0;
     while j < count {
-        let key = Activity(layout::key_in(bytes, first + j));
-        let row = layout::row_in(bytes, first + j);
-        let above = refusal::key_rises(bytes, first, j);
+        let key = Activity(layout::key_in(bytes, first + j, wide));
+        let row = layout::row_in(bytes, first + j, wide);
+        let above = refusal::key_rises(bytes, first, j, wide);
         let answer = refusal::judge_row(events, key, row, above);
         if !answer.is_done() {
             return answer;
