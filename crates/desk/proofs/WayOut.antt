@@ -7,11 +7,13 @@ use borrow.Author.Tests.{le-ltb}
 use lib.Dec.{ltb}
 use lib.ListN.{length}
 use Rattle.sets.specs.Tests.{non, when_then_else_}
+use Rattle.sets.specs.declared.set.Set.{Set}
 use Rattle.sets.specs.declared.answer.Answer.the-variants.{BufferTooSmall, NotOpen}
 use Rattle.engine.specs.declared.marking.Marking.{Marking}
 use Rattle.engine.specs.declared.graph.Graph.{Graph}
 use Rattle.graphfile.proofs.LoneMarkings.{WholeMarking}
-use Rattle.finish.specs.Ways.{finishedBy, finishOf}
+use Rattle.engine.specs.Relations.{Relations}
+use Rattle.finish.specs.Ways.{finishedBy, finishOf, finishOn}
 use Rattle.finish.specs.declared.search.Finished.{Finished}
 use Rattle.desk.specs.Places.{tableLength, isOpen, markingAtPlace, SameAt}
 use Rattle.desk.specs.Desk.{formOf}
@@ -33,6 +35,9 @@ module _ (g : Graph) (wide : Bool) (same : wide ≡ formOf g) (table : List ℕ)
 
   pub found-at : (m : Marking) (f : Finished) → m ≡ markingAtPlace wide table p → f ≡ finishOf g m → f ≡ finishOf g (markingAtPlace wide table p)
   found-at m f here e = e ∙ ap (finishOf g) here
+
+pub found-on : (events : Set) (r : Relations) (m m′ : Marking) (f : Finished) → m ≡ m′ → f ≡ finishOn events r m → f ≡ finishOn events r m′
+found-on events r m m′ f same e = e ∙ ap (finishOn events r) same
 
 module _ (g : Graph) where
   abbrev form : Bool

@@ -11,3 +11,4 @@ pub use requests::open;
 pub use requests::step;
 pub use requests::step_on;
 pub use way::finish;
+pub use way::finish_on;

@@ -20,11 +20,15 @@ use Rattle.sets.proofs.Below.{some-i, some-e, least-ext, least-le, least-is, le
 use Rattle.sets.proofs.MadeSets.{is-those, less}
 use Rattle.sets.proofs.Loops.{nearer}
 use Rattle.engine.specs.declared.marking.State.{State}
-use Rattle.engine.specs.Relations.{Relations}
+use Rattle.engine.specs.declared.marking.Marking.{Marking}
+use Rattle.engine.specs.declared.graph.Graph.{Graph}
+use Rattle.engine.specs.Relations.{Relations, relationsOf}
+use Rattle.engine.specs.Judged.{judged, judgedWith, judgedBeside}
+use Rattle.engine.proofs.Acceptable.{beside-judged}
 use Rattle.engine.specs.Steps.{enabled, after, accepting}
 use Rattle.finish.specs.declared.search.Found.{Found}
 use Rattle.finish.specs.declared.search.Finished.{Finished}
-use Rattle.finish.specs.Ways.{mostSteps, canFinish, begins, wayOf, fewest, inFour, finishedBy, shortestOf}
+use Rattle.finish.specs.Ways.{mostSteps, canFinish, begins, wayOf, fewest, inFour, finishedBy, shortestOf, finishAfter, finishOf, finishOn}
 use Rattle.finish.specs.Parts.{settlersOf, candidatesOf, openFrom, foundOf, aheadOf}
 use Rattle.finish.proofs.Settling.{tried-all}
 
@@ -258,6 +262,19 @@ module _ (x a : Answer) (r : Bool) (h : a ≡ x) (k : r ≡ isDone a) where
 
   pub finish-done : (F G : Finished) → not r ≡ false → G ≡ F → G ≡ when isDone x then F else finishedBy x []
   finish-done F G t e = taken (isDone x) F _ G (held (isDone x) r (k ∙ ap isDone h) t) e
+
+module _ (m : Marking) (a : Answer) (f : Finished) where
+  pub finish-judged : (g : Graph) → a ≡ judgedWith g m → f ≡ finishAfter a (g .head .events) (relationsOf g) (m .state) → f ≡ finishOf g m
+  unfolding finishOf
+  finish-judged g h e = e ∙ ap (λ (x : Answer). finishAfter x (g .head .events) (relationsOf g) (m .state)) h
+
+  pub finish-beside : (events : Set) (r : Relations) → a ≡ judgedBeside events r m → f ≡ finishAfter a events r (m .state) → f ≡ finishOn events r m
+  unfolding finishOn
+  finish-beside events r h e = e ∙ ap (λ (x : Answer). finishAfter x events r (m .state)) h
+
+-- on a graph that was judged before, the same with the marking judged alone
+pub finish-on : (g : Graph) → judged g ≡ Done → (m : Marking) → finishOf g m ≡ finishOn (g .head .events) (relationsOf g) m
+finish-on g h m = finish-beside m (judgedWith g m) (finishOf g m) (g .head .events) (relationsOf g) (beside-judged g h m) (unfold finishOf in refl)
 
 pub ruleset opening = (open-start, open-found, open-turn, open-none, nearer)
 

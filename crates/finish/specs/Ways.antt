@@ -16,7 +16,7 @@ use Rattle.engine.specs.declared.marking.Marking.{Marking}
 use Rattle.engine.specs.declared.graph.Graph.{Graph}
 use Rattle.engine.specs.Relations.{Relations, relationsOf}
 use Rattle.engine.specs.Steps.{enabled, after, accepting}
-use Rattle.engine.specs.Judged.{judgedWith}
+use Rattle.engine.specs.Judged.{judgedWith, judgedBeside}
 use Rattle.finish.specs.declared.search.Way.{Way}
 use Rattle.finish.specs.declared.search.Finished.{Finished}
 
@@ -62,8 +62,14 @@ shortestOf events r m =
     when ltb mostSteps (fewest events r m) then finishedBy NoWayOut []
     else finishedBy Done (wayOf events r (fewest events r m) m)
 
--- 3, 5 and 16 of the graph and of the marking come first (02, 8/12: "3, 5 and 16 come first"); a refusal returns four 255s
+-- what was judged comes first; a refusal returns four 255s
+abbrev pub finishAfter : Answer → Set → Relations → State → Finished
+finishAfter judged events r m = when isDone judged then shortestOf events r m else finishedBy judged []
+
+-- 3, 5 and 16 of the graph and of the marking (02, 8/12: "3, 5 and 16 come first")
 unfoldable pub finishOf : Graph → Marking → Finished
-finishOf g m =
-    when isDone (judgedWith g m) then shortestOf (g .head .events) (relationsOf g) (m .state)
-    else finishedBy (judgedWith g m) []
+finishOf g m = finishAfter (judgedWith g m) (g .head .events) (relationsOf g) (m .state)
+
+-- on a graph that was judged before: 5 and 16 of the marking
+unfoldable pub finishOn : Set → Relations → Marking → Finished
+finishOn events r m = finishAfter (judgedBeside events r m) events r (m .state)

@@ -3,7 +3,7 @@
 ghost use mathlib.Core.Path.{_≡_};
 ghost use Rattle.engine.specs.Relations.{graphOf, inTables};
 ghost use Rattle.sets.specs.Members.{width, leastBelow};
-ghost use Rattle.finish.specs.Ways.{shortestOf, finishOf};
+ghost use Rattle.finish.specs.Ways.{shortestOf, finishAfter, finishOf, finishOn};
 ghost use Rattle.finish.specs.Parts.{settlersOf, openFrom, aheadOf, foundOf};
 use crate::settle;
 use engine::Graph;
@@ -151,20 +151,35 @@ fn shortest<'a>(events: Set, relations: &'a Relations, settlers: &'a Rows, s: St
     }
 }
 
-// The way out on lent relations from any marking: the refusals of the graph and of the marking, then 17 where there is none. The search
-// goes by the state; no step on the way needs a set of enabled activities (02, 6/12).
-pub fn way_out(head: Head, relations: &Relations, m: Marking) -> Finished
-    ensures { λ r. ⌜ r ≡ finishOf (graphOf head (now (relations .entry))) m ⌝ }
+// The way out where what was judged before it is done, then 17 where there is none. The search goes by the state; no step on the way needs a
+// set of enabled activities (02, 6/12).
+fn way_after(judged: Answer, events: Set, relations: &Relations, s: State) -> Finished
+    ensures { λ r. ⌜ r ≡ finishAfter judged events (inTables (now (relations .entry))) s ⌝ }
 {
-    let answer = judge::judge_beside(head, relations, m);
-    if !answer.is_done() {
+    if !judged.is_done() {
         return Finished {
-            answer,
+            answer: judged,
             way: Way::NONE,
         };
     }
-    let settlers = settle::settlers(head.events, relations);
-    shortest(head.events, relations, &settlers, m.state)
+    let settlers = settle::settlers(events, relations);
+    shortest(events, relations, &settlers, s)
+}
+
+// The way out on lent relations from any marking: the refusals of the graph and of the marking come first.
+pub fn way_out(head: Head, relations: &Relations, m: Marking) -> Finished
+    ensures { λ r. ⌜ r ≡ finishOf (graphOf head (now (relations .entry))) m ⌝ }
+{
+    let judged = judge::judge_beside(head, relations, m);
+    way_after(judged, head.events, relations, m.state)
+}
+
+// The same on a graph that was judged before, as one from a file is.
+pub fn way_out_on(events: Set, relations: &Relations, m: Marking) -> Finished
+    ensures { λ r. ⌜ r ≡ finishOn events (inTables (now (relations .entry))) m ⌝ }
+{
+    let judged = judge::judge_marking(events, relations, m);
+    way_after(judged, events, relations, m.state)
 }
 
 // The same on a graph by value.

@@ -26,7 +26,7 @@ use Rattle.graphfile.specs.declared.reader.Reading.{Reading}
 use Rattle.graphfile.specs.declared.reader.Bare.{Bare}
 use Rattle.graphfile.specs.Layout.{wideIn, eventsPlace, headLength, eventsIn, stateIn, headIn, countIn, earlierRows, keyIn, rowIn}
 use Rattle.graphfile.specs.Refusals.{rises, rowAnswer, judgedRow, judgedBeforeRows, judgedRelation, judgedFile}
-use Rattle.graphfile.specs.Held.{filled, withRelation, relationsIn, graphIn, readOf, bareOf}
+use Rattle.graphfile.specs.Held.{filled, withRelation, withRelations, relationsIn, graphIn, readOf, bareOf, bareTables}
 use Rattle.graphfile.proofs.Judging.{row-judged}
 use Rattle.graphfile.proofs.Accepted.{accepted}
 
@@ -86,23 +86,23 @@ relation-taken bytes held tables r first count a e f h g =
 
 -- ---- relation by relation
 
-module _ (bytes : List ℕ) where
-  pub tables-none : (held : List ℕ) → held ≡ noTables relationCount → held ≡ relationsIn bytes 0
-  unfolding relationsIn
-  tables-none held h = h
+module _ (bytes tables : List ℕ) where
+  pub tables-none : tables ≡ withRelations bytes tables 0
+  unfolding withRelations
+  tables-none = refl
 
-  module _ (held : List ℕ) (r : ℕ) (h : held ≡ relationsIn bytes r) where
+  module _ (held : List ℕ) (r : ℕ) (h : held ≡ withRelations bytes tables r) where
     pub tables-turn : (held′ : List ℕ) (a : Answer) (d : Bool) → (a ≡ Done → held′ ≡ withRelation bytes held r) → d ≡ isDone a
         → not d ≡ false
-        → held′ ≡ relationsIn bytes (r + 1)
-    unfolding relationsIn
+        → held′ ≡ withRelations bytes tables (r + 1)
+    unfolding withRelations
     tables-turn held′ a d g t n =
         g (gone-on a a d refl t n)
         ∙ ap (λ (x : List ℕ). withRelation bytes x r) h
-        ∙ ap (relationsIn bytes) (sym (add-one r))
+        ∙ ap (withRelations bytes tables) (sym (add-one r))
 
-    pub tables-all : r ≤ relationCount → relationCount ≤ r → Done ≡ Done → held ≡ relationsIn bytes relationCount
-    tables-all l g q = let same : r ≡ relationCount = omega arith in h ∙ ap (relationsIn bytes) same
+    pub tables-all : r ≤ relationCount → relationCount ≤ r → Done ≡ Done → held ≡ withRelations bytes tables relationCount
+    tables-all l g q = let same : r ≡ relationCount = omega arith in h ∙ ap (withRelations bytes tables) same
 
 -- where a relation is refused, nothing is said of the tables
 pub nothing-due : (a : Answer) (d : Bool) → d ≡ isDone a → not d ≡ true → {P : Type 0} → a ≡ Done → P
@@ -144,34 +144,38 @@ module _ (bytes : List ℕ) (a : Answer) (d : Bool) (e : a ≡ judgedFile bytes)
   read-taken head tables y hh ht = let done = done-is a (sym t ∙ y) in reading true _ y ((λ k. graphOf (hh k) tables) ∙ λ k. graphOf (headIn bytes (ht done k)) (ht done k))
 
   -- the same without the set
-  bare : (b : Bool) (events : Set) (s : State) (tables : List ℕ) → d ≡ b → events ≡ (when b then eventsIn bytes else noSet)
-      → s ≡ (when b then stateIn bytes else emptyState) → tables ≡ (when b then relationsIn bytes relationCount else noTables relationCount)
-      → _≡_ {A = Bare} (record { answer = a; events = events; state = s; relations = tables }) (bareOf bytes)
+  bare : (b : Bool) (events : Set) (s : State) → d ≡ b → events ≡ (when b then eventsIn bytes else noSet)
+      → s ≡ (when b then stateIn bytes else emptyState) → _≡_ {A = Bare} (record { answer = a; events = events; state = s }) (bareOf bytes)
   unfolding bareOf
-  bare b events s tables q he hs ht =
+  bare b events s q he hs =
       let said : isDone (judgedFile bytes) ≡ b = ap isDone (sym e) ∙ sym t ∙ q in
       λ i.
       record {
         answer = e i;
         events = (he ∙ ap (λ (y : Bool). when y then eventsIn bytes else noSet) (sym said)) i;
         state = (hs ∙ ap (λ (y : Bool). when y then stateIn bytes else emptyState) (sym said)) i;
-        relations = (ht ∙ ap (λ (y : Bool). when y then relationsIn bytes relationCount else noTables relationCount) (sym said)) i;
       }
 
-  pub bare-refused : (tables : List ℕ) → d ≡ false → tables ≡ noTables relationCount
-      → _≡_ {A = Bare} (record { answer = a; events = noSet; state = emptyState; relations = tables }) (bareOf bytes)
-  bare-refused tables n h = bare false noSet emptyState tables n refl refl h
+  held : (b : Bool) (tables tables′ : List ℕ) → d ≡ b → tables′ ≡ (when b then withRelations bytes tables relationCount else noTables relationCount)
+      → tables′ ≡ bareTables bytes tables
+  unfolding bareTables
+  held b tables tables′ q h =
+      let said : isDone (judgedFile bytes) ≡ b = ap isDone (sym e) ∙ sym t ∙ q in
+      h ∙ ap (λ (y : Bool). when y then withRelations bytes tables relationCount else noTables relationCount) (sym said)
 
-  pub bare-taken : (events : Set) (s : State) (tables : List ℕ) → d ≡ true → events ≡ eventsIn bytes → s ≡ stateIn bytes
-      → (a ≡ Done → tables ≡ relationsIn bytes relationCount)
-      → _≡_ {A = Bare} (record { answer = a; events = events; state = s; relations = tables }) (bareOf bytes)
-  bare-taken events s tables y he hs ht = bare true events s tables y he hs (ht (done-is a (sym t ∙ y)))
+  pub bare-refused : d ≡ false → _≡_ {A = Bare} (record { answer = a; events = noSet; state = emptyState }) (bareOf bytes)
+  bare-refused n = bare false noSet emptyState n refl refl
+
+  pub bare-cleared : (tables tables′ : List ℕ) → d ≡ false → tables′ ≡ noTables relationCount → tables′ ≡ bareTables bytes tables
+  bare-cleared tables tables′ n h = held false tables tables′ n h
+
+  pub bare-filled : (tables tables′ : List ℕ) → d ≡ true → (a ≡ Done → tables′ ≡ withRelations bytes tables relationCount) → tables′ ≡ bareTables bytes tables
+  bare-filled tables tables′ y h = held true tables tables′ y (h (done-is a (sym t ∙ y)))
 
   -- as the code finds them, by the form
-  pub bare-found : (w : Bool) (events : Set) (s : State) (tables : List ℕ) → w ≡ wideIn bytes → d ≡ true → events ≡ setAt w bytes eventsPlace
-      → (w ≡ wideIn bytes → s ≡ stateIn bytes) → (a ≡ Done → tables ≡ relationsIn bytes relationCount)
-      → _≡_ {A = Bare} (record { answer = a; events = events; state = s; relations = tables }) (bareOf bytes)
-  bare-found w events s tables hw y he hs ht = bare-taken events s tables y (he ∙ ap (λ (b : Bool). setAt b bytes eventsPlace) hw) (hs hw) ht
+  pub bare-found : (w : Bool) (events : Set) (s : State) → w ≡ wideIn bytes → d ≡ true → events ≡ setAt w bytes eventsPlace
+      → (w ≡ wideIn bytes → s ≡ stateIn bytes) → _≡_ {A = Bare} (record { answer = a; events = events; state = s }) (bareOf bytes)
+  bare-found w events s hw y he hs = bare true events s y (he ∙ ap (λ (b : Bool). setAt b bytes eventsPlace) hw) (hs hw)
 
   pub read-room : (w : Bool) → w ≡ wideIn bytes → d ≡ true → headLength w ≤ length bytes
   read-room w hw y = subst (λ (b : Bool). headLength b ≤ length bytes) (sym hw) (read-long y)

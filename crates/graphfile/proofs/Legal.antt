@@ -22,7 +22,7 @@ use Rattle.engine.specs.Judged.{rowWithin}
 use Rattle.engine.specs.Relations.{relationCount}
 use Rattle.graphfile.specs.Layout.{eventsIn, countIn, earlierRows, keyIn, rowIn}
 use Rattle.graphfile.specs.Refusals.{rises, rowAnswer, judgedRow}
-use Rattle.graphfile.specs.Held.{filled, relationsIn}
+use Rattle.graphfile.specs.Held.{filled, withRelations, relationsIn}
 use Rattle.sets.proofs.Asking.{went}
 
 -- ---- n rows of the file from row k on, with rising keys from a on
@@ -129,21 +129,21 @@ unfoldable pub relationIn : List ℕ → ℕ → List ℕ
 relationIn bytes r = rowsFilled bytes noRows (countIn bytes r) (earlierRows bytes r)
 
 pub length-relationsIn : (bytes : List ℕ) (n : ℕ) → length (relationsIn bytes n) ≡ relationCount * rowWords
-unfolding relationsIn
+unfolding withRelations
 length-relationsIn bytes zero = length-replicate {A = ℕ} (relationCount * rowWords) 0
 length-relationsIn bytes (suc n) =
     length-filled bytes n (countIn bytes n) (earlierRows bytes n) (relationsIn bytes n) ∙ length-relationsIn bytes n
 
 -- a relation that is not read yet has no rows
 not-yet : (bytes : List ℕ) (n r : ℕ) → n ≤ r → r < relationCount → tableAt (relationsIn bytes n) r ≡ noRows
-unfolding relationsIn
+unfolding withRelations
 not-yet bytes zero r h l = table-none relationCount r l
 not-yet bytes (suc n) r h l =
     other-filled bytes n (countIn bytes n) (earlierRows bytes n) (relationsIn bytes n) r (λ e. omega arith)
     ∙ not-yet bytes n r (omega arith) l
 
 pub table-read : (bytes : List ℕ) (n r : ℕ) → r < n → n ≤ relationCount → tableAt (relationsIn bytes n) r ≡ relationIn bytes r
-unfolding relationsIn relationIn
+unfolding withRelations relationIn
 table-read bytes zero r h l = absurd (not-suc-le-zero h)
 table-read bytes (suc n) r h l =
     either (split (ltb r n))

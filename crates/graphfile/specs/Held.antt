@@ -23,24 +23,31 @@ filled bytes tables r (suc n) k = filled bytes (withRowIn tables r (keyIn bytes 
 abbrev pub withRelation : List ℕ → List ℕ → ℕ → List ℕ
 withRelation bytes tables r = filled bytes tables r (countIn bytes r) (earlierRows bytes r)
 
--- the tables, where the relations before r have their rows; all four where r is 4
-unfoldable pub relationsIn : List ℕ → ℕ → List ℕ
-relationsIn bytes zero = noTables relationCount
-relationsIn bytes (suc r) = withRelation bytes (relationsIn bytes r) r
+-- the tables, where the relations before r have their rows too; all four where r is 4
+unfoldable pub withRelations : List ℕ → List ℕ → ℕ → List ℕ
+withRelations bytes tables zero = tables
+withRelations bytes tables (suc r) = withRelation bytes (withRelations bytes tables r) r
+
+-- the relations before r by themselves
+abbrev pub relationsIn : List ℕ → ℕ → List ℕ
+relationsIn bytes r = withRelations bytes (noTables relationCount) r
 
 -- the graph of an accepted file, whose enabled activities follow from the rest (02, 6/12: "The graph file doesn't store it")
 unfoldable pub graphIn : List ℕ → Graph
 graphIn bytes = graphAt (activitiesIn bytes) (eventsIn bytes) (stateIn bytes) (relationsIn bytes relationCount)
 
--- a read without the set: the file's answer, and what it holds; nothing where refused
+-- a read without the set: the file's answer, its events and its state; nothing of them where refused
 unfoldable pub bareOf : List ℕ → Bare
 bareOf bytes =
     record {
       answer = judgedFile bytes;
       events = when isDone (judgedFile bytes) then eventsIn bytes else noSet;
       state = when isDone (judgedFile bytes) then stateIn bytes else emptyState;
-      relations = when isDone (judgedFile bytes) then relationsIn bytes relationCount else noTables relationCount;
     }
+
+-- the tables lent to it: the file's rows put into them; nothing where refused
+unfoldable pub bareTables : List ℕ → List ℕ → List ℕ
+bareTables bytes tables = when isDone (judgedFile bytes) then withRelations bytes tables relationCount else noTables relationCount
 
 -- a read: the file's answer, and its graph; the empty graph where refused (01, "Nothing else")
 unfoldable pub readOf : List ℕ → Reading

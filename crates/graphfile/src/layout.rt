@@ -178,17 +178,19 @@ pub(crate) fn earlier_rows(bytes: &[u8], r: usize) -> usize
     rows
 }
 
-pub(crate) fn key_in(bytes: &[u8], k: usize) -> u8
+// The key and the set of row k. The form is handed over, so that whoever goes from row to row asks for it once.
+pub(crate) fn key_in(bytes: &[u8], k: usize, wide: bool) -> u8
+    requires { ⌜ wide ≡ wideIn (now bytes) ⌝ }
     requires { ⌜ (k ≤ 65536 * relationCount) × (rowPlace (now bytes) k < length (now bytes)) ⌝ }
     ensures { λ r. ⌜ r ≡ keyIn (now (bytes .entry)) k ⌝ }
 {
-    bytes[row_place(is_wide(bytes), k)]
+    bytes[row_place(wide, k)]
 }
 
-pub(crate) fn row_in(bytes: &[u8], k: usize) -> Set
+pub(crate) fn row_in(bytes: &[u8], k: usize, wide: bool) -> Set
+    requires { ⌜ wide ≡ wideIn (now bytes) ⌝ }
     requires { ⌜ (k < 65536 * relationCount) × (rowPlace (now bytes) (suc k) ≤ length (now bytes)) ⌝ }
     ensures { λ r. ⌜ r ≡ rowIn (now (bytes .entry)) k ⌝ }
 {
-    let wide = is_wide(bytes);
     set_at(bytes, row_place(wide, k) + 1, wide)
 }

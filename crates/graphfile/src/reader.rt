@@ -2,13 +2,12 @@
 ghost use mathlib.Core.Path.{_≡_};
 ghost use Prim.Native.Nat.{_+_, _*_, _≤_, _<_};
 ghost use lib.ListN.{length};
-ghost use Rattle.sets.specs.Tables.{noTables};
 ghost use Rattle.sets.specs.Answers.{firstRefusal};
 ghost use Rattle.sets.specs.declared.answer.Answer.the-variants.{Done};
 ghost use Rattle.engine.specs.Relations.{relationCount};
 ghost use Rattle.graphfile.specs.Layout.{rowPlace, endOf};
 ghost use Rattle.graphfile.specs.Refusals.{judgedRow, judgedRelation, judgedFile};
-ghost use Rattle.graphfile.specs.Held.{filled, withRelation, relationsIn, bareOf, readOf};
+ghost use Rattle.graphfile.specs.Held.{filled, withRelation, withRelations, bareOf, bareTables, readOf};
 use crate::layout;
 use crate::refusal;
 use bytes::set_at;
@@ -35,12 +34,13 @@ fn take_rows(bytes: &[u8], r: u8, count: usize, first: usize, held: &mut Relatio
     ensures { λ a. ⌜ a ≡ firstRefusal count (judgedRow (now (bytes .entry)) first) ⌝ }
     ensures { λ a. ⌜ (a ≡ Done → now (held .exit) ≡ filled (now (bytes .entry)) (now (held .entry)) r count first) ⌝ }
 {
-    let events = set_at(bytes, layout::EVENTS, layout::is_wide(bytes));
+    let wide = layout::is_wide(bytes);
+    let events = set_at(bytes, layout::EVENTS, wide);
     let mut j = 0;
     while j < count {
-        let key = Activity(layout::key_in(bytes, first + j));
-        let row = layout::row_in(bytes, first + j);
-        let above = refusal::key_rises(bytes, first, j);
+        let key = Activity(layout::key_in(bytes, first + j, wide));
+        let row = layout::row_in(bytes, first + j, wide);
+        let above = refusal::key_rises(bytes, first, j, wide);
         let answer = refusal::judge_row(events, key, row, above);
         if !answer.is_done() {
             return answer;
@@ -62,11 +62,11 @@ fn take_relation(bytes: &[u8], r: u8, held: &mut Relations) -> Answer
     take_rows(bytes, r, count, first, held)
 }
 
-// The four relations in turn, into empty tables.
+// The four relations in turn.
 fn take_relations(bytes: &[u8], held: &mut Relations) -> Answer
-    requires { ⌜ (endOf (now bytes) ≤ length (now bytes)) × (now held ≡ noTables relationCount) ⌝ }
+    requires { ⌜ endOf (now bytes) ≤ length (now bytes) ⌝ }
     ensures { λ a. ⌜ a ≡ firstRefusal relationCount (judgedRelation (now (bytes .entry))) ⌝ }
-    ensures { λ a. ⌜ (a ≡ Done → now (held .exit) ≡ relationsIn (now (bytes .entry)) relationCount) ⌝ }
+    ensures { λ a. ⌜ (a ≡ Done → now (held .exit) ≡ withRelations (now (bytes .entry)) (now (held .entry)) relationCount) ⌝ }
 {
     let mut r: u8 = 0;
     while r < KINDS {
@@ -81,9 +81,8 @@ fn take_relations(bytes: &[u8], held: &mut Relations) -> Answer
 
 // All of a file: its answer, and the relations' tables; of a refused file they are of no use.
 fn take(bytes: &[u8], held: &mut Relations) -> Answer
-    requires { ⌜ now held ≡ noTables relationCount ⌝ }
     ensures { λ a. ⌜ a ≡ judgedFile (now (bytes .entry)) ⌝ }
-    ensures { λ a. ⌜ (a ≡ Done → now (held .exit) ≡ relationsIn (now (bytes .entry)) relationCount) ⌝ }
+    ensures { λ a. ⌜ (a ≡ Done → now (held .exit) ≡ withRelations (now (bytes .entry)) (now (held .entry)) relationCount) ⌝ }
 {
     let answer = refusal::judge_before_rows(bytes);
     if !answer.is_done() {
@@ -92,34 +91,33 @@ fn take(bytes: &[u8], held: &mut Relations) -> Answer
     take_relations(bytes, held)
 }
 
-// What a read without the set of enabled activities gives: for callers that hand no marking on. Of a refused file nothing.
+// What a read without the set of enabled activities gives, beside the relations: for callers that hand no marking on. Of a refused file nothing.
 pub struct Bare {
     pub answer: Answer,
     pub events: Set,
     pub state: State,
-    pub relations: Relations,
 }
 
-// Reads a graph file and works no set out, which takes longer than the reading (02, 6/12).
-pub fn read_bare(bytes: &[u8]) -> Bare
+// Reads a graph file and works no set out, which takes longer than the reading (02, 6/12). The rows go into lent tables, which a caller lends empty: given
+// back by value they would be copied. A refused file's are cleared.
+pub fn read_bare(bytes: &[u8], relations: &mut Relations) -> Bare
     ensures { λ r. ⌜ r ≡ bareOf (now (bytes .entry)) ⌝ }
+    ensures { λ _. ⌜ now (relations .exit) ≡ bareTables (now (bytes .entry)) (now (relations .entry)) ⌝ }
 {
-    let mut relations: Relations = [0; KINDS as usize * WORDS];
     let mut events = Set::EMPTY;
     let mut state = State::EMPTY;
-    let answer = take(bytes, &mut relations);
+    let answer = take(bytes, relations);
     if answer.is_done() {
         let wide = layout::is_wide(bytes);
         events = set_at(bytes, layout::EVENTS, wide);
         state = layout::state_in(bytes, wide);
     } else {
-        relations = [0; KINDS as usize * WORDS];
+        *relations = [0; KINDS as usize * WORDS];
     }
     Bare {
         answer,
         events,
         state,
-        relations,
     }
 }
 

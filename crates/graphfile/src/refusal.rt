@@ -101,15 +101,16 @@ fn judge_end(bytes: &[u8]) -> Answer
 }
 
 // Whether a relation's row j has a key above the one before; the first row has none before it.
-pub(crate) fn key_rises(bytes: &[u8], first: usize, j: usize) -> bool
+pub(crate) fn key_rises(bytes: &[u8], first: usize, j: usize, wide: bool) -> bool
+    requires { ⌜ wide ≡ wideIn (now bytes) ⌝ }
     requires { ⌜ (first + j ≤ 65536 * relationCount) × (rowPlace (now bytes) (first + j) < length (now bytes)) ⌝ }
     ensures { λ r. ⌜ r ≡ rises (now (bytes .entry)) first j ⌝ }
 {
     if j == 0 {
         return true;
     }
-    let before = layout::key_in(bytes, first + j - 1);
-    before < layout::key_in(bytes, first + j)
+    let before = layout::key_in(bytes, first + j - 1, wide);
+    before < layout::key_in(bytes, first + j, wide)
 }
 
 // A row, by its key and its set: 5, then 6.

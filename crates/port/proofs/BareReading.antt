@@ -18,7 +18,7 @@ use Rattle.engine.specs.Relations.{Relations, relationCount, inTables, relation
 use Rattle.engine.specs.Judged.{judged}
 use Rattle.graphfile.specs.Refusals.{judgedFile}
 use Rattle.graphfile.specs.Layout.{wideIn, wideFor, eventsIn, stateIn}
-use Rattle.graphfile.specs.Held.{relationsIn, graphIn, bareOf, readOf}
+use Rattle.graphfile.specs.Held.{relationsIn, graphIn, bareOf, bareTables, readOf}
 use Rattle.graphfile.specs.declared.reader.Bare.{Bare}
 use Rattle.bytes.proofs.Codec.{Bytes}
 use Rattle.graphfile.proofs.RoundTrips.{file-graph}
@@ -59,24 +59,34 @@ module _ (file : List ℕ) (r : Bare) (hr : r ≡ bareOf file) where
           ∙ ap (λ (a : Answer). when isDone a then stateIn file else emptyState) accepted
           ∙ sym (ap (λ (a : Answer). graphBy a .head .opening .state) accepted)
 
-      pub bare-relations : r .relations ≡ readOf file .graph .relations
-      unfolding readOf bareOf graphIn
-      bare-relations =
-          ap (λ (x : Bare). x .relations) hr
-          ∙ ap (λ (a : Answer). when isDone a then relationsIn file relationCount else noTables relationCount) accepted
-          ∙ sym (ap (λ (a : Answer). graphBy a .relations) accepted)
-
       -- its form is that of its graph
-      pub read-form : wideIn file ≡ wideFor (readOf file .graph .head .activities)
+      read-form : wideIn file ≡ wideFor (readOf file .graph .head .activities)
       unfolding readOf graphIn
       read-form =
           ap (λ (n : ℕ). eqb n wideEdition) (head-done file (parts file accepted .head) .edition)
           ∙ sym (ap (λ (a : Answer). wideFor (graphBy a .head .activities)) accepted)
 
-      -- so what is said of the events and relations read is said of the graph's
-      pub bare-graph : {A : Type 0} (F : Set → Relations → A)
-          → F (r .events) (inTables (r .relations)) ≡ F (readOf file .graph .head .events) (relationsOf (readOf file .graph))
-      bare-graph F j = F (bare-events j) (inTables (bare-relations j))
+      -- into tables that were lent empty
+      module _ (tables : List ℕ) (ht : tables ≡ bareTables file (noTables relationCount)) where
+        pub bare-relations : tables ≡ readOf file .graph .relations
+        unfolding readOf bareTables graphIn
+        bare-relations =
+            ht
+            ∙ ap (λ (a : Answer). when isDone a then relationsIn file relationCount else noTables relationCount) accepted
+            ∙ sym (ap (λ (a : Answer). graphBy a .relations) accepted)
+
+        -- so what is said of the events and relations read is said of the graph's
+        pub bare-graph : {A : Type 0} (F : Set → Relations → A)
+            → F (r .events) (inTables tables) ≡ F (readOf file .graph .head .events) (relationsOf (readOf file .graph))
+        bare-graph F j = F (bare-events j) (inTables (bare-relations j))
+
+        -- and what is said of them in the file's form, in the graph's
+        pub bare-formed : {A : Type 0} (F : Bool → Set → Relations → A) (w : Bool) → w ≡ wideIn file
+            → F w (r .events) (inTables tables)
+            ≡ F (wideFor (readOf file .graph .head .activities)) (readOf file .graph .head .events) (relationsOf (readOf file .graph))
+        bare-formed F w hw =
+            ap (λ (v : Bool). F v (r .events) (inTables tables)) (hw ∙ read-form)
+            ∙ bare-graph (F (wideFor (readOf file .graph .head .activities)))
 
       pub read-judged : Bytes file → judged (readOf file .graph) ≡ Done
       unfolding readOf

@@ -12,23 +12,23 @@ use Rattle.sets.specs.declared.answer.Answer.{Answer}
 use Rattle.sets.specs.declared.answer.Answer.the-variants.{Done, BufferTooSmall}
 use Rattle.sets.proofs.Asking.{ask-on, ask-stop, done-is}
 use Rattle.sets.proofs.Ways.{taken, passed-by}
-use Rattle.sets.specs.declared.set.Set.{Set}
-use Rattle.engine.specs.Relations.{Relations, inTables, relationsOf}
+use Rattle.sets.specs.Tables.{noTables}
+use Rattle.engine.specs.Relations.{relationCount, inTables}
 use Rattle.engine.specs.Judged.{judged}
 use Rattle.graphfile.specs.Layout.{wideIn}
-use Rattle.graphfile.specs.Held.{bareOf, readOf}
+use Rattle.graphfile.specs.Held.{bareOf, bareTables, readOf}
 use Rattle.graphfile.specs.declared.reader.Reading.{Reading}
 use Rattle.graphfile.specs.declared.reader.Bare.{Bare}
 use Rattle.bytes.proofs.Codec.{Bytes}
 use Rattle.desk.specs.Places.{tableLength}
-use Rattle.desk.specs.Desk.{formOf, placeAnswer, noPlace, openedOf, tableOpened, stepAnswer, tableStepped, closeAnswer, tableClosed}
+use Rattle.desk.specs.Desk.{placeAnswer, noPlace, openedOf, tableOpened, stepAnswer, tableStepped, closeAnswer, tableClosed}
 use Rattle.desk.specs.Desk.{stepAnswerOn, tableSteppedOn, closeAnswerOn, tableClosedOn}
 use Rattle.desk.proofs.JudgedBefore.{step-answer-on, step-table-on, close-answer-on, close-table-on}
 use Rattle.desk.specs.declared.requests.Opened.{Opened}
 use Rattle.port.specs.Port.{packedOf, blockedOf}
 use Rattle.port.specs.Desk.{beforeOpen, beforePlace, refusedOpen, deskOpenedOf, deskOpenNumber, deskOpenTable}
 use Rattle.port.specs.Desk.{deskStepNumber, deskStepTable, deskCloseNumber, deskCloseTable}
-use Rattle.port.proofs.BareReading.{bare-answer, bare-graph, read-judged, read-form}
+use Rattle.port.proofs.BareReading.{bare-answer, bare-formed, read-judged}
 use Rattle.port.proofs.Lending.{short-of, room-for}
 
 -- ---- x is what is asked before there is a graph: refused with a, or done
@@ -195,7 +195,7 @@ module _ (file table : List ℕ) (p : ℕ) where
 -- the graph of a file that was read, and judged by reading it
 module _ (file : List ℕ) (small : Bytes file) (table : List ℕ) (p : ℕ) (w : Bool) (hw : w ≡ wideIn file) (b : Answer) (d : Bool)
     (told : b ≡ placeAnswer w table p) (hd : d ≡ isDone b) (t : not d ≡ false) (r : Bare) (f : Bool) (hr : r ≡ bareOf file)
-    (hf : f ≡ isDone (r .answer)) (u : not f ≡ false) where
+    (hf : f ≡ isDone (r .answer)) (u : not f ≡ false) (tables : List ℕ) (ht : tables ≡ bareTables file (noTables relationCount)) where
   there : isDone (beforePlace file table p) ≡ true
   there = asked file table p w hw b d told hd t (r .answer) f (bare-answer file r hr) hf u
 
@@ -205,44 +205,37 @@ module _ (file : List ℕ) (small : Bytes file) (table : List ℕ) (p : ℕ) (w 
   accepted : judged (readOf file .graph) ≡ Done
   accepted = read-judged file r hr f hf u small
 
-  -- what is said of what was read, in the file's form, is said of its graph
-  of-graph : {A : Type 0} (F : Bool → Set → Relations → A)
-      → F w (r .events) (inTables (r .relations)) ≡ F (formOf (readOf file .graph)) (readOf file .graph .head .events) (relationsOf (readOf file .graph))
-  of-graph F =
-      ap (λ (v : Bool). F v (r .events) (inTables (r .relations))) (hw ∙ read-form file r hr f hf u)
-      ∙ bare-graph file r hr f hf u (F (formOf (readOf file .graph)))
-
-  pub step-served : (e n : ℕ) (x : Answer) → x ≡ stepAnswerOn w (r .events) (inTables (r .relations)) table p e → n ≡ blockedOf x 0 false
+  pub step-served : (e n : ℕ) (x : Answer) → x ≡ stepAnswerOn w (r .events) (inTables tables) table p e → n ≡ blockedOf x 0 false
       → n ≡ deskStepNumber file table p e
   unfolding deskStepNumber
   step-served e n x q h =
       h
       ∙ ap (λ (y : Answer). blockedOf y 0 false)
-      (q ∙ of-graph (λ v E R. stepAnswerOn v E R table p e) ∙ sym (step-answer-on (readOf file .graph) accepted table p e)
+      (q ∙ bare-formed file r hr f hf u tables ht (λ v E R. stepAnswerOn v E R table p e) w hw ∙ sym (step-answer-on (readOf file .graph) accepted table p e)
       ∙ sym (on (stepAnswer (readOf file .graph) table p e)))
 
-  pub step-served-table : (e : ℕ) (table′ : List ℕ) → table′ ≡ tableSteppedOn w (r .events) (inTables (r .relations)) table p e
+  pub step-served-table : (e : ℕ) (table′ : List ℕ) → table′ ≡ tableSteppedOn w (r .events) (inTables tables) table p e
       → table′ ≡ deskStepTable file table p e
   unfolding deskStepTable
   step-served-table e table′ q =
       served (beforePlace file table p) there (tableStepped (readOf file .graph) table p e) table table′
-      (q ∙ of-graph (λ v E R. tableSteppedOn v E R table p e) ∙ sym (step-table-on (readOf file .graph) accepted table p e))
+      (q ∙ bare-formed file r hr f hf u tables ht (λ v E R. tableSteppedOn v E R table p e) w hw ∙ sym (step-table-on (readOf file .graph) accepted table p e))
 
-  pub close-served : (n : ℕ) (x : Answer) → x ≡ closeAnswerOn w (r .events) (inTables (r .relations)) table p → n ≡ packedOf x 0
+  pub close-served : (n : ℕ) (x : Answer) → x ≡ closeAnswerOn w (r .events) (inTables tables) table p → n ≡ packedOf x 0
       → n ≡ deskCloseNumber file table p
   unfolding deskCloseNumber
   close-served n x q h =
       h
       ∙ ap (λ (y : Answer). packedOf y 0)
-      (q ∙ of-graph (λ v E R. closeAnswerOn v E R table p) ∙ sym (close-answer-on (readOf file .graph) accepted table p)
+      (q ∙ bare-formed file r hr f hf u tables ht (λ v E R. closeAnswerOn v E R table p) w hw ∙ sym (close-answer-on (readOf file .graph) accepted table p)
       ∙ sym (on (closeAnswer (readOf file .graph) table p)))
 
-  pub close-served-table : (table′ : List ℕ) → table′ ≡ tableClosedOn w (r .events) (inTables (r .relations)) table p
+  pub close-served-table : (table′ : List ℕ) → table′ ≡ tableClosedOn w (r .events) (inTables tables) table p
       → table′ ≡ deskCloseTable file table p
   unfolding deskCloseTable
   close-served-table table′ q =
       served (beforePlace file table p) there (tableClosed (readOf file .graph) table p) table table′
-      (q ∙ of-graph (λ v E R. tableClosedOn v E R table p) ∙ sym (close-table-on (readOf file .graph) accepted table p))
+      (q ∙ bare-formed file r hr f hf u tables ht (λ v E R. tableClosedOn v E R table p) w hw ∙ sym (close-table-on (readOf file .graph) accepted table p))
 
 pub ruleset stepping-there = (step-no-place, step-no-place-table, step-no-file, step-no-file-table)
 

@@ -13,7 +13,8 @@ use Rattle.sets.specs.declared.answer.Answer.{Answer}
 use Rattle.sets.specs.declared.answer.Answer.the-variants.{Done, AboveLimit, BufferTooSmall, WrongArgument}
 use Rattle.sets.specs.Sizes.{longestTrace}
 use Rattle.sets.proofs.Asking.{done-is, ask-stop}
-use Rattle.engine.specs.Relations.{inTables, emptyGraph}
+use Rattle.sets.specs.Tables.{noTables}
+use Rattle.engine.specs.Relations.{relationCount, inTables, emptyGraph}
 use Rattle.engine.specs.Replay.{walkedOf, replayFrom, replayOf, steppedOf, steppedOn}
 use Rattle.engine.proofs.Acceptable.{stepped-on, replay-judged, replay-long, empty-judged}
 use Rattle.engine.specs.Judged.{judged}
@@ -22,7 +23,7 @@ use Rattle.engine.specs.declared.step.Stepped.{Stepped}
 use Rattle.engine.specs.declared.graph.Graph.{Graph}
 use Rattle.engine.specs.declared.replay.Replayed.{Replayed}
 use Rattle.engine.specs.declared.replay.Walked.{Walked}
-use Rattle.graphfile.specs.Held.{bareOf, readOf, graphIn}
+use Rattle.graphfile.specs.Held.{bareOf, bareTables, readOf, graphIn}
 use Rattle.bytes.proofs.Codec.{Bytes}
 use Rattle.graphfile.specs.Writing.{writtenOf, fileAfter, unjudgedOf, unjudgedAfter}
 use Rattle.graphfile.specs.Refusals.{judgedFile}
@@ -181,16 +182,17 @@ module _ (file trace : List ℕ) (r : Bare) (hr : r ≡ bareOf file) (d : Bool) 
       ∙ ap (λ (x : Replayed). said (walkedOf x)) (sym (replay-long (readOf file .graph) trace l))
       ∙ sym (ap shown (file-done file r hr d hd true (not-false d h)))
 
-  pub replay-run : (n : ℕ) (h : not d ≡ false) → Bytes file → length trace ≤ longestTrace → (p : Walked)
-      → p ≡ walkedOf (replayFrom (r .events) (inTables (r .relations)) (r .state) 0 trace) → n ≡ said p → n ≡ replayNumber file trace
+  pub replay-run : (n : ℕ) (h : not d ≡ false) → Bytes file → (tables : List ℕ) → tables ≡ bareTables file (noTables relationCount)
+      → length trace ≤ longestTrace → (p : Walked)
+      → p ≡ walkedOf (replayFrom (r .events) (inTables tables) (r .state) 0 trace) → n ≡ said p → n ≡ replayNumber file trace
   unfolding replayNumber
-  replay-run n h small l p hp e =
+  replay-run n h small tables ht l p hp e =
       e
       ∙ ap said
       (hp
       ∙ (λ j.
       walkedOf
-      (replayFrom (bare-events file r hr d hd h j) (inTables (bare-relations file r hr d hd h j)) (bare-state file r hr d hd h j) 0 trace))
+      (replayFrom (bare-events file r hr d hd h j) (inTables (bare-relations file r hr d hd h tables ht j)) (bare-state file r hr d hd h j) 0 trace))
       ∙ ap walkedOf (sym (replay-judged (readOf file .graph) (read-judged file r hr d hd h small) trace l)))
       ∙ sym (ap shown (file-done file r hr d hd true (not-false d h)))
 
@@ -222,14 +224,15 @@ module _ (file bytes : List ℕ) (a : ℕ) where
 
 -- reading has judged the graph
 pub step-taken : (file : List ℕ) → Bytes file → (bytes : List ℕ) (a : ℕ) (r : Bare) (d : Bool) → r ≡ bareOf file → d ≡ isDone (r .answer)
+    → (tables : List ℕ) → tables ≡ bareTables file (noTables relationCount)
     → (m : Marking) (s : Stepped) (room : ℕ) → not d ≡ false → room ≡ markingLength (wideIn file) → room ≤ length bytes
     → m ≡ markingFrom (wideIn file) bytes
-    → s ≡ steppedOn (r .events) (inTables (r .relations)) m a → s ≡ stepOf file bytes a
+    → s ≡ steppedOn (r .events) (inTables tables) m a → s ≡ stepOf file bytes a
 unfolding non
-step-taken file small bytes a r d hr hd m s room n e l hm hs =
+step-taken file small bytes a r d hr hd tables ht m s room n e l hm hs =
     hs
-    ∙ ap (λ (x : Marking). steppedOn (r .events) (inTables (r .relations)) x a) hm
-    ∙ bare-graph file r hr d hd n (λ E R. steppedOn E R (markingFrom (wideIn file) bytes) a)
+    ∙ ap (λ (x : Marking). steppedOn (r .events) (inTables tables) x a) hm
+    ∙ bare-graph file r hr d hd n tables ht (λ E R. steppedOn E R (markingFrom (wideIn file) bytes) a)
     ∙ sym (stepped-on (readOf file .graph) (read-judged file r hr d hd n small) (markingFrom (wideIn file) bytes) a)
     ∙ choice file bytes a r d hr hd true false (not-false d n) (sym (room-for (length bytes) room (markingLength (wideIn file)) e l))
 

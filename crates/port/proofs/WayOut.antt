@@ -11,22 +11,28 @@ use Rattle.sets.specs.Tests.{non, when_then_else_}
 use Rattle.sets.specs.Answers.{numberOf, isDone}
 use Rattle.sets.specs.declared.answer.Answer.{Answer}
 use Rattle.sets.specs.declared.answer.Answer.the-variants.{BufferTooSmall}
-use Rattle.engine.specs.Relations.{relationsOf}
+use Rattle.sets.specs.Tables.{noTables}
+use Rattle.engine.specs.Relations.{relationCount, inTables, relationsOf}
 use Rattle.engine.specs.declared.marking.Marking.{Marking}
 use Rattle.graphfile.specs.Layout.{wideIn}
-use Rattle.graphfile.specs.Held.{readOf}
+use Rattle.graphfile.specs.Held.{readOf, bareOf, bareTables}
 use Rattle.graphfile.specs.Markings.{markingLength, markingFrom}
 use Rattle.graphfile.specs.declared.reader.Reading.{Reading}
-use Rattle.finish.specs.Ways.{finishedBy, finishOf}
+use Rattle.graphfile.specs.declared.reader.Bare.{Bare}
+use Rattle.bytes.proofs.Codec.{Bytes}
+use Rattle.finish.specs.Ways.{finishedBy, finishOf, finishOn}
+use Rattle.finish.proofs.Searching.{finish-on}
 use Rattle.finish.specs.Shut.{nothing, shutBy}
 use Rattle.finish.specs.declared.search.Way.{Way}
 use Rattle.finish.specs.declared.search.Finished.{Finished}
 use Rattle.port.specs.Port.{packedOf}
-use Rattle.desk.specs.WayOut.{finishedAt}
+use Rattle.desk.specs.WayOut.{finishedAt, finishedOn}
+use Rattle.desk.proofs.JudgedBefore.{finished-on}
 use Rattle.desk.specs.Desk.{placeAnswer}
 use Rattle.port.specs.Desk.{beforePlace}
 use Rattle.port.specs.WayOut.{wayInto, wayAfter, finishIn, deskFinishIn, shutNumber}
 use Rattle.port.proofs.Lending.{short-of, room-for}
+use Rattle.port.proofs.BareReading.{bare-answer, file-done, bare-graph, bare-formed, read-judged}
 use Rattle.port.proofs.Desk.{the-place, the-file-then, asked}
 
 -- ---- a way put down
@@ -54,18 +60,16 @@ module _ (file marking : List ℕ) (room : ℕ) where
       else when narrow then finishedBy BufferTooSmall []
       else finishOf (readOf file .graph) (markingFrom (wideIn file) marking)
 
-  module _ (r : Reading) (d : Bool) (hr : r ≡ readOf file) (hd : d ≡ isDone (r .answer)) where
+  module _ (r : Bare) (d : Bool) (hr : r ≡ bareOf file) (hd : d ≡ isDone (r .answer)) where
     choice : (t short narrow : Bool) → d ≡ t → ltb (length marking) (markingLength (wideIn file)) ≡ short → ltb room 4 ≡ narrow
         → chosen t short narrow ≡ finishIn file marking room
     unfolding finishIn
     choice t short narrow e l n =
-        sym
-        (ap₂ (λ (x y : Bool). chosen x y (ltb room 4)) (ap (λ (x : Reading). isDone (x .answer)) (sym hr) ∙ sym hd ∙ e) l
-        ∙ ap (chosen t short) n)
+        sym (ap₂ (λ (x y : Bool). chosen x y (ltb room 4)) (file-done file r hr d hd t e) l ∙ ap (chosen t short) n)
 
     pub finish-refused : not d ≡ true → finishedBy (r .answer) [] ≡ finishIn file marking room
     unfolding non
-    finish-refused n = ap (λ (x : Reading). finishedBy (x .answer) []) hr ∙ choice false _ _ (not-true d n) refl refl
+    finish-refused n = ap (λ (x : Answer). finishedBy x []) (bare-answer file r hr) ∙ choice false _ _ (not-true d n) refl refl
 
     module _ (n : not d ≡ false) (least : ℕ) (e : least ≡ markingLength (wideIn file)) where
       pub finish-short : length marking < least → finishedBy BufferTooSmall [] ≡ finishIn file marking room
@@ -80,15 +84,23 @@ module _ (file marking : List ℕ) (room : ℕ) where
         unfolding non
         finish-narrow k = choice true false true (not-false d n) enough (lt-ltb room 4 k)
 
-        pub finish-searched : (m : Marking) (f : Finished) → 4 ≤ room → m ≡ markingFrom (wideIn file) marking → f ≡ finishOf (r .graph) m
-            → f ≡ finishIn file marking room
+        found : 4 ≤ room → finishOf (readOf file .graph) (markingFrom (wideIn file) marking) ≡ finishIn file marking room
         unfolding non
-        finish-searched m f k hm hf =
-            hf
-            ∙ ap₂ (λ (x : Reading) (y : Marking). finishOf (x .graph) y) hr hm
-            ∙ choice true false false (not-false d n) enough (le-ltb room 4 k)
+        found k = choice true false false (not-false d n) enough (le-ltb room 4 k)
 
-pub ruleset finding = (finish-refused, finish-short, finish-narrow, finish-searched)
+-- reading has judged the graph
+pub finish-searched : (file : List ℕ) → Bytes file → (marking : List ℕ) (room : ℕ) (r : Bare) (d : Bool) → r ≡ bareOf file → d ≡ isDone (r .answer)
+    → (tables : List ℕ) → tables ≡ bareTables file (noTables relationCount)
+    → (m : Marking) (f : Finished) → not d ≡ false → (least : ℕ) → least ≡ markingLength (wideIn file) → least ≤ length marking → 4 ≤ room
+    → m ≡ markingFrom (wideIn file) marking → f ≡ finishOn (r .events) (inTables tables) m → f ≡ finishIn file marking room
+finish-searched file small marking room r d hr hd tables ht m f n least e l k hm hf =
+    hf
+    ∙ ap (finishOn (r .events) (inTables tables)) hm
+    ∙ bare-graph file r hr d hd n tables ht (λ E R. finishOn E R (markingFrom (wideIn file) marking))
+    ∙ sym (finish-on (readOf file .graph) (read-judged file r hr d hd n small) (markingFrom (wideIn file) marking))
+    ∙ found file marking room r d hr hd n least e l k
+
+pub ruleset finding = (finish-refused, finish-short, finish-narrow)
 
 -- ---- the call at a place
 
@@ -112,26 +124,36 @@ module _ (file table : List ℕ) (p room : ℕ) where
     pub no-such-call : not d ≡ true → finishedBy b [] ≡ deskFinishIn file table p room
     no-such-call t = refused-there b (the-place file table p w hw b d told hd t) (sym hd ∙ not-true d t)
 
-    module _ (t : not d ≡ false) (r : Reading) (f : Bool) (hr : r ≡ readOf file) (hf : f ≡ isDone (r .answer)) where
+    module _ (t : not d ≡ false) (r : Bare) (f : Bool) (hr : r ≡ bareOf file) (hf : f ≡ isDone (r .answer)) where
       pub no-graph-there : not f ≡ true → finishedBy (r .answer) [] ≡ deskFinishIn file table p room
       no-graph-there u =
-          refused-there (r .answer) (the-file-then file table p w hw b d told hd t (r .answer) f (ap (λ (x : Reading). x .answer) hr) hf)
-          (sym hf ∙ not-true f u)
+          refused-there (r .answer) (the-file-then file table p w hw b d told hd t (r .answer) f (bare-answer file r hr) hf) (sym hf ∙ not-true f u)
 
       module _ (u : not f ≡ false) where
         before : isDone (beforePlace file table p) ≡ true
-        before = asked file table p w hw b d told hd t (r .answer) f (ap (λ (x : Reading). x .answer) hr) hf u
+        before = asked file table p w hw b d told hd t (r .answer) f (bare-answer file r hr) hf u
 
         pub narrow-there : room < 4 → finishedBy BufferTooSmall [] ≡ deskFinishIn file table p room
         unfolding non
         narrow-there k = by-both true true before (lt-ltb room 4 k)
 
-        pub searched-there : (x : Finished) → 4 ≤ room → x ≡ finishedAt (r .graph) table p → x ≡ deskFinishIn file table p room
+        searched : Bytes file → (tables : List ℕ) → tables ≡ bareTables file (noTables relationCount) → (x : Finished) → 4 ≤ room
+            → x ≡ finishedOn w (r .events) (inTables tables) table p → x ≡ deskFinishIn file table p room
         unfolding non
-        searched-there x k e =
-            e ∙ ap (λ (y : Reading). finishedAt (y .graph) table p) hr ∙ by-both true false before (le-ltb room 4 k)
+        searched small tables ht x k e =
+            e
+            ∙ bare-formed file r hr f hf u tables ht (λ v E R. finishedOn v E R table p) w hw
+            ∙ sym (finished-on (readOf file .graph) (read-judged file r hr f hf u small) table p)
+            ∙ by-both true false before (le-ltb room 4 k)
 
-pub ruleset finding-there = (no-such-call, no-graph-there, narrow-there, searched-there)
+pub searched-there : (file : List ℕ) → Bytes file → (table : List ℕ) (p room : ℕ) (w : Bool) → w ≡ wideIn file → (b : Answer) (d : Bool)
+    → b ≡ placeAnswer w table p → d ≡ isDone b → not d ≡ false → (r : Bare) (f : Bool) → r ≡ bareOf file → f ≡ isDone (r .answer) → not f ≡ false
+    → (tables : List ℕ) → tables ≡ bareTables file (noTables relationCount) → (x : Finished) → 4 ≤ room
+    → x ≡ finishedOn w (r .events) (inTables tables) table p → x ≡ deskFinishIn file table p room
+searched-there file small table p room w hw b d told hd t r f hr hf u tables ht x k e =
+    searched file table p room w hw b d told hd t r f hr hf u small tables ht x k e
+
+pub ruleset finding-there = (no-such-call, no-graph-there, narrow-there)
 
 -- ---- what is left of a search
 

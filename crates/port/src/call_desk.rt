@@ -5,8 +5,11 @@ ghost use Rattle.port.specs.Desk.{deskOpenNumber, deskOpenTable, deskSte
 use crate::lent;
 use crate::packed;
 use crate::packed_blocker;
+use engine::Relations;
+use engine::graph::KINDS;
 use sets::Activity;
 use sets::Answer;
+use sets::rows::WORDS;
 
 // Opens the lowest free place: the number and the place; 255 where it is refused.
 #[no_mangle]
@@ -44,19 +47,13 @@ pub extern "C" fn skelfora_desk_step(
     if !asked.is_done() {
         return packed_blocker(asked, 0, false);
     }
-    let r = graphfile::read_bare(file);
+    let mut relations: Relations = [0; KINDS as usize * WORDS];
+    let r = graphfile::read_bare(file, &mut relations);
     let answer = r.answer;
     if !answer.is_done() {
         return packed_blocker(answer, 0, false);
     }
-    let given = desk::step_on(
-        r.events,
-        &r.relations,
-        table,
-        place,
-        Activity(activity),
-        wide,
-    );
+    let given = desk::step_on(r.events, &relations, table, place, Activity(activity), wide);
     packed_blocker(given, 0, false)
 }
 
@@ -71,11 +68,12 @@ pub extern "C" fn skelfora_desk_close(file: &[u8], table: &mut [u8], place: usiz
     if !asked.is_done() {
         return packed(asked, 0);
     }
-    let r = graphfile::read_bare(file);
+    let mut relations: Relations = [0; KINDS as usize * WORDS];
+    let r = graphfile::read_bare(file, &mut relations);
     let answer = r.answer;
     if !answer.is_done() {
         return packed(answer, 0);
     }
-    let given = desk::close_on(r.events, &r.relations, table, place, wide);
+    let given = desk::close_on(r.events, &relations, table, place, wide);
     packed(given, 0)
 }

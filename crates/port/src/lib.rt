@@ -21,11 +21,14 @@ pub mod way_out;
 
 use engine::Graph;
 use engine::Marking;
+use engine::Relations;
 use engine::Stepped;
+use engine::graph::KINDS;
 use rules::Profile;
 use sets::Activity;
 use sets::Answer;
 use sets::Place;
+use sets::rows::WORDS;
 
 // The number, and a length or place above it: 256 times. No length or place here reaches the 24 bits that it has.
 pub(crate) fn packed(answer: Answer, n: usize) -> u64
@@ -174,7 +177,8 @@ pub extern "C" fn skelfora_rewrite(file: &[u8], out: &mut [u8]) -> u64
 pub extern "C" fn skelfora_replay(file: &[u8], trace: &[u8]) -> u64
     ensures { λ r. ⌜ r ≡ replayNumber (now (file .entry)) (now (trace .entry)) ⌝ }
 {
-    let r = graphfile::read_bare(file);
+    let mut relations: Relations = [0; KINDS as usize * WORDS];
+    let r = graphfile::read_bare(file, &mut relations);
     let answer = r.answer;
     if !answer.is_done() {
         return packed_blocker(answer, 0, false);
@@ -182,7 +186,7 @@ pub extern "C" fn skelfora_replay(file: &[u8], trace: &[u8]) -> u64
     if Place::LIMIT < trace.len() {
         return packed_blocker(Answer::AboveLimit, 0, false);
     }
-    let p = engine::replay::walk(r.events, &r.relations, r.state, trace);
+    let p = engine::replay::walk(r.events, &relations, r.state, trace);
     let a = p.answer;
     let place = p.place.0;
     packed_blocker(a, place, p.accepting)
@@ -192,7 +196,8 @@ pub extern "C" fn skelfora_replay(file: &[u8], trace: &[u8]) -> u64
 fn stepped<'a>(file: &'a [u8], marking: &'a [u8], a: Activity) -> Stepped
     ensures { λ r. ⌜ r ≡ stepOf (now (file .entry)) (now (marking .entry)) (a .0) ⌝ }
 {
-    let r = graphfile::read_bare(file);
+    let mut relations: Relations = [0; KINDS as usize * WORDS];
+    let r = graphfile::read_bare(file, &mut relations);
     let answer = r.answer;
     if !answer.is_done() {
         return Stepped {
@@ -207,7 +212,7 @@ fn stepped<'a>(file: &'a [u8], marking: &'a [u8], a: Activity) -> Stepped
         };
     }
     let m = lent::marking_beside(file, marking);
-    engine::step::step_on(r.events, &r.relations, m, a)
+    engine::step::step_on(r.events, &relations, m, a)
 }
 
 // One step at a marking of 32 lent bytes, or 64 by the file's edition: executed, pending, included, enabled; they stay as they were where it is refused.

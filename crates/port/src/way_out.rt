@@ -6,10 +6,13 @@ ghost use Rattle.port.specs.WayOut.{wayInto, wayAfter, finishIn, finishN
 ghost use Rattle.port.specs.WayOut.{deskFinishIn, deskFinishNumber, deskFinishBytes};
 use crate::lent;
 use crate::packed;
+use engine::Relations;
+use engine::graph::KINDS;
 use finish::Finished;
 use finish::Way;
 use sets::Activity;
 use sets::Answer;
+use sets::rows::WORDS;
 
 // How many bytes a way takes.
 const LENGTH: usize = 4;
@@ -43,11 +46,12 @@ fn given(f: Finished, way: &mut [u8]) -> u64
     answer.number() as u64
 }
 
-// The way out: the file's refusals, then 7 where the marking or the room for the way has too few bytes, then the search's.
+// The way out: the file's refusals, then 7 where the marking or the room for the way has too few bytes, then the search's. Reading has judged the graph.
 fn finished<'a>(file: &'a [u8], marking: &'a [u8], room: usize) -> Finished
     ensures { λ r. ⌜ r ≡ finishIn (now (file .entry)) (now (marking .entry)) room ⌝ }
 {
-    let r = graphfile::read(file);
+    let mut relations: Relations = [0; KINDS as usize * WORDS];
+    let r = graphfile::read_bare(file, &mut relations);
     let answer = r.answer;
     if !answer.is_done() {
         return Finished {
@@ -67,9 +71,8 @@ fn finished<'a>(file: &'a [u8], marking: &'a [u8], room: usize) -> Finished
             way: Way::NONE,
         };
     }
-    let g = r.graph;
     let m = lent::marking_beside(file, marking);
-    finish::search::finish(g, m)
+    finish::search::way_out_on(r.events, &relations, m)
 }
 
 // The way out from a marking of 32 or 64 bytes into four lent bytes, 255 in those that are not used; they stay as they were where it is refused.
@@ -90,14 +93,16 @@ pub extern "C" fn skelfora_finish<'a, 'w>(
 fn finished_at<'a>(file: &'a [u8], table: &'a [u8], place: usize, room: usize) -> Finished
     ensures { λ r. ⌜ r ≡ deskFinishIn (now (file .entry)) (now (table .entry)) place room ⌝ }
 {
-    let asked = desk::judge_place(table, place, graphfile::is_wide(file));
+    let wide = graphfile::is_wide(file);
+    let asked = desk::judge_place(table, place, wide);
     if !asked.is_done() {
         return Finished {
             answer: asked,
             way: Way::NONE,
         };
     }
-    let r = graphfile::read(file);
+    let mut relations: Relations = [0; KINDS as usize * WORDS];
+    let r = graphfile::read_bare(file, &mut relations);
     let answer = r.answer;
     if !answer.is_done() {
         return Finished {
@@ -111,8 +116,7 @@ fn finished_at<'a>(file: &'a [u8], table: &'a [u8], place: usize, room: usize) -
             way: Way::NONE,
         };
     }
-    let head = r.graph.head;
-    desk::finish(head, &r.graph.relations, table, place)
+    desk::finish_on(r.events, &relations, table, place, wide)
 }
 
 // The same for the call at a place of the desk; the table is lent to be read.

@@ -80,6 +80,7 @@ use Rattle.plain.proofs.step.accepting.Reads as plain-accepting
 use Rattle.plain.proofs.replay.replay.Reads as plain-replay
 use Rattle.plain.proofs.fill.fill.Reads as plain-fill
 use Rattle.finish.proofs.search.way_out.Reads as way-out
+use Rattle.finish.proofs.search.way_out_on.Reads as way-out-on
 use Rattle.finish.proofs.search.finish.Reads as finish
 use Rattle.finish.proofs.shut.shut_by.Reads as shut-by
 use Rattle.calllog.proofs.judge.judge_log.Reads as judge-log
@@ -110,6 +111,7 @@ use Rattle.desk.proofs.requests.step_on.Reads as desk-step-on
 use Rattle.desk.proofs.requests.close.Reads as desk-close
 use Rattle.desk.proofs.requests.close_on.Reads as desk-close-on
 use Rattle.desk.proofs.way.finish.Reads as desk-finish
+use Rattle.desk.proofs.way.finish_on.Reads as desk-finish-on
 use Rattle.steps.proofs.relations.unbroken.Reads as unbroken
 use Rattle.steps.proofs.relations.excluded_by.Reads as excluded-by
 use Rattle.steps.proofs.relations.absent.Reads as absent
@@ -438,6 +440,9 @@ plain-fill-once κ a r r′ s s′ h h′ = (h .0 ∙ sym (h′ .0), h .1 ∙ sy
 pub way-out-once : Once way-out.Post
 way-out-once κ a r r′ s s′ h h′ = h ∙ sym h′
 
+pub way-out-on-once : Once way-out-on.Post
+way-out-on-once κ a r r′ s s′ h h′ = h ∙ sym h′
+
 pub finish-once : Once finish.Post
 finish-once κ a r r′ s s′ h h′ = h ∙ sym h′
 
@@ -487,8 +492,8 @@ read-next-once κ a r r′ s s′ h h′ = h ∙ sym h′
 pub read-once : Once read.Post
 read-once κ a r r′ s s′ h h′ = h ∙ sym h′
 
-pub read-bare-once : Once read-bare.Post
-read-bare-once κ a r r′ s s′ h h′ = h ∙ sym h′
+pub read-bare-once : OnceLent read-bare.Post (λ κ s. now (s .1 .0))
+read-bare-once κ a r r′ s s′ h h′ = (h .0 ∙ sym (h′ .0), h .1 ∙ sym (h′ .1))
 
 pub write-once : OnceLent write.Post (λ κ s. now (s .1 .0))
 write-once κ a r r′ s s′ h h′ = (h .0 ∙ sym (h′ .0), h .1 ∙ sym (h′ .1))
@@ -548,6 +553,9 @@ desk-close-on-once κ a r r′ s s′ h h′ = (h .0 ∙ sym (h′ .0), h .1 ∙
 
 pub desk-finish-once : Once desk-finish.Post
 desk-finish-once κ a r r′ s s′ h h′ = h ∙ sym h′
+
+pub desk-finish-on-once : Once desk-finish-on.Post
+desk-finish-on-once κ a r r′ s s′ h h′ = h ∙ sym h′
 
 -- ---- steps
 

@@ -3,9 +3,6 @@ use Rattle.graphfile.proofs.Forms.{forms}
 use Rattle.graphfile.proofs.layout.key_in.Statement.{statement}
 use Rattle.graphfile.proofs.layout.key_in.Tie as tie
 
-is-wide-requires : tie.Need-is-wide-requires
-is-wide-requires c κs = search needs
-
 row-place-requires : tie.Need-row-place-requires
 row-place-requires c κs = search needs
 
@@ -17,4 +14,4 @@ returns c = search (forms, needs)
 
 pub key-in-spec : {M : Type 1} → statement M
 key-in-spec =
-    tie.close (tie.spec is-wide-requires row-place-requires shared-slice-read-result returns)
+    tie.close (tie.spec row-place-requires shared-slice-read-result returns)

@@ -3,9 +3,6 @@ use Rattle.graphfile.proofs.Forms.{forms}
 use Rattle.graphfile.proofs.layout.row_in.Statement.{statement}
 use Rattle.graphfile.proofs.layout.row_in.Tie as tie
 
-is-wide-requires : tie.Need-is-wide-requires
-is-wide-requires c κs = search needs
-
 row-place-requires : tie.Need-row-place-requires
 row-place-requires c κs = search needs
 
@@ -20,4 +17,4 @@ returns c = search (forms, needs)
 
 pub row-in-spec : {M : Type 1} → statement M
 row-in-spec =
-    tie.close (tie.spec is-wide-requires row-place-requires add-set-at set-at-requires returns)
+    tie.close (tie.spec row-place-requires add-set-at set-at-requires returns)

@@ -5,7 +5,7 @@ use Rattle.sets.specs.Answers.{firstRefusal}
 use Rattle.sets.specs.declared.answer.Answer.the-variants.{Done}
 use Rattle.engine.specs.Relations.{relationCount}
 use Rattle.graphfile.specs.Refusals.{judgedRelation}
-use Rattle.graphfile.specs.Held.{relationsIn}
+use Rattle.graphfile.specs.Held.{withRelations}
 use Rattle.graphfile.proofs.Filling.{taking-relations, nothing-due}
 use Rattle.sets.proofs.Order.{turns}
 use Rattle.graphfile.proofs.reader.take_relations.Statement.{statement}
@@ -13,7 +13,7 @@ use Rattle.graphfile.proofs.reader.take_relations.Tie as tie
 
 abbrev Inv-loop : tie.InvT-loop
 Inv-loop bytes held₀ r₀ held r =
-    (r ≤ relationCount) × (firstRefusal r (judgedRelation bytes) ≡ Done) × (held ≡ relationsIn bytes r)
+    (r ≤ relationCount) × (firstRefusal r (judgedRelation bytes) ≡ Done) × (held ≡ withRelations bytes held₀ r)
 
 abbrev μ-loop : tie.MeasureT-loop
 μ-loop bytes held₀ r₀ held r = relationCount - r

@@ -3,7 +3,7 @@ use Prim.Native.Nat.{_+_, _-_, _≤_}
 use mathlib.Core.Path.{_≡_}
 use Rattle.sets.specs.Answers.{firstRefusal}
 use Rattle.sets.specs.declared.answer.Answer.the-variants.{Done}
-use Rattle.graphfile.specs.Layout.{eventsIn}
+use Rattle.graphfile.specs.Layout.{wideIn, eventsIn}
 use Rattle.graphfile.specs.Refusals.{judgedRow}
 use Rattle.graphfile.specs.Held.{filled}
 use Rattle.graphfile.proofs.Filling.{take-refused, take-end, taking}
@@ -12,12 +12,12 @@ use Rattle.graphfile.proofs.reader.take_rows.Statement.{statement}
 use Rattle.graphfile.proofs.reader.take_rows.Tie as tie
 
 abbrev Inv-loop : tie.InvT-loop
-Inv-loop bytes r count first held₀ events j₀ held j =
+Inv-loop bytes r count first held₀ wide events j₀ held j =
     (j ≤ count) × (events ≡ eventsIn bytes) × (firstRefusal j (judgedRow bytes first) ≡ Done)
-    × (filled bytes held r (count - j) (first + j) ≡ filled bytes held₀ r count first)
+    × (filled bytes held r (count - j) (first + j) ≡ filled bytes held₀ r count first) × (wide ≡ wideIn bytes)
 
 abbrev μ-loop : tie.MeasureT-loop
-μ-loop bytes r count first held₀ events j₀ held j = count - j
+μ-loop bytes r count first held₀ wide events j₀ held j = count - j
 
 is-wide-requires : tie.Need-is-wide-requires Inv-loop μ-loop
 is-wide-requires c κs = search needs
@@ -38,7 +38,7 @@ add-row-in : tie.Need-add-row-in Inv-loop μ-loop
 add-row-in c = search needs
 
 row-in-requires : tie.Need-row-in-requires Inv-loop μ-loop
-row-in-requires c κs = search (walking, needs)
+row-in-requires c κs = (search needs, (search needs, search (walking, needs)))
 
 key-rises-requires : tie.Need-key-rises-requires Inv-loop μ-loop
 key-rises-requires c κs = search (walking, needs)
@@ -71,7 +71,7 @@ loop-less : tie.Need-loop-less Inv-loop μ-loop
 loop-less c = search needs
 
 loop-again : tie.Need-loop-again Inv-loop μ-loop
-loop-again c = search (taking, needs)
+loop-again c = (search needs, search needs, search (taking, needs), search (taking, needs), search needs)
 
 returns-2 : tie.Need-returns-2 Inv-loop μ-loop
 returns-2 c = let inv = c .before .loop .inv in take-end _ _ _ _ _ _ _ (inv .2) (inv .3) (c .loop-test .left) (inv .0)
