@@ -14,8 +14,7 @@ use Rattle.sets.specs.Members.{width, word, mem, those}
 use Rattle.sets.specs.Rows.{rowAt, withRow}
 use Rattle.sets.specs.Tables.{tableAt, withRowIn, gainedIn}
 use Rattle.sets.specs.declared.set.Set.{Set}
-use Rattle.sets.proofs.Tests.{and-comm, and-false, or-comm, or-false}
-use Rattle.sets.proofs.Tautologies.{by2, by3}
+use Rattle.sets.proofs.Tests.{and-comm, or-comm, or-false}
 use Rattle.sets.proofs.Members.{none-those, those-ext, those-of}
 use Rattle.sets.proofs.MadeSets.{Is, is-those}
 use Rattle.rules.specs.Traces.{_has_, _beginsWith_}
@@ -162,22 +161,6 @@ low-held wide s low r t hl hr =
 formed : (wide : Bool) (s c : Set) (p : ℕ → Bool) → Is s p → c ≡ those (λ x. reaches wide x and mem s x) → Is c (λ x. reaches wide x and p x)
 formed wide s c p hs hc x l = is-those c _ hc x l ∙ ap (λ (t : Bool). reaches wide x and t) (hs x l)
 
--- the set of what stands in a list, as far as the form holds it
-abbrev pub heldIn : Bool → List ℕ → Set
-heldIn wide rest = those (λ x. reaches wide x and rest has x)
-
-held-twice : (g h : Bool) → (g and (g and h)) ≡ (g and h)
-unfolding _and_ _or_ non
-held-twice = by2 (λ g h. g and (g and h)) (λ g h. g and h) tt
-
-held-not : (g h : Bool) → (g and non (g and h)) ≡ (g and non h)
-unfolding _and_ _or_ non
-held-not = by2 (λ g h. g and non (g and h)) (λ g h. g and non h) tt
-
-either-held : (g h q : Bool) → (g and h or g and q) ≡ (g and (q or h))
-unfolding _and_ _or_ non
-either-held = by3 (λ g h q. g and h or g and q) (λ g h q. g and (q or h)) tt
-
 -- a place of either pass, as its function puts it down: a set, what is not in it, and another or what is not in that
 module _ (wide : Bool) (tables : List ℕ) (e : ℕ) where
   pub past-put : (seen last s c c′ d d′ : Set) (one two out : List ℕ) → s ≡ those (λ x. reaches wide x and mem seen x)
@@ -208,40 +191,13 @@ module _ (wide : Bool) (tables : List ℕ) (e : ℕ) where
         thrice-as tables beforeTable unprecededTable unchainedTable e _ _ _ _ _ _ (λ x l. ap (λ (t : Bool). reaches wide x and t) (seen-in x l))
         (λ x l. ap (λ (t : Bool). reaches wide x and non t) (seen-in x l)) (λ x l. ap (λ (t : Bool). reaches wide x and non t) (last-in x l))
 
-    -- of the rest the loop keeps what the form holds
-    pub rest-is : (after next : Set) → after ≡ heldIn wide rest → next ≡ those (λ x. reaches wide x and rest beginsWith x)
-        → restBy wide tables e after next ≡ noteRestIn wide tables e past rest
+    pub rest-is : (after next : Set) → after ≡ seenIn rest → next ≡ lastIn rest → restBy wide tables e after next ≡ noteRestIn wide tables e past rest
     unfolding restBy noteRestIn cut isLater notLater isNext
     rest-is after next ha hn =
         let after-in = is-those after _ ha in
         let next-in = is-those next _ hn in
-        thrice-as tables laterTable unansweredTable followedTable e _ _ _ _ _ _
-        (λ x l. ap (λ (t : Bool). reaches wide x and t) (after-in x l) ∙ held-twice (reaches wide x) (rest has x))
-        (λ x l. ap (λ (t : Bool). reaches wide x and non t) (after-in x l) ∙ held-not (reaches wide x) (rest has x))
-        (λ x l. ap (λ (t : Bool). reaches wide x and t) (next-in x l) ∙ held-twice (reaches wide x) (rest beginsWith x))
-
--- what the form holds of what stands in a list: of none nothing, of one event more it too
-module _ (wide : Bool) where
-  pub held-none : _≡_ {A = Set} noSet (heldIn wide [])
-  unfolding _has_
-  held-none = none-those (λ x. reaches wide x and [] has x) (λ x l. and-false (reaches wide x))
-
-  pub next-none : _≡_ {A = Set} noSet (those (λ x. reaches wide x and [] beginsWith x))
-  unfolding _beginsWith_
-  next-none = none-those (λ x. reaches wide x and [] beginsWith x) (λ x l. and-false (reaches wide x))
-
-  pub held-more : (rest : List ℕ) (e : ℕ) (after one next after′ : Set) → after ≡ heldIn wide rest → one ≡ those (λ b. eqb b e)
-      → next ≡ those (λ x. reaches wide x and mem one x) → after′ ≡ those (λ a. mem after a or mem next a)
-      → (after′ ≡ heldIn wide (e ∷ rest)) × (next ≡ those (λ x. reaches wide x and (e ∷ rest) beginsWith x))
-  unfolding _has_ _beginsWith_
-  held-more rest e after one next after′ ha ho hn hu =
-      let known : next ≡ those (λ x. reaches wide x and eqb x e) = hn ∙ those-of one (λ b. eqb b e) (λ x t. reaches wide x and t) ho in (
-        hu
-            ∙ those-of next (λ x. reaches wide x and eqb x e) (λ a t. mem after a or t) known
-            ∙ those-of after (λ x. reaches wide x and rest has x) (λ a t. t or reaches wide a and eqb a e) ha
-            ∙ those-ext _ _ (λ x l. either-held (reaches wide x) (rest has x) (eqb x e)),
-        known,
-      )
+        thrice-as tables laterTable unansweredTable followedTable e _ _ _ _ _ _ (λ x l. ap (λ (t : Bool). reaches wide x and t) (after-in x l))
+        (λ x l. ap (λ (t : Bool). reaches wide x and non t) (after-in x l)) (λ x l. ap (λ (t : Bool). reaches wide x and t) (next-in x l))
 
 -- the forward loop: before the first turn, one turn further, after the last
 module _ (turn : Turn) (σ all : List ℕ) where

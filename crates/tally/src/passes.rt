@@ -133,7 +133,7 @@ pub fn backward(trace: &[u8], tally: &mut Tally)
         i -= 1;
         let e = Activity(trace[i]);
         note_rest(e, after, next, true, tally);
-        next = in_form(Set::one(e), true);
+        next = Set::one(e);
         after = after.union(next);
     }
 }
@@ -149,7 +149,7 @@ pub fn backward_narrow(trace: &[u8], tally: &mut Tally)
         i -= 1;
         let e = Activity(trace[i]);
         note_rest(e, after, next, false, tally);
-        next = in_form(Set::one(e), false);
+        next = Set::one(e);
         after = after.union(next);
     }
 }

@@ -15,9 +15,9 @@ loop-holds c = start _ _ _
 
 loop-again : tie.Need-loop-again Inv-loop μ-loop
 loop-again c =
-    let in-loop = c .before .before .before .before .before .before in
-    turn _ _ _ _ _ (down (in-loop .before .loop .inv) (in-loop .loop-test .taken)) (c .before .before .before .note-rest .ensures)
-    (c .before .before .one .ensures) (c .before .in-form .ensures) (c .union .ensures)
+    let in-loop = c .before .before .before .before .before in
+    turn _ _ _ _ (down (in-loop .before .loop .inv) (in-loop .loop-test .taken)) (c .before .before .note-rest .ensures)
+    (c .before .one .ensures) (c .union .ensures)
 
 returns : tie.Need-returns Inv-loop μ-loop
 returns c = ended (c .before .loop .inv) (c .loop-test .left) .so-far
@@ -26,4 +26,4 @@ pub backward-spec : {M : Type 1} → statement M
 backward-spec =
     tie.close
     (tie.spec Inv-loop μ-loop loop-holds (λ c. search needs) (λ c. search needs) (λ c κs. search needs) (λ c κs. search needs)
-    (λ c κs. search needs) (λ c κs. search needs) (λ c. search needs) loop-again returns)
+    (λ c κs. search needs) (λ c. search needs) loop-again returns)
