@@ -116,12 +116,27 @@ fn the_summary_has_two_bytes_for_each_of_128() {
             wanted[128 + 127] = excluded;
             wanted[256..].fill(9);
             let mut room = [9; 258];
-            assert_eq!((door.summary)(&wide_l(), profile, &mut room), 0, "{}", door.name);
+            assert_eq!(
+                (door.summary)(&wide_l(), profile, &mut room),
+                0,
+                "{}",
+                door.name
+            );
             assert_eq!(room, wanted, "{}", door.name);
         }
         let mut short = [9; 255];
-        assert_eq!((door.summary)(&wide_l(), FULL, &mut short), 7, "{}", door.name);
-        assert_eq!((door.summary)(&wide_l()[..14], FULL, &mut short), 1, "{}", door.name);
+        assert_eq!(
+            (door.summary)(&wide_l(), FULL, &mut short),
+            7,
+            "{}",
+            door.name
+        );
+        assert_eq!(
+            (door.summary)(&wide_l()[..14], FULL, &mut short),
+            1,
+            "{}",
+            door.name
+        );
         assert_eq!(short, [9; 255], "{}", door.name);
     }
 }
@@ -148,7 +163,12 @@ fn log_refusals_in_order() {
     ];
     for (wanted, bytes) in cases {
         for door in doors() {
-            assert_eq!(mined_number(&door, bytes), wanted, "{} {bytes:?}", door.name);
+            assert_eq!(
+                mined_number(&door, bytes),
+                wanted,
+                "{} {bytes:?}",
+                door.name
+            );
         }
     }
 }
@@ -292,10 +312,20 @@ fn markings_of_64_bytes() {
         assert_eq!((&lent[..64], lent[64]), (&opening[..], 9), "{}", door.name);
         let given = (door.step)(&wide_g(), &mut lent, 127);
         assert_eq!(answer(given), (10, 3), "{}", door.name);
-        assert_eq!((door.step)(&wide_g(), &mut lent, 3), BY_NONE, "{}", door.name);
+        assert_eq!(
+            (door.step)(&wide_g(), &mut lent, 3),
+            BY_NONE,
+            "{}",
+            door.name
+        );
         assert_eq!((&lent[..64], lent[64]), (&then[..], 9), "{}", door.name);
         let mut way = [9; 4];
-        assert_eq!((door.finish)(&wide_g(), &lent, &mut way), 0, "{}", door.name);
+        assert_eq!(
+            (door.finish)(&wide_g(), &lent, &mut way),
+            0,
+            "{}",
+            door.name
+        );
         assert_eq!(way, [127, 255, 255, 255], "{}", door.name);
         let given = (door.step)(&wide_g(), &mut lent, 127);
         assert_eq!(given, BY_NONE, "{}", door.name);
@@ -352,17 +382,32 @@ fn a_desk_of_2080_bytes() {
         assert_eq!(table[66..130], opening, "{}", door.name);
         let given = (door.desk_step)(&wide_g(), &mut table, 1, 3);
         assert_eq!(given, BY_NONE, "{}", door.name);
-        assert_eq!((door.desk_close)(&wide_g(), &mut table, 1), 15, "{}", door.name);
+        assert_eq!(
+            (door.desk_close)(&wide_g(), &mut table, 1),
+            15,
+            "{}",
+            door.name
+        );
         let mut way = [9; 4];
         let given = (door.desk_finish)(&wide_g(), &table, 1, &mut way);
         assert_eq!((given, way), (0, [127, 255, 255, 255]), "{}", door.name);
-        assert_eq!((door.desk_close)(&wide_g(), &mut table, 0), 0, "{}", door.name);
+        assert_eq!(
+            (door.desk_close)(&wide_g(), &mut table, 0),
+            0,
+            "{}",
+            door.name
+        );
         assert_eq!(table[..65], [0; 65], "{}", door.name);
         assert_eq!(table[66..82], set(&[3]), "{}", door.name);
         // the narrow desk takes what it took
         let mut narrow = vec![0; 1056];
         assert_eq!((door.desk_open)(&g_file(), &mut narrow), 0, "{}", door.name);
-        assert_eq!((door.desk_open)(&[66, 71], &mut narrow), 1 + 256 * 255, "{}", door.name);
+        assert_eq!(
+            (door.desk_open)(&[66, 71], &mut narrow),
+            1 + 256 * 255,
+            "{}",
+            door.name
+        );
     }
 }
 
@@ -397,12 +442,27 @@ fn the_plain_engine() {
         let mut lent = marking([&[], &[], &[3, 64, 127], &[3]]);
         let given = (door.plain_step)(&plain_g(), &mut lent, 3);
         assert_eq!(given, BY_NONE, "{}", door.name);
-        assert_eq!(lent, marking([&[3], &[127], &[64, 127], &[64, 127]]), "{}", door.name);
-        assert_eq!((door.plain_accepting)(&plain_g(), &lent), 0, "{}", door.name);
+        assert_eq!(
+            lent,
+            marking([&[3], &[127], &[64, 127], &[64, 127]]),
+            "{}",
+            door.name
+        );
+        assert_eq!(
+            (door.plain_accepting)(&plain_g(), &lent),
+            0,
+            "{}",
+            door.name
+        );
         let opening = marking([&[], &[], &[3, 64, 127], &[3]]);
         let given = (door.plain_accepting)(&plain_g(), &opening);
         assert_eq!(given, 1 << 32, "{}", door.name);
-        assert_eq!((door.plain_accepting)(&plain_g(), &lent[..63]), 7, "{}", door.name);
+        assert_eq!(
+            (door.plain_accepting)(&plain_g(), &lent[..63]),
+            7,
+            "{}",
+            door.name
+        );
         let mut short = plain_g();
         short.head.pop();
         assert_eq!((door.plain_accepting)(&short, &lent), 7, "{}", door.name);
@@ -455,7 +515,12 @@ fn no_tally_of_more_than_64() {
         let mut tally = vec![9; TALLY_ROOM];
         assert_eq!((door.tally)(&wide_l(), &mut tally), 3, "{}", door.name);
         assert_eq!((door.tally)(&wide_l(), &mut tally[1..]), 7, "{}", door.name);
-        assert_eq!((door.tally)(&wide_l()[..14], &mut tally[1..]), 1, "{}", door.name);
+        assert_eq!(
+            (door.tally)(&wide_l()[..14], &mut tally[1..]),
+            1,
+            "{}",
+            door.name
+        );
         assert!(tally.iter().all(|&byte| byte == 9), "{}", door.name);
     }
 }
@@ -484,7 +549,12 @@ fn numbers_do_not_matter() {
                     _ => pair.to_string(),
                 })
                 .collect();
-            assert_eq!(pairs(&door, &wide), renamed.join(", "), "{} {seed}", door.name);
+            assert_eq!(
+                pairs(&door, &wide),
+                renamed.join(", "),
+                "{} {seed}",
+                door.name
+            );
         }
     }
 }

@@ -184,10 +184,8 @@ fn on_mined(comparison: &mut Comparison, prng: &mut Prng, log: &[u8], profile: u
     let mut file = vec![0; GRAPH_ROOM];
     let mined = (yardstick::door::DOOR.mine)(log, profile, &mut file);
     file.truncate((mined / 256) as usize);
-    let (Ok(graph), Ok(sound)) = (
-        yardstick::value::read(&file),
-        crate::judge::log::read(log),
-    ) else {
+    let (Ok(graph), Ok(sound)) = (yardstick::value::read(&file), crate::judge::log::read(log))
+    else {
         return;
     };
     for trace in sound.traces.iter().take(4) {

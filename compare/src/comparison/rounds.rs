@@ -28,7 +28,10 @@ pub fn once(comparison: &mut Comparison) {
         let judged = judge::graph_file::read(&file).err().unwrap_or(0);
         if judged != number {
             comparison.differ("border", "01", || {
-                format!("wanted {number}, judge {judged}, {:?}", &file[..file.len().min(90)])
+                format!(
+                    "wanted {number}, judge {judged}, {:?}",
+                    &file[..file.len().min(90)]
+                )
             });
         }
         on_graph_file(comparison, &mut prng, "graph: border", &file);

@@ -207,7 +207,18 @@ fn contents(bytes: &[u8]) -> usize {
 fn graph_count(prng: &mut Prng, bytes: &mut Vec<u8>) {
     let at = contents(bytes) + 2 + 4 * prng.below(4);
     let stood = get_two(bytes, at);
-    let value = prng.one_of(&[0, 64, 65, 66, 128, 129, 256, 65535, stood + 1, stood.wrapping_sub(1)]);
+    let value = prng.one_of(&[
+        0,
+        64,
+        65,
+        66,
+        128,
+        129,
+        256,
+        65535,
+        stood + 1,
+        stood.wrapping_sub(1),
+    ]);
     put_two(bytes, at, value);
 }
 
@@ -228,7 +239,16 @@ fn graph_row_at(prng: &mut Prng, bytes: &[u8]) -> Option<usize> {
 fn graph_key(prng: &mut Prng, bytes: &mut Vec<u8>) {
     if let Some(at) = graph_row_at(prng, bytes) {
         let stood = bytes[at];
-        let value = prng.one_of(&[0, stood.wrapping_sub(1), stood.wrapping_add(1), 63, 64, 128, 200, 255]);
+        let value = prng.one_of(&[
+            0,
+            stood.wrapping_sub(1),
+            stood.wrapping_add(1),
+            63,
+            64,
+            128,
+            200,
+            255,
+        ]);
         put(bytes, at, value);
     }
 }

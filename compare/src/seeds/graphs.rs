@@ -4,8 +4,8 @@ use crate::door::Form;
 use crate::judge::log::Log;
 use crate::value::{GraphValue, MarkingValue, Rows};
 use crate::yardstick::engine::kept;
-use crate::yardstick::word::{below, Word};
 use crate::yardstick::value as values;
+use crate::yardstick::word::{below, Word};
 
 /// A graph that 01 accepts, of any size, dense or nearly without pairs. Of those of more than 64 activities (02, 10/12) most are
 /// small ones with other numbers: the judge takes its time over many pairs.
@@ -334,7 +334,16 @@ pub fn marking_bytes(m: &MarkingValue, form: Form) -> Vec<u8> {
 /// Lengths of a lent marking: too few bytes, a byte too few, a byte more, many more; and the other form's.
 pub fn other_lengths(form: Form) -> [usize; 8] {
     let whole = form.marking();
-    [0, 8, 24, 32, whole - form.set, whole - 1, whole + 1, whole + 16]
+    [
+        0,
+        8,
+        24,
+        32,
+        whole - form.set,
+        whole - 1,
+        whole + 1,
+        whole + 16,
+    ]
 }
 
 /// What activities are taken from: A, and the events, which may be few of them.

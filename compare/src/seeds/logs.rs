@@ -181,7 +181,10 @@ pub fn numbers_below(prng: &mut Prng, a: u8, count: usize) -> Vec<u8> {
     let mut all = shuffled(prng, a);
     for (place, border) in [63, 64, a - 1, 0].into_iter().enumerate().take(count) {
         if prng.percent(70) {
-            let at = all.iter().position(|&e| e == border).expect("all are there");
+            let at = all
+                .iter()
+                .position(|&e| e == border)
+                .expect("all are there");
             all.swap(place, at);
         }
     }

@@ -93,7 +93,16 @@ fn stray_pair(prng: &mut Prng, graph: &mut PlainGraph) {
     let list = &mut graph.lists[prng.below(4)];
     let stood = list.get(prng.below(list.len().max(1))).copied();
     let [target, source] = stood.unwrap_or(0).to_le_bytes();
-    let stray = prng.one_of(&[64, 65, 128, 192, 255, source ^ 64, target ^ 64, source ^ 128]);
+    let stray = prng.one_of(&[
+        64,
+        65,
+        128,
+        192,
+        255,
+        source ^ 64,
+        target ^ 64,
+        source ^ 128,
+    ]);
     let any = prng.word() as u16;
     let source_stray = u16::from_le_bytes([target, stray]);
     let target_stray = u16::from_le_bytes([stray, source]);
@@ -326,7 +335,10 @@ fn heads(a: u8) -> Vec<(u8, PlainGraph)> {
     let at = included(form);
     vec![
         (7, with(&|graph| graph.head.clear())),
-        (7, with(&|graph| graph.head.truncate(form.head() - form.set))),
+        (
+            7,
+            with(&|graph| graph.head.truncate(form.head() - form.set)),
+        ),
         (7, with(&|graph| graph.head.truncate(form.head() - 1))),
         (
             7,
@@ -365,8 +377,7 @@ fn openings(a: u8) -> Vec<(u8, PlainGraph)> {
     let first_done: &dyn Fn(&mut PlainGraph) = &|graph| {
         (graph.lists[0], graph.head[form.head_marking()]) = (vec![1], 1);
     };
-    let two_events: &dyn Fn(&mut PlainGraph) =
-        &|graph| (graph.head[1], graph.head[at]) = (3, 3);
+    let two_events: &dyn Fn(&mut PlainGraph) = &|graph| (graph.head[1], graph.head[at]) = (3, 3);
     vec![
         (16, with(6, nothing)),
         (16, with(0, nothing)),
@@ -387,7 +398,10 @@ fn openings(a: u8) -> Vec<(u8, PlainGraph)> {
         (0, with(7, first_done)),
         (5, with(0, &|graph| graph.head[at] = 15)),
         (5, with(0, &|graph| graph.lists[3] = vec![65535])),
-        (3, with(0, &|graph| graph.lists[3] = vec![0; MOST_PAIRS + 1])),
+        (
+            3,
+            with(0, &|graph| graph.lists[3] = vec![0; MOST_PAIRS + 1]),
+        ),
         (7, with(0, &|graph| graph.head.truncate(form.head() - 1))),
     ]
 }

@@ -52,7 +52,10 @@ pub const DOOR: Door = Door {
     },
     desk_finish: |file, table, place, lent| {
         let form = Form::in_file(file);
-        finished(by!(form, desk::finish, file, table, place, lent.len()), lent)
+        finished(
+            by!(form, desk::finish, file, table, place, lent.len()),
+            lent,
+        )
     },
     tally,
     tally_join,
@@ -67,7 +70,9 @@ fn mine(bytes: &[u8], profile: u8, file: &mut [u8]) -> u64 {
     if profile > LIGHT {
         return 12;
     }
-    written(log::judge(bytes).and_then(|log| by!(Form::of(log.a), write_mined, &log, profile, file)))
+    written(
+        log::judge(bytes).and_then(|log| by!(Form::of(log.a), write_mined, &log, profile, file)),
+    )
 }
 
 #[inline(always)]

@@ -36,7 +36,10 @@ fn judge_members<W: Word, const N: usize>(graph: &GraphOf<W, N>) -> Result<(), u
 }
 
 /// 3, every 5, then 16 for the graph's marking or for the one beside it.
-fn judge_beside<W: Word, const N: usize>(graph: &GraphOf<W, N>, m: &MarkingOf<W>) -> Result<(), u8> {
+fn judge_beside<W: Word, const N: usize>(
+    graph: &GraphOf<W, N>,
+    m: &MarkingOf<W>,
+) -> Result<(), u8> {
     judge_sets(graph)?;
     within(graph, m)?;
     judge_truth(graph, &graph.marking)?;
@@ -54,7 +57,10 @@ pub fn within<W: Word, const N: usize>(graph: &GraphOf<W, N>, m: &MarkingOf<W>) 
 
 /// 16 for a false set.
 #[inline(always)]
-pub fn judge_truth<W: Word, const N: usize>(graph: &GraphOf<W, N>, m: &MarkingOf<W>) -> Result<(), u8> {
+pub fn judge_truth<W: Word, const N: usize>(
+    graph: &GraphOf<W, N>,
+    m: &MarkingOf<W>,
+) -> Result<(), u8> {
     if m.enabled != enabled_set(graph, m) {
         return Err(16);
     }
@@ -89,7 +95,11 @@ pub fn kept<W: Word, const N: usize>(graph: &GraphOf<W, N>, m: MarkingOf<W>) -> 
 
 /// 8, 9, 10, or the marking after e, whose set is left as it stood.
 #[inline(always)]
-pub fn step<W: Word, const N: usize>(graph: &GraphOf<W, N>, m: MarkingOf<W>, e: u8) -> Result<MarkingOf<W>, Answer> {
+pub fn step<W: Word, const N: usize>(
+    graph: &GraphOf<W, N>,
+    m: MarkingOf<W>,
+    e: u8,
+) -> Result<MarkingOf<W>, Answer> {
     if usize::from(e) >= N || graph.events & bit(e) == W::NONE {
         return Err(8.into());
     }
@@ -115,7 +125,11 @@ pub fn step<W: Word, const N: usize>(graph: &GraphOf<W, N>, m: MarkingOf<W>, e: 
 /// A step that keeps the set, of a marking whose set is true: only what the step can have changed
 /// is asked again. That is quicker than working the set out anew.
 #[inline(always)]
-pub fn step_keeping<W: Word, const N: usize>(graph: &GraphOf<W, N>, m: MarkingOf<W>, e: u8) -> Result<MarkingOf<W>, Answer> {
+pub fn step_keeping<W: Word, const N: usize>(
+    graph: &GraphOf<W, N>,
+    m: MarkingOf<W>,
+    e: u8,
+) -> Result<MarkingOf<W>, Answer> {
     let after = step(graph, m, e)?;
     let enabled = still_enabled(graph, &m, &after) | newly_enabled(graph, &m, &after);
     Ok(MarkingOf { enabled, ..after })
@@ -123,7 +137,11 @@ pub fn step_keeping<W: Word, const N: usize>(graph: &GraphOf<W, N>, m: MarkingOf
 
 /// What was enabled and is still included, but for what waits for something that was let in.
 #[inline(always)]
-fn still_enabled<W: Word, const N: usize>(graph: &GraphOf<W, N>, m: &MarkingOf<W>, after: &MarkingOf<W>) -> W {
+fn still_enabled<W: Word, const N: usize>(
+    graph: &GraphOf<W, N>,
+    m: &MarkingOf<W>,
+    after: &MarkingOf<W>,
+) -> W {
     let stays = m.enabled & after.included;
     let anew = holding_up(after) & !holding_up(m);
     if anew == W::NONE {
@@ -134,19 +152,31 @@ fn still_enabled<W: Word, const N: usize>(graph: &GraphOf<W, N>, m: &MarkingOf<W
 
 /// What was let in; and what has waited, where something was executed or shut out that held up.
 #[inline(always)]
-fn newly_enabled<W: Word, const N: usize>(graph: &GraphOf<W, N>, m: &MarkingOf<W>, after: &MarkingOf<W>) -> W {
+fn newly_enabled<W: Word, const N: usize>(
+    graph: &GraphOf<W, N>,
+    m: &MarkingOf<W>,
+    after: &MarkingOf<W>,
+) -> W {
     let up = holding_up(after);
     let frees = holding_up(m) & !up != W::NONE;
     let asked = after.included & !if frees { m.enabled } else { m.included };
     those(asked, |k| graph.conditions[k] & up == W::NONE)
 }
 
-pub fn enabled<W: Word, const N: usize>(graph: &GraphOf<W, N>, marking: &MarkingOf<W>, e: u8) -> Result<(), Answer> {
+pub fn enabled<W: Word, const N: usize>(
+    graph: &GraphOf<W, N>,
+    marking: &MarkingOf<W>,
+    e: u8,
+) -> Result<(), Answer> {
     judge_beside(graph, marking)?;
     step(graph, *marking, e).map(|_| ())
 }
 
-pub fn execute<W: Word, const N: usize>(graph: &GraphOf<W, N>, marking: &mut MarkingOf<W>, e: u8) -> Result<(), Answer> {
+pub fn execute<W: Word, const N: usize>(
+    graph: &GraphOf<W, N>,
+    marking: &mut MarkingOf<W>,
+    e: u8,
+) -> Result<(), Answer> {
     judge_beside(graph, marking)?;
     *marking = step_keeping(graph, *marking, e)?;
     Ok(())
@@ -157,7 +187,10 @@ fn at_rest<W: Word>(marking: &MarkingOf<W>) -> bool {
     marking.pending & marking.included == W::NONE
 }
 
-pub fn accepting<W: Word, const N: usize>(graph: &GraphOf<W, N>, marking: &MarkingOf<W>) -> Result<bool, u8> {
+pub fn accepting<W: Word, const N: usize>(
+    graph: &GraphOf<W, N>,
+    marking: &MarkingOf<W>,
+) -> Result<bool, u8> {
     judge_beside(graph, marking)?;
     Ok(at_rest(marking))
 }
@@ -181,7 +214,10 @@ pub fn replay<W: Word, const N: usize>(graph: &GraphOf<W, N>, trace: &[u8]) -> R
 /// For a graph that was judged or mined, and a trace within its limit. No step keeps the set, and
 /// the marking given back has none: who hands it on works it out, once.
 #[inline]
-pub fn replay_judged<W: Word, const N: usize>(graph: &GraphOf<W, N>, trace: &[u8]) -> ReplayedOf<W> {
+pub fn replay_judged<W: Word, const N: usize>(
+    graph: &GraphOf<W, N>,
+    trace: &[u8],
+) -> ReplayedOf<W> {
     let mut marking = graph.marking;
     for (place, &e) in trace.iter().enumerate() {
         match step(graph, marking, e) {

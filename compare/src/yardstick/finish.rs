@@ -76,15 +76,12 @@ fn last<W: Word, const N: usize>(
         // letting in what is pending leaves it owed
         may &= !tables.includers[index::<N>(y)];
     }
-    members(may).find(|&e| !waits(graph, m, e) && tables.owed[index::<N>(e)] & m.included == W::NONE)
+    members(may)
+        .find(|&e| !waits(graph, m, e) && tables.owed[index::<N>(e)] & m.included == W::NONE)
 }
 
 /// The search asks no set of enabled steps.
-fn after<W: Word, const N: usize>(
-    graph: &GraphOf<W, N>,
-    m: &MarkingOf<W>,
-    e: u8,
-) -> MarkingOf<W> {
+fn after<W: Word, const N: usize>(graph: &GraphOf<W, N>, m: &MarkingOf<W>, e: u8) -> MarkingOf<W> {
     let k = index::<N>(e);
     MarkingOf {
         executed: m.executed | bit(e),

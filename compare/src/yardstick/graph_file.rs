@@ -116,11 +116,7 @@ fn judge_contents<W: Word>(bytes: &[u8]) -> Result<[usize; 4], u8> {
 }
 
 #[inline(always)]
-fn read_rows<W: Word, const N: usize>(
-    part: &[u8],
-    events: W,
-    rows: &mut [W; N],
-) -> Result<(), u8> {
+fn read_rows<W: Word, const N: usize>(part: &[u8], events: W, rows: &mut [W; N]) -> Result<(), u8> {
     // the least key that may come next
     let mut least = 0;
     for row in part.chunks_exact(W::FORM.row()) {
@@ -168,11 +164,7 @@ pub fn write_judged<W: Word, const N: usize>(
     Ok(length)
 }
 
-fn write_head<W: Word, const N: usize>(
-    graph: &GraphOf<W, N>,
-    counts: [usize; 4],
-    head: &mut [u8],
-) {
+fn write_head<W: Word, const N: usize>(graph: &GraphOf<W, N>, counts: [usize; 4], head: &mut [u8]) {
     head[..4].copy_from_slice(&[66, 71, W::EDITION, graph.a]);
     let m = &graph.marking;
     let sets = [graph.events, m.executed, m.pending, m.included];

@@ -1,6 +1,6 @@
 //! Marks: the four counts in one array, by verdict and label.
-use super::{engine, log};
 use super::word::Word;
+use super::{engine, log};
 use crate::value::GraphOf;
 
 /// At 2 x verdict + label: true negatives, false negatives, false positives, true positives.

@@ -16,8 +16,7 @@ pub fn read<W: Word, const N: usize>(
     if head.len() < W::FORM.head() {
         return Err(7);
     }
-    if head[0] > W::MOST || trace_length > 512 || lists.iter().any(|list| list.len() > MOST_PAIRS)
-    {
+    if head[0] > W::MOST || trace_length > 512 || lists.iter().any(|list| list.len() > MOST_PAIRS) {
         return Err(3);
     }
     let graph = GraphOf {

@@ -178,7 +178,9 @@ fn opened_at(
 
 fn highest_free(file: &[u8], table: &mut [u8], request: Request) -> u64 {
     opened_at(file, table, request, |file, table| {
-        (0..PLACES).rev().find(|&place| !is_open(file, table, place))
+        (0..PLACES)
+            .rev()
+            .find(|&place| !is_open(file, table, place))
     })
 }
 
@@ -210,7 +212,9 @@ fn open_keeps_the_marking(file: &[u8], table: &mut [u8], request: Request) -> u6
 fn open_is_one(file: &[u8], table: &mut [u8], request: Request) -> u64 {
     let before = table.to_vec();
     let firsts = table.iter_mut().step_by(at(file, 1).start);
-    firsts.filter(|first| **first > 1).for_each(|first| *first = 0);
+    firsts
+        .filter(|first| **first > 1)
+        .for_each(|first| *first = 0);
     let changed = table.to_vec();
     let given = right(file, table, request);
     for place in (0..table.len()).step_by(at(file, 1).start) {

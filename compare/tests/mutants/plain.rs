@@ -100,7 +100,14 @@ const READINGS: [(&str, Reading); 26] = [
     }),
     ("limit 4,096 as before", |g| limited(g, 4096)),
     ("limit 4,096 up to 64 activities", |g| {
-        limited(g, if form_of(g).set == 8 { 4096 } else { MOST_PAIRS })
+        limited(
+            g,
+            if form_of(g).set == 8 {
+                4096
+            } else {
+                MOST_PAIRS
+            },
+        )
     }),
     ("target not judged", |g| {
         judged_without(g, |events, [_, source]| holds(events, source))

@@ -46,24 +46,29 @@ const LOGS: [(&str, Number); 8] = [
         Some((_, ..=128)) => log_number(&with_its_edition(b)),
         _ => log_number(b),
     }),
-    ("edition 1 takes A up to 128", |b| match mismatched(b, 6, 76) {
-        Some((1, ..=128)) => log_number(&with_its_edition(b)),
-        _ => log_number(b),
+    ("edition 1 takes A up to 128", |b| {
+        match mismatched(b, 6, 76) {
+            Some((1, ..=128)) => log_number(&with_its_edition(b)),
+            _ => log_number(b),
+        }
     }),
-    ("edition 2 takes a small A", |b| match mismatched(b, 6, 76) {
-        Some((2, ..=64)) => log_number(&with_its_edition(b)),
-        _ => log_number(b),
+    ("edition 2 takes a small A", |b| {
+        match mismatched(b, 6, 76) {
+            Some((2, ..=64)) => log_number(&with_its_edition(b)),
+            _ => log_number(b),
+        }
     }),
     ("edition 2 takes any A", |b| match mismatched(b, 6, 76) {
         Some((2, 129..)) => 0,
         _ => log_number(b),
     }),
-    ("2 for an edition that doesn't match", |b| {
-        match mismatched(b, 6, 76) {
+    (
+        "2 for an edition that doesn't match",
+        |b| match mismatched(b, 6, 76) {
             Some((_, ..=128)) => 2,
             _ => log_number(b),
-        }
-    }),
+        },
+    ),
     ("edition 2 is not known", |b| {
         if opens(b, 6, 76) && b[2] == 2 {
             return 2;
@@ -102,7 +107,11 @@ fn wrong_editions_of_logs() {
         place.map(|place| place as u64)
     };
     all_found(LOGS.iter().map(|&(name, m)| (name, found(m))).collect());
-    all_found(LOGS.iter().map(|&(name, m)| (name, by_borders(m))).collect());
+    all_found(
+        LOGS.iter()
+            .map(|&(name, m)| (name, by_borders(m)))
+            .collect(),
+    );
 }
 
 /// A whole head of edition 2 cut before its end.
@@ -118,24 +127,31 @@ fn counts(bytes: &[u8]) -> Option<[usize; 4]> {
 }
 
 const GRAPHS: [(&str, Number); 12] = [
-    ("edition not asked with A", |b| match mismatched(b, 52, 71) {
-        Some((_, ..=128)) if !cut_within(b) => graph_number(&with_its_edition(b)),
-        _ => graph_number(b),
-    }),
-    ("edition 1 takes A up to 128", |b| match mismatched(b, 52, 71) {
-        Some((1, ..=128)) => graph_number(&with_its_edition(b)),
-        _ => graph_number(b),
-    }),
-    ("edition 2 takes a small A", |b| match mismatched(b, 52, 71) {
-        Some((2, ..=64)) if !cut_within(b) => graph_number(&with_its_edition(b)),
-        _ => graph_number(b),
-    }),
-    ("2 for an edition that doesn't match", |b| {
+    ("edition not asked with A", |b| {
         match mismatched(b, 52, 71) {
-            Some((_, ..=128)) if !cut_within(b) => 2,
+            Some((_, ..=128)) if !cut_within(b) => graph_number(&with_its_edition(b)),
             _ => graph_number(b),
         }
     }),
+    ("edition 1 takes A up to 128", |b| {
+        match mismatched(b, 52, 71) {
+            Some((1, ..=128)) => graph_number(&with_its_edition(b)),
+            _ => graph_number(b),
+        }
+    }),
+    ("edition 2 takes a small A", |b| {
+        match mismatched(b, 52, 71) {
+            Some((2, ..=64)) if !cut_within(b) => graph_number(&with_its_edition(b)),
+            _ => graph_number(b),
+        }
+    }),
+    (
+        "2 for an edition that doesn't match",
+        |b| match mismatched(b, 52, 71) {
+            Some((_, ..=128)) if !cut_within(b) => 2,
+            _ => graph_number(b),
+        },
+    ),
     ("edition 3 is known", |b| match b {
         [66, 71, 3, rest @ ..] if b.len() >= 52 => graph_number(&[&[66, 71, 2], rest].concat()),
         _ => graph_number(b),
@@ -165,22 +181,28 @@ const GRAPHS: [(&str, Number); 12] = [
         graph_number(b)
     }),
     // where it comes to the offsets, those of 17 a row are wrong
-    ("row length 9 in edition 2", |b| match (graph_number(b), counts(b)) {
-        (0 | 6, Some([c, r, i, _])) if b[2] == 2 && c + r + i > 0 => 4,
-        (number, _) => number,
-    }),
-    ("row limit 64 in edition 2", |b| match (graph_number(b), counts(b)) {
-        (number @ (0 | 1 | 4 | 6), Some(counts)) if b[2] == 2 => {
-            match counts.iter().any(|&count| count > 64) {
-                true => 3,
-                false => number,
-            }
+    ("row length 9 in edition 2", |b| {
+        match (graph_number(b), counts(b)) {
+            (0 | 6, Some([c, r, i, _])) if b[2] == 2 && c + r + i > 0 => 4,
+            (number, _) => number,
         }
-        (number, _) => number,
     }),
-    ("row limit 128 in edition 1", |b| match (graph_number(b), counts(b)) {
-        (3, Some(counts)) if b[2] == 1 && counts.iter().all(|&count| count <= 128) => 4,
-        (number, _) => number,
+    ("row limit 64 in edition 2", |b| {
+        match (graph_number(b), counts(b)) {
+            (number @ (0 | 1 | 4 | 6), Some(counts)) if b[2] == 2 => {
+                match counts.iter().any(|&count| count > 64) {
+                    true => 3,
+                    false => number,
+                }
+            }
+            (number, _) => number,
+        }
+    }),
+    ("row limit 128 in edition 1", |b| {
+        match (graph_number(b), counts(b)) {
+            (3, Some(counts)) if b[2] == 1 && counts.iter().all(|&count| count <= 128) => 4,
+            (number, _) => number,
+        }
     }),
 ];
 
@@ -192,7 +214,9 @@ fn wrong_editions_of_graph_files() {
             let sound = graphs::file(&graphs::value(&mut prng));
             (0..12).any(|_| {
                 let bytes = damage::graph(&mut prng, &sound);
-                [&sound, &bytes].iter().any(|b| graph_number(b) != mutant(b))
+                [&sound, &bytes]
+                    .iter()
+                    .any(|b| graph_number(b) != mutant(b))
             })
         })
     };
@@ -202,7 +226,12 @@ fn wrong_editions_of_graph_files() {
         place.map(|place| place as u64)
     };
     all_found(GRAPHS.iter().map(|&(name, m)| (name, found(m))).collect());
-    all_found(GRAPHS.iter().map(|&(name, m)| (name, by_borders(m))).collect());
+    all_found(
+        GRAPHS
+            .iter()
+            .map(|&(name, m)| (name, by_borders(m)))
+            .collect(),
+    );
 }
 
 fn low(set: &Set) -> Set {
@@ -257,7 +286,9 @@ type Halve = fn(&mut Relations);
 
 /// Relations whose rows have.
 const RELATIONS: [(&str, Halve); 4] = [
-    ("conditions", |r| r.conditions = low_pairs(&r.conditions, false)),
+    ("conditions", |r| {
+        r.conditions = low_pairs(&r.conditions, false)
+    }),
     ("responses", |r| r.responses = low_pairs(&r.responses, true)),
     ("includes", |r| r.includes = low_pairs(&r.includes, true)),
     ("excludes", |r| r.excludes = low_pairs(&r.excludes, true)),
@@ -369,7 +400,10 @@ const STEPS: [(&str, Execute); 11] = [
 #[test]
 fn the_upper_half_forgotten_in_a_step() {
     let both = |&(name, mutant): &(&'static str, Execute)| {
-        (name, engine::found(mutant).and(super::plain::found_step(mutant)))
+        (
+            name,
+            engine::found(mutant).and(super::plain::found_step(mutant)),
+        )
     };
     all_found(STEPS.iter().map(both).collect());
 }
@@ -408,7 +442,9 @@ fn halved(file: &mut [u8], sets: impl Iterator<Item = usize>) {
 fn the_upper_half_forgotten_in_writing() {
     let mutants: [(&str, fn(&mut [u8])); 4] = [
         ("of the events", |file| halved(file, [4].into_iter())),
-        ("of the marking", |file| halved(file, [20, 36, 52].into_iter())),
+        ("of the marking", |file| {
+            halved(file, [20, 36, 52].into_iter())
+        }),
         ("of the rows", |file| {
             let rows = (84..file.len()).step_by(17);
             halved(file, rows.map(|at| at + 1));
@@ -526,7 +562,11 @@ fn tallies_of_more_than_64() {
 fn summaries_and_listings() {
     let summary = each_log(|log, profile| {
         let bytes = compare::seeds::log_file(log.a, &log.traces);
-        let number = if profile == Profile::Full { FULL } else { LIGHT };
+        let number = if profile == Profile::Full {
+            FULL
+        } else {
+            LIGHT
+        };
         let form = Form::of(log.a);
         let mut out = vec![9; form.summary()];
         (JUDGE.summary)(&bytes, number, &mut out);

@@ -22,12 +22,12 @@ use Rattle.rules.specs.declared.Profile.the-variants.{Full, Light}
 use Rattle.rules.specs.Traces.{Traces, _has_, someTrace}
 use Rattle.rules.specs.Mining.{event}
 use Rattle.steps.specs.Rowwise.{excluders, inEither, reducedOf, waited}
-use Rattle.tally.specs.Passes.{gains, forward, through}
+use Rattle.tally.specs.Passes.{gains, forward, through, cut}
 use Rattle.tally.specs.Tallies.{tableCount, notedFor, talliedFor, beforeTable, laterTable}
 use Rattle.tally.proofs.Folds.{forward-rowsOf, through-rowsOf}
 use Rattle.miner.specs.Facts.{Less, letIn, beforeFirst, missed}
 use Rattle.miner.specs.Stages.{conditionsOf, chainsOf, responsesOf, neverOf, fiveOf, followersOf, redundantBy, sevenFrom, includesSix, excludesSix}
-use Rattle.miner.specs.Stages.{waitedOf, fourTables, tablesRead, graphFoundIn}
+use Rattle.miner.specs.Stages.{waitedIn, aheadOf, missedOf, fourTables, tablesIn, graphFoundIn}
 use Rattle.miner.proofs.Holding.{Held, held-any, length-held, held-c, held-r, held-i, held-x, held-four, held-is, taken-from, put-long}
 
 -- step 6, of the includes
@@ -38,18 +38,16 @@ let-in-by L t t′ never never′ held held′ includes h hi hn hh =
     h ∙ ap (withTable t 2) (hi ∙ (λ i. through (λ r σ. forward (gains (letIn (hn i))) r [] σ) (hh i) L))
 
 -- step 9: what is waited for
-pub nine-by : (L : Traces) (events : Set) (eight includes excludes t t′ first₀ unmet₀ first unmet : List ℕ)
+pub nine-by : (wide : Bool) (L : Traces) (events : Set) (eight includes excludes t t′ first₀ unmet₀ first unmet : List ℕ)
     → t′ ≡ withTable t 0 (rowsFor events (waited events eight first unmet))
-    → first ≡ through (λ r σ. forward (gains beforeFirst) r [] σ) first₀ L
-    → unmet ≡ through (λ r σ. forward (gains (missed events includes excludes)) r [] σ) unmet₀ L → first₀ ≡ noRows → unmet₀ ≡ noRows
+    → first ≡ aheadOf wide first₀ L → unmet ≡ missedOf wide events includes excludes unmet₀ L → first₀ ≡ noRows → unmet₀ ≡ noRows
     → t′ ≡ withTable t 0
-    (rowsFor events (waited events eight (through (λ r σ. forward (gains beforeFirst) r [] σ) noRows L)
-    (through (λ r σ. forward (gains (missed events includes excludes)) r [] σ) noRows L)))
-nine-by L events eight includes excludes t t′ first₀ unmet₀ first unmet h hf hu h₀ k₀ =
+    (rowsFor events (waited events eight (aheadOf wide noRows L) (missedOf wide events includes excludes noRows L)))
+nine-by wide L events eight includes excludes t t′ first₀ unmet₀ first unmet h hf hu h₀ k₀ =
     h
     ∙ ap₂ (λ (x y : List ℕ). withTable t 0 (rowsFor events (waited events eight x y)))
-    (hf ∙ ap (λ (x : List ℕ). through (λ r σ. forward (gains beforeFirst) r [] σ) x L) h₀)
-    (hu ∙ ap (λ (x : List ℕ). through (λ r σ. forward (gains (missed events includes excludes)) r [] σ) x L) k₀)
+    (hf ∙ ap (λ (x : List ℕ). aheadOf wide x L) h₀)
+    (hu ∙ ap (λ (x : List ℕ). missedOf wide events includes excludes x L) k₀)
 
 -- step 7: what is left of the excludes
 pub seven-by : (L : Traces) (events : Set) (tally t left₀ left t′ : List ℕ) → left₀ ≡ withTable noRows 0 (tableAt t 3)
@@ -213,8 +211,7 @@ module _ (wide : Bool) (A : ℕ) (L : Traces) (p : Profile) (events : Set) (t₁
   abbrev nineFrom : List ℕ → List ℕ → List ℕ → List ℕ
   nineFrom c i x =
       rowsFor events
-      (waited events c (through (λ r σ. forward (gains beforeFirst) r [] σ) noRows L)
-      (through (λ r σ. forward (gains (missed events i x)) r [] σ) noRows L))
+      (waited events c (aheadOf wide noRows L) (missedOf wide events i x noRows L))
 
   pub found-by : events ≡ those (event L)
       → (length (noTables relationCount) ≡ relationCount * rowWords → t₁ ≡ fourTables eight (answersOf L events (talliedFor wide L) p) included excluding)
@@ -232,10 +229,10 @@ module _ (wide : Bool) (A : ℕ) (L : Traces) (p : Profile) (events : Set) (t₁
       (h₂
       ∙ (λ i. withTable t₁ 0 (nineFrom (taken-from t₁ 0 eight (one .conditions) (length-for events _) i) (one .includes i)
       (one .excludes i)))) in
-      let ten = held-c _ _ _ _ _ t₃ (waitedOf events eight included excluding L) nine (length-for events _)
+      let ten = held-c _ _ _ _ _ t₃ (waitedIn wide events eight included excluding L) nine (length-for events _)
       (h₃ ∙ ap (λ (x : List ℕ). withTable t₂ 0 (rowsFor events (reducedOf x)))
       (taken-from t₂ 0 _ (nine .conditions) (length-for events _))) in
       let all = held-is _ _ _ _ (length-for events _) (length-for events _) (length-includes L events (talliedFor wide L) p) (length-rowsOf _) t₃ ten in
       (λ i. graphOf (headOf A events (ho i)) t₃)
       ∙ (λ i. graphAt A events (hs i) (all i))
-      ∙ ap (λ (v : Set). graphAt A v (openingOf v) (tablesRead L v (talliedFor wide L) p)) hv
+      ∙ ap (λ (v : Set). graphAt A v (openingOf v) (tablesIn wide L v (talliedFor wide L) p)) hv

@@ -1,14 +1,18 @@
 -- A log is mined the same in the form of its A: that form holds every event, and the stages ask at events alone. Assumes nothing.
-use mathlib.Core.Path.{_≡_, refl, ap, _∙_}
+use mathlib.Core.Path.{_≡_, refl, sym, ap, ap₂, _∙_}
 use mathlib.Core.Bool.{Bool, true, false}
+use mathlib.Core.List.{List, []}
 use Prim.Native.Nat.{ℕ, _<_}
 use native.Mathlib.Omega.{arith}
 use borrow.Author.Tests.{lt-ltb, ltb-false}
-use lib.Dec.{T, ltb}
-use Rattle.sets.specs.Tests.{_or_}
-use Rattle.sets.specs.Members.{word}
+use lib.Dec.{T, eqb, ltb}
+use Rattle.sets.specs.Tests.{_and_, _or_, non}
+use Rattle.sets.specs.Members.{word, mem}
+use Rattle.sets.specs.Rows.{noRows, inRow, rowsFor}
+use Rattle.sets.specs.declared.set.Set.{Set}
 use Rattle.sets.proofs.Tests.{T-eq}
 use Rattle.sets.proofs.Members.{mem-those}
+use Rattle.sets.proofs.RowLaws.{in-rowsOf, rowsOf-ext}
 use Rattle.engine.specs.Markings.{openingOf}
 use Rattle.engine.specs.Enabled.{graphAt}
 use Rattle.rules.specs.declared.Profile.{Profile}
@@ -16,12 +20,16 @@ use Rattle.rules.specs.Traces.{Traces}
 use Rattle.rules.specs.Mining.{event}
 use Rattle.rules.specs.Replays.{Accepted}
 use Rattle.rules.proofs.Places.{some-trace}
-use Rattle.tally.specs.Passes.{reaches}
+use Rattle.steps.specs.Rowwise.{reducedOf, waited}
+use Rattle.tally.specs.Passes.{Fact, gains, forward, through, reaches, cut}
 use Rattle.tally.specs.Tallies.{tallied, talliedFor}
+use Rattle.tally.proofs.Folds.{heard, forward-rowsOf, through-all}
+use Rattle.tally.proofs.WholeForm.{heard-in}
 use Rattle.tally.proofs.Tallying.{form-agrees}
-use Rattle.miner.specs.Stages.{graphFound, graphFoundIn}
+use Rattle.miner.specs.Facts.{beforeFirst, missed}
+use Rattle.miner.specs.Stages.{conditionsOf, responsesOf, includesSix, excludesSix, sevenFrom, waitedOf, waitedIn, fourTables, graphFound, graphFoundIn}
 use Rattle.miner.proofs.EarlySteps.{events}
-use Rattle.miner.proofs.AtEvents.{AgreeAt, tables-at}
+use Rattle.miner.proofs.AtEvents.{AgreeIn, AgreeAt, where-so, tables-at}
 
 module _ (A : ℕ) (L : Traces) (ok : Accepted A L) where
   event-below : (a : ℕ) → T (event L a) → a < A
@@ -42,6 +50,36 @@ module _ (A : ℕ) (L : Traces) (ok : Accepted A L) where
   agree : AgreeAt (events L) (talliedFor (ltb word A) L) (tallied L)
   agree k lk a x la lx ta tx = form-agrees (ltb word A) L k a x lk la lx (all-reached x (T-eq (mem-those (event L) x lx) tx))
 
+  -- ---- step 9
+
+  abbrev E : Set
+  E = events L
+
+  -- a walk that puts a fact into rows says the same in the form
+  walk-at : (p : Fact) → AgreeIn E (through (λ r σ. forward (gains (cut (ltb word A) p)) r [] σ) noRows L) (through (λ r σ. forward (gains p) r [] σ) noRows L)
+  walk-at p a x la lx ta tx =
+      let said : (q : Fact) → inRow (through (λ r σ. forward (gains q) r [] σ) noRows L) a x ≡ heard q L a x = λ q. ap (λ (rows : List ℕ). inRow rows a x) (through-all q (λ r σ. forward (gains q) r [] σ) (λ r σ. forward-rowsOf q r [] σ) L)
+      ∙ in-rowsOf (heard q L) a x la lx in
+      said (cut (ltb word A) p) ∙ heard-in (ltb word A) p L a x (all-reached x (T-eq (mem-those (event L) x lx) tx)) ∙ sym (said p)
+
+  waited-as : (eight first first′ unmet unmet′ : List ℕ) → AgreeIn E first first′ → AgreeIn E unmet unmet′
+      → rowsFor E (waited E eight first unmet) ≡ rowsFor E (waited E eight first′ unmet′)
+  unfolding rowsFor waited
+  waited-as eight first first′ unmet unmet′ hf hu =
+      rowsOf-ext _ _ (λ a x la lx. where-so (mem E a) _ _ (λ ta. where-so (mem E x) _ _
+      (λ tx. ap₂ (λ (f u : Bool). inRow eight a x or non (eqb x a) and f and non u) (hf a x la lx ta tx) (hu a x la lx ta tx))))
+
+  waited-form : (eight includes excludes : List ℕ) → waitedIn (ltb word A) E eight includes excludes L ≡ waitedOf E eight includes excludes L
+  waited-form eight includes excludes =
+      ap (λ (rows : List ℕ). rowsFor E (reducedOf rows))
+      (waited-as eight _ _ _ _ (walk-at beforeFirst) (walk-at (missed E includes excludes)))
+
   pub form-graph : (p : Profile) → graphFoundIn (ltb word A) A L p ≡ graphFound A L p
   unfolding graphFoundIn graphFound
-  form-graph p = ap (graphAt A (events L) (openingOf (events L))) (tables-at L (talliedFor (ltb word A) L) (tallied L) agree p)
+  form-graph p =
+      let t : List ℕ = talliedFor (ltb word A) L in
+      ap (graphAt A E (openingOf E))
+      (ap (λ (c : List ℕ). fourTables c (rowsFor E (reducedOf (responsesOf E t))) (includesSix p E t L)
+      (sevenFrom E t (includesSix p E t L) (excludesSix p E t) L))
+      (waited-form (rowsFor E (reducedOf (conditionsOf E t))) (includesSix p E t L) (sevenFrom E t (includesSix p E t L) (excludesSix p E t) L))
+      ∙ tables-at L t (tallied L) agree p)

@@ -151,7 +151,7 @@ fn graph_found(bytes: &[u8], activities: u8, traces: usize, profile: Profile) ->
     let mut found: Relations = [0; KINDS as usize * WORDS];
     let wide = WORD < activities;
     let events = tables_eight(bytes, traces, wide, profile, &mut found);
-    conditions::put_nine(bytes, traces, events, &mut found);
+    conditions::put_nine(bytes, traces, events, wide, &mut found);
     conditions::put_ten(events, &mut found);
     Graph {
         head: Head {

@@ -22,9 +22,9 @@ use Rattle.bytes.specs.Sets.{setLength, setBytes, setAt}
 use Rattle.bytes.proofs.SetLaws.{set-apart}
 use Rattle.rules.specs.Traces.{Traces, _has_, someTrace}
 use Rattle.rules.specs.Mining.{event, between}
-use Rattle.tally.specs.Passes.{through}
-use Rattle.tally.specs.Tallies.{tableCount, noted, tallied}
-use Rattle.tally.proofs.Tallying.{before-table, later-table, unpreceded-table, unanswered-table, unchained-table, unalternated-table, followed-table}
+use Rattle.tally.specs.Passes.{through, reaches}
+use Rattle.tally.specs.Tallies.{tableCount, tallied, notedFor, talliedFor}
+use Rattle.tally.proofs.Tallying.{before-table, later-table, unpreceded-table, unanswered-table, unchained-table, unalternated-table, followed-table, form-agrees}
 use Rattle.miner.proofs.Composed.{events-by}
 use Rattle.months.specs.Layout.{tallyWidth, setCount, tallyLength, firstRow, rowsEnd, firstPair, rowSet, pairSet, setsFrom, activitiesIn, setIn}
 use Rattle.months.specs.Tallies.{asked, held, tallyOf}
@@ -87,8 +87,13 @@ module _ (L : Traces) where
   abbrev Answered : List ℕ → Type 0
   Answered tables = (k a x : ℕ) → k < tableCount → a < tallyWidth → x < tallyWidth → inRow (tableAt tables k) a x ≡ asked L k a x
 
-  pub tallied-answers : Answered (tallied L)
-  tallied-answers k a x lk la lx = ap (λ (rows : List ℕ). inRow rows a x) (table-asked k lk) ∙ in-rowsOf (asked L k) a x (omega arith) (omega arith)
+  -- so do those of the narrow form
+  narrow-answers : Answered (talliedFor false L)
+  unfolding reaches _or_
+  narrow-answers k a x lk la lx =
+      form-agrees false L k a x lk (omega arith) (omega arith) (lt-ltb x tallyWidth lx)
+      ∙ ap (λ (rows : List ℕ). inRow rows a x) (table-asked k lk)
+      ∙ in-rowsOf (asked L k) a x (omega arith) (omega arith)
 
   -- ---- what filling leaves is what is held
 
@@ -153,11 +158,11 @@ module _ (L : Traces) where
 
 -- from what the passes leave
 pub tally-filled : (A : ℕ) (L : Traces) (none tables : List ℕ) (events : Set) (t₁ t₂ tail : List ℕ) → none ≡ noTables tableCount
-    → events ≡ those (λ x. someTrace L (λ σ. σ has x)) → tables ≡ through noted none L
+    → events ≡ those (λ x. someTrace L (λ σ. σ has x)) → tables ≡ through (notedFor false) none L
     → t₁ ≡ setsFrom setCount 0 (initialOf events tables) ++ tail → Gained t₁ (λ u s v. between L u v s) t₂ → set t₂ 0 A ≡ tallyOf A L ++ tail
 tally-filled A L none tables events t₁ t₂ tail hn he ht h₁ g =
     let answers : Answered L tables =
-    λ k a x lk la lx. ap (λ (t : List ℕ). inRow (tableAt t k) a x) (ht ∙ ap (λ (t : List ℕ). through noted t L) hn) ∙ tallied-answers L k a x lk la lx in
+    λ k a x lk la lx. ap (λ (t : List ℕ). inRow (tableAt t k) a x) (ht ∙ ap (λ (t : List ℕ). through (notedFor false) t L) hn) ∙ narrow-answers L k a x lk la lx in
     filled L events tables (events-by L events he) answers A t₁ t₂ (set t₂ 0 A) tail h₁ g refl
 
 pub filled-long : (A : ℕ) (L : Traces) (t out : List ℕ) → tallyLength ≤ length t → out ≡ tallyOf A L ++ drop tallyLength t → length out ≡ length t

@@ -51,13 +51,13 @@ fn put_initial(events: Set, tables: &Tally, tally: &mut [u8])
     }
 }
 
-// The tally of a log's first traces.
+// The tally of a log's first traces. It holds nothing past 64, so the passes keep one word of each set.
 fn put_tally(log: &[u8], activities: u8, traces: usize, tally: &mut [u8])
     requires { ⌜ tallyLength ≤ length (now tally) ⌝ }
     ensures { λ _. ⌜ now (tally .exit) ≡ tallyOf activities (walked (now (log .entry)) traces 0) ++ drop tallyLength (now (tally .entry)) ⌝ }
 {
     let mut tables = log::empty();
-    let events = log::note_traces(log, traces, &mut tables);
+    let events = log::note_traces_in(log, traces, false, &mut tables);
     put_initial(events, &tables, tally);
     pairs::note_log(log, traces, tally);
     tally[0] = activities;
