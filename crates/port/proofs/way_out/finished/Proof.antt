@@ -17,8 +17,11 @@ returns-4 c =
     (read .read-bare .ensures .1) _ _ (done .if1 .left) _ (least .marking-room .ensures) (long .if2 .left) (room .if3 .left)
     (marking .marking-beside .ensures) (c .way-out-on .ensures)
 
+returns-2 : tie.Need-returns-2
+returns-2 c = search (finding, needs)
+
 pub finished-spec : {M : Type 1} → statement M
 finished-spec =
     tie.close
-    (tie.spec (λ c κs. search needs) (λ c κs. search needs) (λ c. search (finding, needs)) (λ c κs. search needs) (λ c. search (finding, needs))
+    (tie.spec (λ c κs. search needs) (λ c κs. search needs) (λ c. search (finding, needs)) (λ c κs. search needs) returns-2
     (λ c. search (finding, needs)) (λ c κs. search needs) (λ c κs. search needs) returns-4)
