@@ -101,8 +101,8 @@ use Rattle.graphfile.proofs.marking.read_marking.Reads as read-marking
 use Rattle.graphfile.proofs.marking.write_marking.Reads as write-marking
 use Rattle.graphfile.proofs.marking.length.Reads as marking-length
 use Rattle.graphfile.proofs.head.length.Reads as head-length
-use Rattle.graphfile.proofs.layout.is_wide.Reads as is-wide
-use Rattle.graphfile.proofs.layout.wide_for.Reads as wide-for
+use Rattle.graphfile.proofs.is_wide.Reads as is-wide
+use Rattle.graphfile.proofs.wide_for.Reads as wide-for
 use Rattle.desk.proofs.requests.judge_place.Reads as desk-judge-place
 use Rattle.desk.proofs.table.length.Reads as desk-table-length
 use Rattle.desk.proofs.requests.open.Reads as desk-open
@@ -120,7 +120,7 @@ use Rattle.steps.proofs.relations.union_of.Reads as union-of
 use Rattle.steps.proofs.relations.waited.Reads as waited
 use Rattle.steps.proofs.reduce.reduced.Reads as reduced
 use Rattle.tally.proofs.log.empty.Reads as log-empty
-use Rattle.tally.proofs.form.in_form.Reads as in-form
+use Rattle.tally.proofs.in_form.Reads as in-form
 use Rattle.tally.proofs.log.note_traces_in.Reads as log-note-traces-in
 use Rattle.tally.proofs.log.note_traces.Reads as log-note-traces
 use Rattle.miner.proofs.conditions_eight.Reads as conditions-eight
