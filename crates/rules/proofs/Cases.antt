@@ -1,6 +1,6 @@
 -- The cases of 01, "Calls to try", that are marked (P), with the blockers of 02, 2/12, the light graph of L (02, 3/12), and where the step 7 of
 -- 02, 7/12, gives more than that of 01: one table, computed by antt.
-use lib.Dec.{ltb, lit≤}
+use lib.Dec.{T, ltb, lit≤}
 use mathlib.Core.Path.{ap}
 use Prim.Native.Nat.{_≤_}
 use lib.ListN.{length}
@@ -165,14 +165,19 @@ unfolding part0 file L listing G
     afterFive afterSix afterSeven afterEight mined graphFrom minedGraph
 same0 = refl
 
-L-graph : minedGraph 3 L Full ≡ listing (0 to 0 ∷ 1 to 1 ∷ 2 to 1 ∷ 2 to 2 ∷ [])
-unfolding L listing
+-- the computed tests stand by themselves: each is what refuses a wrong rule
+L-agrees : T (agrees 3 3 (lit≤ tt) L Full (0 ∷ 1 ∷ 2 ∷ []) (0 to 1 ∷ 0 to 2 ∷ []) (0 to 2 ∷ 1 to 2 ∷ []) (0 to 1 ∷ []) (0 to 0 ∷ 1 to 1 ∷ 2 to 1 ∷ 2 to 2 ∷ []))
+unfolding L
     _and_ _or_ non someBelow everyBelow listFrom
     _has_ _beginsWith_ atEachFrom atSomeFrom everyTrace someTrace
     noPair noRelations smallestSource _without_ event someEvent _with_ atMostOnce precedes answers chained together before followed between alternates beforeFirst
     step1 step2 directlyBefore step3 neverTogether step4 closes step5 step6 letInBetween makesRedundant step7 reduced step8 includedAfter neverMissed step9 step10
     afterFive afterSix afterSeven afterEight mined same few fewPairs agree agrees
-L-graph = by-pairs 3 3 (lit≤ tt) L Full (0 ∷ 1 ∷ 2 ∷ []) (0 to 1 ∷ 0 to 2 ∷ []) (0 to 2 ∷ 1 to 2 ∷ []) (0 to 1 ∷ []) (0 to 0 ∷ 1 to 1 ∷ 2 to 1 ∷ 2 to 2 ∷ []) tt
+L-agrees = tt
+
+L-graph : minedGraph 3 L Full ≡ listing (0 to 0 ∷ 1 to 1 ∷ 2 to 1 ∷ 2 to 2 ∷ [])
+unfolding listing
+L-graph = by-pairs 3 3 (lit≤ tt) L Full (0 ∷ 1 ∷ 2 ∷ []) (0 to 1 ∷ 0 to 2 ∷ []) (0 to 2 ∷ 1 to 2 ∷ []) (0 to 1 ∷ []) (0 to 0 ∷ 1 to 1 ∷ 2 to 1 ∷ 2 to 2 ∷ []) L-agrees
 
 same1 : map asked part1 ≡ map wanted part1
 unfolding part1
@@ -241,14 +246,17 @@ unfolding part9 L listing
     afterFive afterSix afterSeven afterEight mined same few fewPairs agree agrees
 same9 = λ j. graph (by-pairs 3 3 (lit≤ tt) L Light (0 ∷ 1 ∷ 2 ∷ []) (0 to 1 ∷ 0 to 2 ∷ []) (0 to 2 ∷ 1 to 2 ∷ []) (0 to 1 ∷ []) (0 to 0 ∷ 1 to 1 ∷ 2 to 2 ∷ []) tt j) ∷ []
 
-same10 : map asked part10 ≡ map wanted part10
-unfolding part10
-    _and_ _or_ non someBelow everyBelow listFrom
+shortest-agrees : T (agrees 3 3 (lit≤ tt) ((0 ∷ 1 ∷ 2 ∷ []) ∷ []) Full (0 ∷ 1 ∷ 2 ∷ []) (0 to 1 ∷ 1 to 2 ∷ []) (0 to 1 ∷ 1 to 2 ∷ []) (0 to 1 ∷ 1 to 2 ∷ []) (0 to 0 ∷ 0 to 2 ∷ 1 to 1 ∷ 2 to 2 ∷ []))
+unfolding _and_ _or_ non someBelow everyBelow listFrom
     _has_ _beginsWith_ atEachFrom atSomeFrom everyTrace someTrace
     noPair noRelations smallestSource _without_ event someEvent _with_ atMostOnce precedes answers chained together before followed between alternates beforeFirst
     step1 step2 directlyBefore step3 neverTogether step4 closes step5 step6 letInBetween makesRedundant step7 reduced step8 includedAfter neverMissed step9 step10
     afterFive afterSix afterSeven afterEight mined same few fewPairs agree agrees
-same10 = λ j. graph (by-pairs 3 3 (lit≤ tt) ((0 ∷ 1 ∷ 2 ∷ []) ∷ []) Full (0 ∷ 1 ∷ 2 ∷ []) (0 to 1 ∷ 1 to 2 ∷ []) (0 to 1 ∷ 1 to 2 ∷ []) (0 to 1 ∷ 1 to 2 ∷ []) (0 to 0 ∷ 0 to 2 ∷ 1 to 1 ∷ 2 to 2 ∷ []) tt j) ∷ []
+shortest-agrees = tt
+
+same10 : map asked part10 ≡ map wanted part10
+unfolding part10
+same10 = λ j. graph (by-pairs 3 3 (lit≤ tt) ((0 ∷ 1 ∷ 2 ∷ []) ∷ []) Full (0 ∷ 1 ∷ 2 ∷ []) (0 to 1 ∷ 1 to 2 ∷ []) (0 to 1 ∷ 1 to 2 ∷ []) (0 to 1 ∷ 1 to 2 ∷ []) (0 to 0 ∷ 0 to 2 ∷ 1 to 1 ∷ 2 to 2 ∷ []) shortest-agrees j) ∷ []
 
 same11 : map asked part11 ≡ map wanted part11
 unfolding part11 story storyG
