@@ -107,10 +107,10 @@ def rows_of(crate, functions, names):
 
 
 def called(crate, symbol):
-    """What a function's theorem is called after: calllog's `ask` is not the engine's, a table's `row` is not that of rows, and the plain
-    engine and the desk have a `step` of their own, months a `join`."""
+    """What a function's theorem is called after: calllog's `ask` is not the engine's, a table's `row` is not that of rows, a set has a `length`
+    and a marking another, and the plain engine and the desk have a `step` of their own, months a `join`."""
     parts = symbol.split("::")
-    both = parts[-2][0].isupper() or parts[-2] in ("tables", "log")
+    both = parts[-2][0].isupper() or parts[-2] in ("tables", "log") or parts[-1] == "length"
     name = "-".join(parts[-2:] if both else parts[-1:]).replace("_", "-")
     if crate in ("plain", "desk", "months"):
         return f"{crate}-{name}"

@@ -10,7 +10,7 @@ void *memset(void *bytes, int value, size_t count);
 
 enum { MINE, LISTING, REWRITE, REPLAY, STEP, PLAIN_STEP, PLAIN_ACCEPTING, PLAIN_REPLAY, FILL, SUMMARY, DESK_OPEN, DESK_STEP, DESK_CLOSE };
 enum { FINISH = DESK_CLOSE + 1, SHUT_BY, OPENING, MARKS, MARKS_TEXT, GUESSES_TEXT, REPLAYS, DESK_FINISH, TALLY, TALLY_JOIN, TALLY_RELATIONS, FUNCTIONS, END = 255 };
-enum { ROOM = 1 << 18, PAST = 64, UNTOUCHED = 165 };
+enum { ROOM = 1 << 20, PAST = 64, UNTOUCHED = 165 };
 
 static const char *const names[FUNCTIONS] = {"mine",         "listing", "rewrite", "replay",    "step",      "plain step", "plain accepting",
                                              "plain replay", "fill",    "summary", "desk open", "desk step", "desk close", "finish",
@@ -139,12 +139,29 @@ _Static_assert(SKELFORA_PLACE_SIZE == 1 + SKELFORA_MARKING_SIZE, "a place has a 
 _Static_assert(SKELFORA_TALLY_SIZE == 4608 * 8, "a tally has 4,608 sets");
 _Static_assert(SKELFORA_KNOWN_SIZE == 1 + 8 + 4 * 64 * 8, "A, the events and four relations");
 _Static_assert(SKELFORA_TABLE_ROOM == SKELFORA_PLACES * SKELFORA_PLACE_SIZE, "a table has 32 places");
+_Static_assert(SKELFORA_GRAPH_ROOM == 4 + 4 * 8 + 16 + 4 * 64 * 9, "a graph file has a head and 64 rows of each relation");
+_Static_assert(SKELFORA_SUMMARY_SIZE == 2 * SKELFORA_ACTIVITIES, "a summary has two bytes for each activity");
+_Static_assert(SKELFORA_PAIRS_ROOM == SKELFORA_ACTIVITIES * SKELFORA_ACTIVITIES, "a relation has at most all pairs");
+
+/* The same with sets of 16 bytes. */
+_Static_assert(SKELFORA_WIDE_MARKING_SIZE == 4 * 16, "a marking has four sets");
+_Static_assert(SKELFORA_WIDE_HEAD_SIZE == 1 + 16 + SKELFORA_WIDE_MARKING_SIZE, "a head has A, the events and a marking");
+_Static_assert(SKELFORA_WIDE_HEAD_STORED == SKELFORA_WIDE_HEAD_SIZE - 16, "a file lacks one set of it");
+_Static_assert(SKELFORA_WIDE_PLACE_SIZE == 1 + SKELFORA_WIDE_MARKING_SIZE, "a place has a byte and a marking");
+_Static_assert(SKELFORA_WIDE_TABLE_ROOM == SKELFORA_PLACES * SKELFORA_WIDE_PLACE_SIZE, "a table has 32 places");
+_Static_assert(SKELFORA_WIDE_GRAPH_ROOM == 4 + 4 * 16 + 16 + 4 * 128 * 17, "a graph file has a head and 128 rows of each relation");
+_Static_assert(SKELFORA_WIDE_SUMMARY_SIZE == 2 * SKELFORA_WIDE_ACTIVITIES, "a summary has two bytes for each activity");
+_Static_assert(SKELFORA_WIDE_PAIRS_ROOM == SKELFORA_WIDE_ACTIVITIES * SKELFORA_WIDE_ACTIVITIES, "a relation has at most all pairs");
+_Static_assert(SKELFORA_WIDE_PAIRS_ROOM == SKELFORA_MOST_PAIRS, "and no list may be longer");
 
 /* What the comparison with the judge does not try: a listing's buffer that is too short gets 7 and stays as it was. */
 static int short_buffers(void) {
     memset(lent, UNTOUCHED, ROOM);
     uint64_t before = hash(lent, ROOM);
     int wrong = skelfora_listing(input, 0, SKELFORA_FULL, lent, SKELFORA_LISTING_ROOM - 1) != 7;
+    const uint8_t wide[] = {66, 76, SKELFORA_WIDE_EDITION, 65, 0, 0};
+    wrong += !skelfora_is_wide(wide, sizeof wide) || skelfora_is_wide(wide, 2);
+    wrong += skelfora_listing(wide, sizeof wide, SKELFORA_FULL, lent, SKELFORA_WIDE_LISTING_ROOM - 1) != 7;
     wrong += skelfora_guesses_text(input, 0, input, 0, lent, SKELFORA_MARKS_ROOM - 1) != 7;
     return wrong + (hash(lent, ROOM) != before);
 }

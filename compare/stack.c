@@ -15,11 +15,12 @@ enum { FULL, LIGHT };
 enum { TRACES = 1024, LENGTH = 32, STACK = 4 << 20, PAINT = 0xA5 };
 
 static uint8_t log_bytes[6 + 4 * TRACES + TRACES * LENGTH];
-static uint8_t out[1 << 18];
+static uint8_t out[1 << 20];
 
-static void fill(void) {
+/* Any of so many activities at each place; more than 64 have edition 2. */
+static void fill(uint8_t activities) {
     uint8_t *at = log_bytes;
-    const uint8_t head[6] = {66, 76, 1, 64, TRACES % 256, TRACES / 256};
+    const uint8_t head[6] = {66, 76, activities > 64 ? 2 : 1, activities, TRACES % 256, TRACES / 256};
     memcpy(at, head, 6);
     at += 6;
     for (int k = 0; k < TRACES; k++) {
@@ -33,7 +34,7 @@ static void fill(void) {
         x ^= x << 13;
         x ^= x >> 7;
         x ^= x << 17;
-        *at++ = x % 64;
+        *at++ = x % activities;
     }
 }
 
@@ -78,11 +79,14 @@ static size_t used(void *(*job)(void *), const struct work *work) {
 }
 
 int main(void) {
-    fill();
+    fill(64);
     size_t alone = used(rest, NULL);
     size_t first = used(run, &works[0]) - alone;
-    for (size_t i = 0; i < sizeof works / sizeof works[0]; i++)
-        printf("%s: %zu bytes of stack\n", works[i].name, used(run, &works[i]) - alone);
+    for (uint8_t activities = 64; activities <= 128; activities += 64) {
+        fill(activities);
+        for (size_t i = 0; i < sizeof works / sizeof works[0]; i++)
+            printf("%s, %d activities: %zu bytes of stack\n", works[i].name, activities, used(run, &works[i]) - alone);
+    }
     printf("the very first call, %s: %zu\n", works[0].name, first);
     return 0;
 }

@@ -51,23 +51,44 @@ enum {
 /* What skelfora_blocker gives beside every number but SKELFORA_WAITING. */
 #define SKELFORA_NO_BLOCKER 255
 
-/* Room that is always enough, in bytes. */
+/* Two sizes. A log or a graph file of edition 1 has up to 64 activities and sets of 8 bytes, one of edition 2 has 65 to 128 and sets of 16.
+ * What is lent beside it goes by its edition (byte 2 of a log or a graph file), whatever else stands in it; beside a head by the head's A (byte 0).
+ * So with up to 64 activities nothing is longer than the sizes without WIDE in their name. skelfora_is_wide tells which it is. */
+#define SKELFORA_ACTIVITIES 64
+#define SKELFORA_WIDE_ACTIVITIES 128
+#define SKELFORA_WIDE_EDITION 2
+
+/* Room that is always enough, in bytes, for either size. */
 #define SKELFORA_LOG_ROOM 36871      /* a log read from a file: one byte more than the longest, so that a longer file is refused */
+#define SKELFORA_MARKS_ROOM 98       /* the text of marks; the functions that write it ask for no less */
+#define SKELFORA_TALLY_SIZE 36864    /* a tally of months: 4,608 sets of 8 bytes; more bytes are not looked at. Up to 64 activities only */
+#define SKELFORA_KNOWN_SIZE 2057     /* what a tally gives: A, the events, 64 rows of 8 bytes for each of four relations */
+#define SKELFORA_TRACES_ROOM 1024    /* a byte for each trace of any log: labels, guesses, replays */
+#define SKELFORA_PLACES 32           /* the places of a desk, from 0 */
+#define SKELFORA_HEAD_AT 3           /* where the first SKELFORA_HEAD_STORED bytes of a head stand in a graph's file */
+#define SKELFORA_MOST_PAIRS 16384    /* a list of the plain engine with more pairs is refused, whatever A is */
+
+/* With up to 64 activities. */
 #define SKELFORA_GRAPH_ROOM 2356     /* a graph file: 52, and 9 for each of 4 x 64 rows */
 #define SKELFORA_LISTING_ROOM 147506 /* a listing; skelfora_listing asks for no less */
 #define SKELFORA_SUMMARY_SIZE 128    /* a summary: a byte for each of 64 activities, twice */
-#define SKELFORA_MARKS_ROOM 98       /* the text of marks; the functions that write it ask for no less */
-#define SKELFORA_TALLY_SIZE 36864    /* a tally of months: 4,608 sets of 8 bytes; more bytes are not looked at */
-#define SKELFORA_KNOWN_SIZE 2057     /* what a tally gives: A, the events, 64 rows of 8 bytes for each of four relations */
-#define SKELFORA_TRACES_ROOM 1024    /* a byte for each trace of any log: labels, guesses, replays */
 #define SKELFORA_MARKING_SIZE 32     /* a marking: executed, pending, included, enabled, 8 bytes each */
 #define SKELFORA_HEAD_SIZE 41        /* a head: A, then events, then a marking */
-#define SKELFORA_HEAD_AT 3           /* where the first SKELFORA_HEAD_STORED bytes of a head stand in a graph's file ... */
-#define SKELFORA_HEAD_STORED 33      /* ... which has all of it but the enabled set: skelfora_opening gives that */
-#define SKELFORA_PLACES 32           /* the places of a desk, from 0 */
+#define SKELFORA_HEAD_STORED 33      /* a graph's file has all of it but the enabled set: skelfora_opening gives that */
 #define SKELFORA_PLACE_SIZE 33       /* a place: one byte, 0 where it is free, then its marking */
 #define SKELFORA_TABLE_ROOM 1056     /* a desk's table; all zeros is a fresh desk, and more bytes are not looked at */
-#define SKELFORA_PAIRS_ROOM 4096     /* the pairs of a relation, as 16-bit numbers; a longer list is refused */
+#define SKELFORA_PAIRS_ROOM 4096     /* the pairs of a relation, as 16-bit numbers */
+
+/* With 65 to 128; room for these is enough for either. */
+#define SKELFORA_WIDE_GRAPH_ROOM 8788     /* 84, and 17 for each of 4 x 128 rows */
+#define SKELFORA_WIDE_LISTING_ROOM 671799
+#define SKELFORA_WIDE_SUMMARY_SIZE 256
+#define SKELFORA_WIDE_MARKING_SIZE 64     /* four sets of 16 bytes */
+#define SKELFORA_WIDE_HEAD_SIZE 81
+#define SKELFORA_WIDE_HEAD_STORED 65
+#define SKELFORA_WIDE_PLACE_SIZE 65
+#define SKELFORA_WIDE_TABLE_ROOM 2080
+#define SKELFORA_WIDE_PAIRS_ROOM 16384
 
 /* Mines a log in a profile and writes its graph file into the first bytes of file.
  * Gives number + 256 * length of the file. */
@@ -78,7 +99,7 @@ uint64_t skelfora_mine(const uint8_t *log, size_t log_len, uint8_t profile, uint
 uint64_t skelfora_listing(const uint8_t *log, size_t log_len, uint8_t profile, uint8_t *out, size_t room);
 
 /* Mines a log in a profile and counts its pairs: byte a of out is how many other events a is a condition for, byte 64 + a how many
- * others it excludes; 0 and 0 for what is no event. Gives the number; the log is judged before the room. */
+ * others it excludes; 0 and 0 for what is no event. Of a log of edition 2 that is byte 128 + a. Gives the number; the log is judged before the room. */
 uint64_t skelfora_summary(const uint8_t *log, size_t log_len, uint8_t profile, uint8_t *out, size_t room);
 
 /* Months put together. A tally holds A and all that steps 1 to 8 of mining need to know of some traces: docs/FORMATS.md has its layout. */
@@ -105,26 +126,27 @@ uint64_t skelfora_rewrite(const uint8_t *file, size_t file_len, uint8_t *out, si
 uint64_t skelfora_replay(const uint8_t *file, size_t file_len, const uint8_t *trace, size_t trace_len);
 
 /* A marking has the steps that are enabled as its fourth set. One that is handed over with another set than the true one for this graph is
- * refused with SKELFORA_FALSE_ENABLED, after SKELFORA_OUTSIDE, and stays as it was; so keep all 32 bytes as they were given back. */
+ * refused with SKELFORA_FALSE_ENABLED, after SKELFORA_OUTSIDE, and stays as it was; so keep all bytes of a marking as they were given back. They are 32;
+ * beside a file of edition 2, or a head with A above 64, they are 64, and a head of 41 bytes is one of 81. */
 
-/* The opening marking of a graph file, with its enabled steps, into the first 32 bytes of marking.
+/* The opening marking of a graph file, with its enabled steps, into the first 32 (64) bytes of marking.
  * Gives the number; the file is judged before the room. Refused, marking stays as it was. */
 uint64_t skelfora_opening(const uint8_t *file, size_t file_len, uint8_t *marking, size_t room);
 
-/* One step of an activity on the graph of a file, at the marking in the first 32 lent bytes.
+/* One step of an activity on the graph of a file, at the marking in the first 32 (64) lent bytes.
  * Gives number + 2^40 * blocker; the file is judged before the room for the marking. */
 uint64_t skelfora_step(const uint8_t *file, size_t file_len, uint8_t *marking, size_t marking_len, uint8_t activity);
 
-/* The plain engine: a graph is its head in the first 41 bytes, and four lists of pairs, source * 256 + target; lengths count pairs.
- * Fewer than 41 bytes give 7, before all else. A head whose own enabled set is false gives SKELFORA_FALSE_ENABLED. */
+/* The plain engine: a graph is its head in the first 41 (81) bytes, and four lists of pairs, source * 256 + target; lengths count pairs.
+ * Fewer bytes give 7, before all else. A head whose own enabled set is false gives SKELFORA_FALSE_ENABLED. */
 
-/* One step of an activity at the marking in the first 32 lent bytes.
+/* One step of an activity at the marking in the first 32 (64) lent bytes.
  * Gives number + 2^40 * blocker; the graph is judged before the room for the marking. */
 uint64_t skelfora_plain_step(const uint8_t *head, size_t head_len, const uint16_t *conditions, size_t conditions_len,
                              const uint16_t *responses, size_t responses_len, const uint16_t *includes, size_t includes_len,
                              const uint16_t *excludes, size_t excludes_len, uint8_t *marking, size_t marking_len, uint8_t activity);
 
-/* Whether the marking in the first 32 bytes is accepting.
+/* Whether the marking in the first 32 (64) bytes is accepting.
  * Gives the number, and 2^32 more where it is. */
 uint64_t skelfora_plain_accepting(const uint8_t *head, size_t head_len, const uint16_t *conditions, size_t conditions_len,
                                   const uint16_t *responses, size_t responses_len, const uint16_t *includes, size_t includes_len,
@@ -136,9 +158,9 @@ uint64_t skelfora_plain_replay(const uint8_t *head, size_t head_len, const uint1
                                const uint16_t *responses, size_t responses_len, const uint16_t *includes, size_t includes_len,
                                const uint16_t *excludes, size_t excludes_len, const uint8_t *trace, size_t trace_len);
 
-/* How a half-done call can still finish: from a marking of 32 bytes the shortest way to its end, at most SKELFORA_WAY_ROOM steps, and of these
+/* How a half-done call can still finish: from a marking the shortest way to its end, at most SKELFORA_WAY_ROOM steps, and of these
  * the first by activity numbers, into the first bytes of way; SKELFORA_NO_STEP in those that are not used, in all where the call may end now.
- * Gives the number: the file's, SKELFORA_BUFFER_TOO_SMALL for fewer than 32 bytes or fewer than four, SKELFORA_OUTSIDE,
+ * Gives the number: the file's, SKELFORA_BUFFER_TOO_SMALL for fewer than 32 (64) bytes or fewer than four, SKELFORA_OUTSIDE,
  * SKELFORA_FALSE_ENABLED, SKELFORA_NO_WAY_OUT where no four steps end it. Refused, way stays as it was. */
 uint64_t skelfora_finish(const uint8_t *file, size_t file_len, const uint8_t *marking, size_t marking_len, uint8_t *way, size_t room);
 
@@ -168,7 +190,7 @@ uint64_t skelfora_replays(const uint8_t *file, size_t file_len, const uint8_t *l
  * Gives number + 256 * how many pairs. */
 uint64_t skelfora_fill(const uint8_t *file, size_t file_len, uint8_t kind, uint16_t *memory, size_t room);
 
-/* The call desk: the graph of a file, and a table of 32 places in the first 1,056 lent bytes. Fewer bytes give 7, before all else. Of step,
+/* The call desk: the graph of a file, and a table of 32 places in the first 1,056 (2,080) lent bytes. Fewer bytes give 7, before all else. Of step,
  * close and finish 14 comes next (the place is above 31 or not open), then the file's refusals. A refusal leaves the whole table as it was. */
 
 /* Gives the lowest free place a call at the graph's opening marking.
@@ -185,6 +207,9 @@ uint64_t skelfora_desk_close(const uint8_t *file, size_t file_len, uint8_t *tabl
  * fewer than four bytes of way. The table is only looked at. Gives the number; refused, way stays as it was. */
 uint64_t skelfora_desk_finish(const uint8_t *file, size_t file_len, const uint8_t *table, size_t table_len, size_t place, uint8_t *way,
                               size_t room);
+
+/* Whether a log or a graph file is of edition 2, so that the sizes with WIDE in their name are to be lent beside it. */
+static inline int skelfora_is_wide(const uint8_t *bytes, size_t len) { return len > 2 && bytes[2] == SKELFORA_WIDE_EDITION; }
 
 /* The parts of what they give. Only a step and a replay have a blocker: beside SKELFORA_WAITING the smallest activity that the step
  * waits for, SKELFORA_NO_BLOCKER beside every other number, SKELFORA_DONE too. So ask for the number of a step that was done. */

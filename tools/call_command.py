@@ -34,9 +34,9 @@ written"""
 # What the numbers that refuse a graph file mean.
 MEANING = {
     1: "shorter than it must be: cut off, or no graph file at all",
-    2: "no graph file of edition 1: it does not begin with the bytes 66 71 1",
-    3: "more than 64 activities, or more than 64 rows of a relation",
-    4: "an offset is not 9 times the earlier rows, or bytes follow the end",
+    2: "no graph file: it does not begin with the bytes 66 71 and the edition, 1 or 2",
+    3: "more than 128 activities, not the edition for them (1 up to 64, 2 above), or more rows of a relation than 64, in edition 2 than 128",
+    4: "an offset is not 9 times the earlier rows, in edition 2 17 times, or bytes follow the end",
     5: "an event, a marking or a row that is not below the number of activities or not among the events",
     6: "a row is empty, or its key is not above the one before",
 }
@@ -132,7 +132,7 @@ class Call:
         return stepped
 
     def events(self):
-        return port.members(self.graph[4:12])
+        return port.members(self.graph[4 : 4 + port.set_size(self.graph)])
 
     def included(self):
         return port.sets(self.marking).included

@@ -74,7 +74,7 @@ class Desk:
 
     def __init__(self, library, file, called):
         self.library, self.file, self.called = library, file, called
-        self.table = port.buffer(port.PLACES * port.PLACE)
+        self.table = port.buffer(port.PLACES * port.place_size(file))
 
     def name(self, step):
         return self.called[step] if self.called is not None and step < len(self.called) else str(step)
@@ -130,8 +130,8 @@ class Desk:
         return "open " + ("; ".join(told) or "none")
 
     def sets(self, place):
-        at = port.PLACE * place + 1
-        return port.sets(self.table.raw[at : at + port.MARKING])
+        end = port.place_size(self.file) * (place + 1)
+        return port.sets(self.table.raw[end - port.marking_size(self.file) : end])
 
     def show(self, place):
         refused = self.not_open(place)

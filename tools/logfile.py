@@ -4,9 +4,12 @@ import sys
 
 from command import Fault, reason
 
-LETTERS = b"BL\x01"
+LETTERS = b"BL"
 
-MOST_NAMES = 64
+# The editions, and the most activities of each (02, 10/12): 1 up to 64, 2 from 65 on.
+EDITIONS = {1: 64, 2: 128}
+
+MOST_NAMES = max(EDITIONS.values())
 MOST_CALLS = 1024
 LONGEST_CALL = 512
 MOST_STEPS = 32768
@@ -17,8 +20,8 @@ ENOUGH = 36871
 # What the numbers that refuse a log mean.
 MEANING = {
     1: "shorter than it must be: cut off, or no log at all",
-    2: "no log of edition 1: it does not begin with the bytes 66 76 1",
-    3: "more than 64 activities, 1,024 calls, 512 steps in a call or 32,768 in all",
+    2: "no log: it does not begin with the bytes 66 76 and the edition, 1 or 2",
+    3: "more than 128 activities, 1,024 calls, 512 steps in a call or 32,768 in all, or not the edition for its activities: 1 up to 64, 2 above",
     4: "an offset is not the sum of the earlier lengths, or bytes follow the end",
     5: "a step's number is not below the number of activities",
 }
@@ -35,11 +38,21 @@ def read(path):
         raise Fault(f"can't read {path}: {reason(error)}") from error
 
 
+def opening(edition):
+    """The bytes that a log of this edition begins with."""
+    return LETTERS + bytes([edition])
+
+
+def edition_for(activities):
+    """The edition of a log with so many activities."""
+    return min(edition for edition, most in EDITIONS.items() if activities <= most)
+
+
 def replaceable(path):
     """Whether nothing but a log, or an empty file, would be written over."""
     try:
         with open(path, "rb") as file:
-            return file.read(len(LETTERS)) in (LETTERS, b"")
+            return file.read(len(LETTERS) + 1) in (b"", *map(opening, EDITIONS))
     except OSError:
         return not os.path.exists(path)
 
@@ -77,4 +90,4 @@ def encoded(calls, names):
     for call in calls:
         entries += len(bodies).to_bytes(2, "little") + len(call.steps).to_bytes(2, "little")
         bodies += bytes(number[step] for step in call.steps)
-    return LETTERS + bytes([len(names)]) + len(calls).to_bytes(2, "little") + bytes(entries) + bytes(bodies)
+    return opening(edition_for(len(names))) + bytes([len(names)]) + len(calls).to_bytes(2, "little") + bytes(entries) + bytes(bodies)

@@ -7,18 +7,19 @@ import library_command
 import program
 from command import Fault
 
-GRAPH_ROOM = 2356
+# Enough for a graph file of either edition.
+GRAPH_ROOM = 8788
 MARKS_ROOM = 98
-SET = 8
+
+# A set has 8 bytes for up to 64 activities, and 16 in what belongs to a graph file of edition 2 (02, 10/12).
+SET, WIDE_SET, WIDE_EDITION = 8, 16, 2
 
 # A marking's sets, in the order of its bytes; enabled is what can be done next.
 Sets = namedtuple("Sets", "executed pending included enabled")
-MARKING = SET * len(Sets._fields)
-
 # A tally, and what is read from it: A, the events, and four relations of 64 rows (docs/FORMATS.md).
 TALLY, RELATIONS = 36864, 1 + SET + 4 * 64 * SET
 
-PLACES, PLACE = 32, 1 + MARKING
+PLACES = 32
 NO_PLACE = 255
 
 # The bytes of a way out, and what stands in one that is not used.
@@ -90,15 +91,30 @@ def accepting(given):
     return given >> 32 & 1 == 1
 
 
+def set_size(file):
+    """The bytes of a set, in a graph file and in what is lent beside it: by the file's edition."""
+    return WIDE_SET if file[2:3] == bytes([WIDE_EDITION]) else SET
+
+
+def marking_size(file):
+    return set_size(file) * len(Sets._fields)
+
+
+def place_size(file):
+    """A desk's place: a byte, 0 where it is free, then its marking."""
+    return 1 + marking_size(file)
+
+
 def members(data):
-    """A set of 8 bytes as step numbers, rising."""
+    """A set as step numbers, rising."""
     bits = int.from_bytes(data, "little")
-    return [step for step in range(8 * SET) if bits >> step & 1]
+    return [step for step in range(8 * len(data)) if bits >> step & 1]
 
 
 def sets(marking):
     """The four sets of a marking, each as step numbers."""
-    return Sets(*(members(marking[at : at + SET]) for at in range(0, MARKING, SET)))
+    size = len(marking) // len(Sets._fields)
+    return Sets(*(members(marking[at : at + size]) for at in range(0, len(marking), size)))
 
 
 def way():

@@ -28,7 +28,7 @@ class Library:
 
     def opening(self, file):
         """The opening marking of a graph file that was judged."""
-        lent = port.buffer(port.MARKING)
+        lent = port.buffer(port.marking_size(file))
         self.call("skelfora_opening", file, lent)
         return lent.raw
 

@@ -28,6 +28,8 @@ WITHOUT = "steps 9 and 10 are not in it: they need the calls, and a tally has no
 # A tally's first byte is its number of activities, a log's is 66: so no file is taken for both.
 MOST_ACTIVITIES = 64
 
+TOO_MANY = f"more than {MOST_ACTIVITIES} activities: a tally has room for {MOST_ACTIVITIES}, so such months can't be put together"
+
 
 def parser():
     words = Parser(prog="./year", usage="./year [full|light] [--names FILE] [--save FILE] MONTH...", description=ABOUT, epilog=STATUS)
@@ -66,7 +68,10 @@ def replaceable(path):
 
 
 def why(number, data):
-    """Why a month is refused. What does not begin as a log does may have been meant for a tally."""
+    """Why a month is refused. An accepted log may have too many activities for a tally; what does not begin as a log does may have been
+    meant for one."""
+    if number == 3 and data.startswith(logfile.opening(2)) and data[3:4] > bytes([MOST_ACTIVITIES]):
+        return f"{number}: {TOO_MANY}"
     beside = "" if data.startswith(logfile.LETTERS) else f"; nor is it a tally: that has {port.TALLY:,} bytes, the first at most {MOST_ACTIVITIES}"
     return f"{number}: {logfile.MEANING[number]}{beside}"
 

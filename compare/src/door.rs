@@ -28,12 +28,12 @@ pub struct Door {
     pub replay: fn(&[u8], &[u8]) -> u64,
     /// graph file, graph file
     pub rewrite: Fill,
-    /// graph file, marking: the graph's opening one (with fewer than `MARKING` bytes 7) -> number
+    /// graph file, marking: the graph's opening one (with fewer than `Form::marking` bytes 7) -> number
     pub opening: Fill,
-    /// graph file, marking (with fewer than `MARKING` bytes 7), activity
+    /// graph file, marking (with fewer than `Form::marking` bytes 7), activity
     /// -> number + 2^40 x blocker
     pub step: fn(&[u8], &mut [u8], u8) -> u64,
-    /// graph file, marking (with fewer than `MARKING` bytes 7), the four steps of the way (with
+    /// graph file, marking (with fewer than `Form::marking` bytes 7), the four steps of the way (with
     /// fewer than four bytes 7) -> number
     pub finish: fn(&[u8], &[u8], &mut [u8]) -> u64,
     /// graph file, trace, activity -> number + 256 x what shut it out, 255 where nothing did
@@ -71,16 +71,97 @@ pub struct Door {
     pub tally_relations: Mining,
 }
 
-/// No listing is longer: four relations of 4,096 lines of 8 bytes, 1,024 lines of at
-/// most 17, and the first line.
-pub const LISTING_ROOM: usize = 4 * 4096 * 8 + 1024 * 17 + 128;
+/// How a set stands in bytes, and with it all that is lent: 8 bytes where A is at most 64, 16 above (02, 10/12). A caller with A up
+/// to 64 lends what he lent before.
+#[derive(Clone, Copy, PartialEq, Eq, Debug)]
+pub struct Form {
+    /// the bytes of a set
+    pub set: usize,
+}
 
-/// A byte for each of 64 activities: how many others it is a condition for, then, in as many
-/// bytes more, how many others it excludes.
-pub const SUMMARY_ROOM: usize = 2 * 64;
+impl Form {
+    pub const NARROW: Form = Form { set: 8 };
+    pub const WIDE: Form = Form { set: 16 };
 
-/// No graph file is longer: 52 bytes and four times 64 rows of 9.
-pub const GRAPH_ROOM: usize = 52 + 4 * 64 * 9;
+    /// By A, where there is no file.
+    pub const fn of(a: u8) -> Form {
+        if a > 64 {
+            Form::WIDE
+        } else {
+            Form::NARROW
+        }
+    }
+
+    /// By the edition of a file or log, whatever else it holds.
+    pub fn in_file(bytes: &[u8]) -> Form {
+        match bytes.get(2) {
+            Some(2) => Form::WIDE,
+            _ => Form::NARROW,
+        }
+    }
+
+    pub const fn activities(self) -> usize {
+        8 * self.set
+    }
+
+    /// A lent marking: executed, pending, included, enabled (02, 6/12).
+    pub const fn marking(self) -> usize {
+        4 * self.set
+    }
+
+    /// A plain graph's head: A, events, and a marking, which begins at `head_marking`.
+    pub const fn head_marking(self) -> usize {
+        1 + self.set
+    }
+
+    pub const fn head(self) -> usize {
+        self.head_marking() + self.marking()
+    }
+
+    /// The part of a graph file that such a head begins with: A, events and three sets. The file has no fourth.
+    pub const fn file_head(self) -> std::ops::Range<usize> {
+        3..4 + 4 * self.set
+    }
+
+    /// A desk's place: a byte, 0 where it is free, then its marking; and the table of all.
+    pub const fn place(self) -> usize {
+        1 + self.marking()
+    }
+
+    pub const fn table(self) -> usize {
+        PLACES * self.place()
+    }
+
+    /// A byte for each activity: how many others it is a condition for, then, in as many bytes
+    /// more, how many others it excludes.
+    pub const fn summary(self) -> usize {
+        2 * self.activities()
+    }
+
+    /// A graph file's first row; a row; and no graph file is longer.
+    pub const fn first_row(self) -> usize {
+        20 + 4 * self.set
+    }
+
+    pub const fn row(self) -> usize {
+        1 + self.set
+    }
+
+    pub const fn graph(self) -> usize {
+        self.first_row() + 4 * self.activities() * self.row()
+    }
+
+    /// No listing is longer: the first line, four relations of lines of 8 or 10 bytes, 1,024 lines of
+    /// at most 16. Less room is refused.
+    pub const fn listing(self) -> usize {
+        let (first, pair) = if self.set == 8 { (50, 8) } else { (55, 10) };
+        first + 4 * self.activities() * self.activities() * pair + 1024 * 16
+    }
+}
+
+/// Room for any listing and for any graph file.
+pub const LISTING_ROOM: usize = Form::WIDE.listing();
+pub const GRAPH_ROOM: usize = Form::WIDE.graph();
 
 /// No text of marks is longer; less room is refused.
 pub const MARKS_ROOM: usize = 98;
@@ -91,36 +172,21 @@ pub const WAY: usize = 4;
 /// Stands in an activity's stead where there is none.
 pub const NO_ACTIVITY: u8 = 255;
 
-/// A set in bytes.
-pub const SET: usize = 8;
-
-/// A tally (02, 12/12).
+/// A tally (02, 12/12), and the most activities that it has.
 pub const TALLY_ROOM: usize = 36_864;
+pub const TALLIED: u8 = 64;
 
 /// What a tally gives: A, the events, and the rows of four relations.
-pub const RELATIONS_ROOM: usize = 1 + SET + 4 * 64 * SET;
+pub const RELATIONS_ROOM: usize = 1 + 8 + 4 * 64 * 8;
 
-/// A lent marking: executed, pending, included, enabled (02, 6/12).
-pub const MARKING: usize = 4 * SET;
-
-/// A plain graph's head: A, events, and a marking, which begins at `HEAD_MARKING`.
-pub const HEAD_MARKING: usize = 1 + SET;
-pub const HEAD: usize = HEAD_MARKING + MARKING;
-
-/// A desk's places; of each a byte, 0 where it is free, then its marking; and the whole table.
+/// A desk's places.
 pub const PLACES: usize = 32;
-pub const PLACE: usize = 1 + MARKING;
-pub const TABLE_ROOM: usize = PLACES * PLACE;
-
-/// The part of a graph file that a plain graph's head begins with: A, events and three sets. The
-/// file has no fourth.
-pub const FILE_HEAD: std::ops::Range<usize> = 3..36;
 
 /// Stands in a place's stead where open is refused.
 pub const NO_PLACE: usize = 255;
 
-/// No relation has more pairs, and no list may.
-pub const MOST_PAIRS: usize = 4096;
+/// No relation has more pairs, and no list may, whatever A is.
+pub const MOST_PAIRS: usize = 16_384;
 
 pub fn filled(number: u8, length: usize) -> u64 {
     u64::from(number) + 256 * length as u64

@@ -1,44 +1,61 @@
 //! Plain data that crosses between the implementations. No rule of 01 is decided here.
 
-/// One set for each activity number, bit a for activity a.
-pub type Rows = [u64; 64];
-
-/// Any four sets: the last may be another than the set of enabled events (02, 6/12).
+/// Any four sets, bit a for activity a: the last may be another than the set of enabled events (02, 6/12).
 #[derive(Clone, Copy, PartialEq, Eq, Debug, Default)]
-pub struct MarkingValue {
-    pub executed: u64,
-    pub pending: u64,
-    pub included: u64,
-    pub enabled: u64,
+pub struct MarkingOf<W> {
+    pub executed: W,
+    pub pending: W,
+    pub included: W,
+    pub enabled: W,
 }
 
-/// A graph as a value: nothing about it is promised, it may be one that 01 refuses.
-/// The rows of `conditions` are kept by target, the other three by source.
+/// A graph as a value: nothing about it is promised, it may be one that 01 refuses. One set for each
+/// activity number; the rows of `conditions` are kept by target, the other three by source.
 #[derive(Clone, PartialEq, Eq, Debug)]
-pub struct GraphValue {
+pub struct GraphOf<W, const N: usize> {
     pub a: u8,
-    pub events: u64,
-    pub marking: MarkingValue,
-    pub conditions: Rows,
-    pub responses: Rows,
-    pub includes: Rows,
-    pub excludes: Rows,
+    pub events: W,
+    pub marking: MarkingOf<W>,
+    pub conditions: [W; N],
+    pub responses: [W; N],
+    pub includes: [W; N],
+    pub excludes: [W; N],
+}
+
+/// With room for either size: up to 128 activities (02, 10/12).
+pub type GraphValue = GraphOf<u128, 128>;
+pub type MarkingValue = MarkingOf<u128>;
+pub type Rows = [u128; 128];
+
+impl<W: Copy + Default, const N: usize> GraphOf<W, N> {
+    #[inline(always)]
+    pub fn empty() -> GraphOf<W, N> {
+        GraphOf {
+            a: 0,
+            events: W::default(),
+            marking: MarkingOf::default(),
+            conditions: [W::default(); N],
+            responses: [W::default(); N],
+            includes: [W::default(); N],
+            excludes: [W::default(); N],
+        }
+    }
 }
 
 impl GraphValue {
-    pub const EMPTY: GraphValue = GraphValue {
+    pub const EMPTY: GraphValue = GraphOf {
         a: 0,
         events: 0,
-        marking: MarkingValue {
+        marking: MarkingOf {
             executed: 0,
             pending: 0,
             included: 0,
             enabled: 0,
         },
-        conditions: [0; 64],
-        responses: [0; 64],
-        includes: [0; 64],
-        excludes: [0; 64],
+        conditions: [0; 128],
+        responses: [0; 128],
+        includes: [0; 128],
+        excludes: [0; 128],
     };
 }
 
@@ -81,20 +98,22 @@ pub enum Request {
 
 /// What replay returns.
 #[derive(Clone, Copy, PartialEq, Eq, Debug)]
-pub struct Replayed {
+pub struct ReplayedOf<W> {
     pub answer: Answer,
     pub place: usize,
-    pub marking: MarkingValue,
+    pub marking: MarkingOf<W>,
     pub accepting: bool,
 }
 
-impl Replayed {
+pub type Replayed = ReplayedOf<u128>;
+
+impl<W: Default> ReplayedOf<W> {
     /// Refused before the first event was looked at.
-    pub fn refused(number: u8) -> Replayed {
-        Replayed {
+    pub fn refused(number: u8) -> ReplayedOf<W> {
+        ReplayedOf {
             answer: number.into(),
             place: 0,
-            marking: MarkingValue::default(),
+            marking: MarkingOf::default(),
             accepting: false,
         }
     }

@@ -1,11 +1,15 @@
 //! The call desk's functions, with results worked out by hand from 01's G and 02's 5/12.
 mod common;
 use common::*;
-use compare::door::{Door, PLACE, TABLE_ROOM};
+use compare::door::{Door, Form};
 use compare::seeds::graphs::file;
 use compare::value::{GraphValue, MarkingValue};
 
 /// No blocker, and no place, above the number.
+/// A desk of at most 64 activities.
+const TABLE_ROOM: usize = Form::NARROW.table();
+const PLACE: usize = Form::NARROW.place();
+
 const BY_NONE: u64 = 255 << 40;
 const NOWHERE: u64 = 255 * 256;
 

@@ -1,9 +1,9 @@
 //! 02, 6/12: the set of enabled steps that a marking holds, with sets and numbers worked out by hand.
 mod common;
 use common::*;
-use compare::door::{Door, TABLE_ROOM};
+use compare::door::{Door, Form};
 use compare::judge::graph::{graph_of, marking_of, marking_value};
-use compare::seeds::graphs::{file, marking_bytes};
+use compare::seeds::graphs::file;
 use compare::seeds::plain;
 use compare::value::{Answer, GraphValue, MarkingValue, Replayed};
 use compare::{judge, yardstick};
@@ -11,7 +11,7 @@ use compare::{judge, yardstick};
 const BY_NONE: u64 = 255 << 40;
 
 /// executed, pending, included, enabled
-fn marking([executed, pending, included, enabled]: [u64; 4]) -> MarkingValue {
+fn marking([executed, pending, included, enabled]: [u128; 4]) -> MarkingValue {
     MarkingValue {
         executed,
         pending,
@@ -21,7 +21,7 @@ fn marking([executed, pending, included, enabled]: [u64; 4]) -> MarkingValue {
 }
 
 /// A graph of three events, 0, 1, 2, no pair.
-fn three(opening: [u64; 4]) -> GraphValue {
+fn three(opening: [u128; 4]) -> GraphValue {
     GraphValue {
         a: 3,
         events: 7,
@@ -31,7 +31,7 @@ fn three(opening: [u64; 4]) -> GraphValue {
 }
 
 /// A step of a door's three engines, from a marking to one and with the same answer.
-fn steps(door: &Door, graph: &GraphValue, from: [u64; 4], e: u8, wanted: u64, then: [u64; 4]) {
+fn steps(door: &Door, graph: &GraphValue, from: [u128; 4], e: u8, wanted: u64, then: [u128; 4]) {
     let (from, then) = (marking_bytes(&marking(from)), marking_bytes(&marking(then)));
     let at = (door.name, from, e);
     let mut lent = from;
@@ -41,7 +41,7 @@ fn steps(door: &Door, graph: &GraphValue, from: [u64; 4], e: u8, wanted: u64, th
     let given = (door.plain_step)(&plain::of(graph), &mut lent, e);
     assert_eq!(given, wanted, "plain {at:?}");
     assert_eq!(lent, then, "plain {at:?}");
-    let mut table = vec![0; TABLE_ROOM];
+    let mut table = vec![0; Form::NARROW.table()];
     table[33] = 1;
     table[34..66].copy_from_slice(&from);
     let given = (door.desk_step)(&file(graph), &mut table, 1, e);
@@ -53,7 +53,7 @@ fn steps(door: &Door, graph: &GraphValue, from: [u64; 4], e: u8, wanted: u64, th
 /// and itself.
 #[test]
 fn a_call_on_g() {
-    let g = yardstick::graph_file::read(&g_file()).expect("G is accepted");
+    let g = yardstick::value::read(&g_file()).expect("G is accepted");
     assert_eq!(g.marking, marking([0, 0, 7, 1]));
     let call = [
         ([0, 0, 7, 1], 0, [1, 4, 6, 6]),
@@ -80,7 +80,7 @@ fn a_call_on_g() {
 /// Each way in which a step of 0 changes what is enabled.
 #[test]
 fn what_a_step_changes() {
-    let waits = |target: usize, source: u64| {
+    let waits = |target: usize, source: u128| {
         let mut graph = three([0; 4]);
         graph.conditions[target] = 1 << source;
         graph
@@ -126,7 +126,7 @@ fn a_false_set_is_not_believed() {
     let mut graph = three([0, 0, 5, 1]);
     graph.events = 5;
     graph.conditions[2] = 1;
-    let all = u64::MAX;
+    let all = u128::from(u64::MAX);
     for door in doors() {
         steps(&door, &graph, [0, 0, 5, 1], 0, BY_NONE, [1, 0, 5, 5]);
         // none, one too many, another, no event, not below A, the last that a set can hold, all
@@ -193,8 +193,8 @@ fn replayed(graph: &GraphValue, trace: &[u8]) -> [Replayed; 2] {
 /// where the graph's own set is false, after 3 and 5.
 #[test]
 fn replays_of_values() {
-    let g = yardstick::graph_file::read(&g_file()).expect("G is accepted");
-    let cases: [(&[u8], u8, [u64; 4]); 5] = [
+    let g = yardstick::value::read(&g_file()).expect("G is accepted");
+    let cases: [(&[u8], u8, [u128; 4]); 5] = [
         (&[], 0, [0, 0, 7, 1]),
         (&[0], 0, [1, 4, 6, 6]),
         (&[0, 0], 9, [1, 4, 6, 6]),
@@ -225,7 +225,7 @@ fn replays_of_values() {
 /// A write: 3, 5, 16, then 7. The file has no place for the set, so a true one leaves no trace.
 #[test]
 fn reading_22_write() {
-    let g = yardstick::graph_file::read(&g_file()).expect("G is accepted");
+    let g = yardstick::value::read(&g_file()).expect("G is accepted");
     let with = |change: fn(&mut GraphValue)| {
         let mut graph = g.clone();
         graph.marking.enabled = 9;
@@ -233,7 +233,7 @@ fn reading_22_write() {
         graph
     };
     for (graph, room, wanted) in [
-        (with(|g| g.a = 65), 0, 3),
+        (with(|g| g.a = 129), 0, 3),
         (with(|g| g.excludes[2] = 8), 0, 5),
         (with(|_| ()), 0, 16),
         (with(|_| ()), 124, 16),
@@ -241,7 +241,7 @@ fn reading_22_write() {
     ] {
         let (mut ours, mut theirs) = (vec![9; room], vec![9; room]);
         let judged = judge::graph_file::write(&graph_of(&graph), &mut ours);
-        let measured = yardstick::graph_file::write(&graph, &mut theirs);
+        let measured = yardstick::value::write(&graph, &mut theirs);
         assert_eq!((judged, measured), (Err(wanted), Err(wanted)));
         assert_eq!((&ours, &theirs), (&vec![9; room], &vec![9; room]));
     }

@@ -2,13 +2,13 @@
 mod common;
 use common::*;
 use compare::judge::graph::{graph_of, marking_of, marking_value};
-use compare::seeds::graphs::{file, marking_bytes};
+use compare::seeds::graphs::file;
 use compare::value::{Answer, GraphValue, MarkingValue, Replayed};
 use compare::yardstick::engine::kept;
 use compare::{judge, yardstick};
 
-fn set(members: &[u8]) -> u64 {
-    members.iter().map(|a| 1u64 << a).sum()
+fn set(members: &[u8]) -> u128 {
+    members.iter().map(|a| 1u128 << a).sum()
 }
 
 /// What is enabled then stands in `tests/enabled.rs` by hand; here it is worked out.
@@ -47,7 +47,7 @@ fn replayed(graph: &GraphValue, trace: &[u8]) -> [Replayed; 2] {
 }
 
 fn g() -> GraphValue {
-    yardstick::graph_file::read(&g_file()).expect("G is accepted")
+    yardstick::value::read(&g_file()).expect("G is accepted")
 }
 
 #[test]
@@ -233,7 +233,7 @@ fn readings_10_and_11_graph_values() {
     };
     let cases = [
         (8, sound.clone()),
-        (3, with(|g| g.a = 65)),
+        (3, with(|g| g.a = 129)),
         (5, with(|g| g.a = 2)),
         (5, with(|g| g.marking.executed = 2)),
         (5, with(|g| g.marking.pending = 2)),
@@ -329,7 +329,7 @@ fn the_smallest_blocks() {
 #[test]
 fn reading_13_write() {
     let mut large = g();
-    large.a = 65;
+    large.a = 129;
     let mut stray = g();
     stray.excludes[2] = 8;
     for (graph, wanted) in [(large, 3), (stray, 5), (g(), 7)] {
@@ -338,6 +338,6 @@ fn reading_13_write() {
             judge::graph_file::write(&graph_of(&graph), &mut none),
             Err(wanted)
         );
-        assert_eq!(yardstick::graph_file::write(&graph, &mut none), Err(wanted));
+        assert_eq!(yardstick::value::write(&graph, &mut none), Err(wanted));
     }
 }

@@ -1,15 +1,15 @@
 //! The way out, and what shut a step out, with results worked out by hand from 02's 8/12.
 mod common;
 use common::*;
-use compare::door::{Door, MARKING};
-use compare::seeds::graphs::{file, marking_bytes};
+use compare::door::Door;
+use compare::seeds::graphs::file;
 use compare::value::{GraphValue, MarkingValue};
 use compare::yardstick::engine::kept;
 
 const NONE: [u8; 4] = [255; 4];
 
 /// A graph of three events, 0, 1, 2, all included, with these pending.
-fn three(pending: u64) -> GraphValue {
+fn three(pending: u128) -> GraphValue {
     let mut graph = GraphValue {
         a: 3,
         events: 7,

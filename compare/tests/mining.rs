@@ -200,7 +200,7 @@ fn no_such_profile() {
 fn reading_5_reduction_on_other_rows() {
     let events = [0, 1].into();
     assert!(judge::steps::reduced(&events, &[(0, 0), (0, 1)].into()).is_empty());
-    let mut rows = [0; 64];
+    let mut rows = [0u64; 64];
     rows[0] = 3;
     assert_eq!(yardstick::rows::reduced(&rows), [0; 64]);
 }

@@ -178,7 +178,15 @@ fn refused() {
         let sound = tally(&door, &L);
         let mut short = vec![9; TALLY_ROOM - 1];
         assert_eq!((door.tally)(&L[..18], &mut short), 1, "{}", door.name);
-        assert_eq!((door.tally)(&log(65, &[]), &mut short), 3, "{}", door.name);
+        assert_eq!((door.tally)(&log(129, &[]), &mut short), 3, "{}", door.name);
+        // an accepted log of more than 64 activities: 7, then 3
+        let mut whole = vec![9; TALLY_ROOM];
+        for a in [65, 97, 128] {
+            let wide = log(a, &[&[a - 1]]);
+            assert_eq!((door.tally)(&wide, &mut short), 7, "{}", door.name);
+            assert_eq!((door.tally)(&wide, &mut whole), 3, "{}", door.name);
+        }
+        assert!(whole.iter().all(|&byte| byte == 9), "{}", door.name);
         assert_eq!((door.tally)(&L, &mut short), 7, "{}", door.name);
         assert_eq!((door.tally_join)(&mut short, &sound), 7, "{}", door.name);
         assert!(short.iter().all(|&byte| byte == 9), "{}", door.name);

@@ -1,8 +1,9 @@
 //! The plain engine's functions, with results worked out by hand from 01 and 02's 1/12.
 mod common;
 use common::*;
-use compare::door::{Door, MARKING};
-use compare::seeds::{graphs::file, plain::borders};
+use compare::door::Door;
+use compare::seeds::graphs::file;
+use compare::seeds::plain::{borders, form_of};
 use compare::value::{GraphValue, PlainGraph};
 
 /// Where accepting.
@@ -174,7 +175,8 @@ fn the_smallest_blocks() {
 fn borders_of_every_limit() {
     for door in doors() {
         for (wanted, graph) in borders() {
-            let given = (door.plain_accepting)(&graph, &[0; MARKING]);
+            let marking = vec![0; form_of(&graph).marking()];
+            let given = (door.plain_accepting)(&graph, &marking);
             assert_eq!(given % 256, u64::from(wanted), "{} {graph:?}", door.name);
             assert_eq!(given / YES, u64::from(wanted == 0), "{}", door.name);
         }
@@ -188,7 +190,7 @@ fn refusals_in_order() {
     let mut outside = g();
     outside.lists[3].push(pair(3, 0));
     let mut long = outside.clone();
-    long.lists[0] = vec![pair(0, 1); 4097];
+    long.lists[0] = vec![pair(0, 1); 16_385];
     let mut untrue = g();
     untrue.head[33] = 3;
     let mut both = outside.clone();

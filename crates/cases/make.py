@@ -21,32 +21,42 @@ def case(kind, first, second, *expected):
     lines.extend(expected)
 
 
-# ---- the two files, as 01 lays them out
+# ---- the two files, as 01 lays them out, and as 10/12 of 02 lays out those of edition 2
 
 
 def two(n):
     return bytes([n % 256, n // 256])
 
 
-def log_file(a, traces):
+def edition_for(a):
+    return 1 if a <= 64 else 2
+
+
+def log_file(a, traces, edition=None):
     contents, offset = b"", 0
     for trace in traces:
         contents += two(offset) + two(len(trace))
         offset += len(trace)
-    return bytes([66, 76, 1, a]) + two(len(traces)) + contents + b"".join(bytes(t) for t in traces)
+    return bytes([66, 76, edition or edition_for(a), a]) + two(len(traces)) + contents + b"".join(bytes(t) for t in traces)
 
 
 def eight(members):
     return sum(1 << a for a in members).to_bytes(8, "little")
 
 
-def graph_file(a, events, executed, pending, included, *relations):
+def sixteen(members):
+    return sum(1 << a for a in members).to_bytes(16, "little")
+
+
+def graph_file(a, events, executed, pending, included, *relations, edition=None):
     """The four relations: conditions, responses, includes, excludes, each a list of rows, key and members."""
+    edition = edition or edition_for(a)
+    in_bytes = eight if edition == 1 else sixteen
     contents, rows = b"", b""
     for relation in relations:
         contents += two(len(rows)) + two(len(relation))
-        rows += b"".join(bytes([key]) + eight(members) for key, members in relation)
-    return bytes([66, 71, 1, a]) + b"".join(map(eight, (events, executed, pending, included))) + contents + rows
+        rows += b"".join(bytes([key]) + in_bytes(members) for key, members in relation)
+    return bytes([66, 71, edition, a]) + b"".join(map(in_bytes, (events, executed, pending, included))) + contents + rows
 
 
 def edited(file, *changes):
@@ -134,16 +144,31 @@ log_good("bytes-6.log", EMPTY_LOG, 0, 0)
 log_bad("letter-first.log", edited(L, (0, b"C")), 2)
 log_bad("letter-second.log", edited(L, (1, b"G")), 2)
 log_bad("edition-0.log", edited(L, (2, b"\x00")), 2)
-log_bad("edition-2.log", edited(L, (2, b"\x02")), 2)
+log_bad("edition-3.log", edited(L, (2, b"\x03")), 2)
 
-# 3: A 64 and 65, T 1,024 and 1,025, lengths 512 and 513, totals 32,768 and 32,769
+# 3: A and its edition: 1 up to 64, 2 from 65 to 128 (02, 10/12); no edition goes with 129
 log_good("a-64.log", log_file(64, [[63]]), 64, 1, (0, 10, 1))
-log_bad("a-65.log", log_file(65, [[63]]), 3)
+log_bad("a-65.log", log_file(65, [[63]], edition=1), 3)
+log_good("a-65-wide.log", log_file(65, [[64]]), 65, 1, (0, 10, 1))
+log_good("a-97-wide.log", log_file(97, [[96], [63, 64]]), 97, 2, (0, 14, 1), (1, 15, 2))
+log_good("a-128-wide.log", log_file(128, [[127]]), 128, 1, (0, 10, 1))
+for a, edition in ((97, 1), (128, 1), (129, 1), (255, 1), (0, 2), (3, 2), (64, 2), (129, 2), (255, 2)):
+    log_bad(f"a-{a}-edition-{edition}.log", log_file(a, [[]], edition), 3)
+# 5: the byte A itself, where it can be one
+for a in (64, 65, 97, 128):
+    log_bad(f"byte-{a}.log", log_file(a, [[a - 1], [a]]), 5)
+log_bad("byte-255.log", log_file(128, [[255]]), 5)
+# 3: T 1,024 and 1,025, lengths 512 and 513, totals 32,768 and 32,769
 # the greatest log: 6 + 4 * 1,024 + 32,768 = 36,870 bytes; its last trace begins at 4,102 + 1,023 * 32 = 36,838
 LAP = list(range(64))
 MOST = [LAP[:32], LAP[32:]] * 512
 log_good("total-32768-t-1024.log", log_file(64, MOST), 64, 1024, (0, 4102, 32), (1023, 36838, 32))
 log_bad("total-32769.log", log_file(64, MOST[:-1] + [LAP[:33]]), 3)
+# no larger in edition 2
+WIDE_LAP = list(range(128))
+WIDE_MOST = [WIDE_LAP[:32], WIDE_LAP[32:64], WIDE_LAP[64:96], WIDE_LAP[96:]] * 256
+log_good("total-32768-wide.log", log_file(128, WIDE_MOST), 128, 1024, (0, 4102, 32), (1023, 36838, 32))
+log_bad("total-32769-wide.log", log_file(128, WIDE_MOST[:-1] + [WIDE_LAP[:33]]), 3)
 log_bad("t-1025.log", log_file(1, [[]] * 1025), 3)
 log_good("length-512.log", log_file(1, [[0] * 512]), 1, 1, (0, 10, 512))
 log_bad("length-513.log", log_file(1, [[0] * 513]), 3)
@@ -163,6 +188,8 @@ log_bad("byte-is-a.log", edited(L, (18, b"\x03")), 5)
 
 # two faults in one log: the order decides, and an entry is judged whole before the next
 log_bad("letters-then-a.log", edited(L, (0, b"C"), (3, b"\x41")), 2)
+log_bad("edition-then-a.log", edited(L, (2, b"\x03"), (3, b"\x81")), 2)
+log_bad("match-then-contents.log", edited(EMPTY_LOG, (2, b"\x02"), (4, two(1))), 3)
 log_bad("t-then-contents.log", edited(EMPTY_LOG, (4, two(1025))), 3)
 log_bad("contents-then-length.log", edited(EMPTY_LOG, (4, two(2))) + two(0) + two(513), 1)
 log_bad("length-then-offset.log", edited(L, (6, two(1)), (8, two(513))), 3)
@@ -211,9 +238,9 @@ graph_good("marking.graph", graph_file(3, [0, 2], [2], [0, 2], [0], [], [], [], 
 graph_bad("letter-first.graph", edited(G, (0, b"C")), 2)
 graph_bad("letter-second.graph", edited(G, (1, b"L")), 2)
 graph_bad("edition-0.graph", edited(G, (2, b"\x00")), 2)
-graph_bad("edition-2.graph", edited(G, (2, b"\x02")), 2)
+graph_bad("edition-3.graph", edited(G, (2, b"\x03")), 2)
 
-# 3: A 64 and 65, 64 rows and 65; the greatest file has 52 + 9 * 4 * 64 = 2,356 bytes, and 64 rows take 576
+# 3: A 64 and 65, 64 rows and 65; the greatest file of edition 1 has 52 + 9 * 4 * 64 = 2,356 bytes, and 64 rows take 576
 graph_good("a-64.graph", edited(G, (3, b"\x40")), 64, [0, 1, 2], [0], 124, G_CONTENTS)
 graph_bad("a-65.graph", edited(G, (3, b"\x41")), 3)
 ALL = range(64)
@@ -252,6 +279,7 @@ graph_good("both.graph", BOTH, 2, [0, 1], [0, 1], 70, "0 0 0 0 0 1 9 1")
 
 # two faults in one file: the order decides
 graph_bad("letters-then-a.graph", edited(G, (0, b"C"), (3, b"\x41")), 2)
+graph_bad("edition-then-a.graph", edited(G, (2, b"\x03"), (3, b"\x81")), 2)
 graph_bad("a-then-marking.graph", edited(G, (3, b"\x41"), (12, eight([3]))), 3)
 graph_bad("marking-then-rows.graph", edited(G, (12, eight([3])), (38, two(65))), 5)
 graph_bad("rows-then-offset.graph", edited(G, (36, two(9)), (38, two(65))), 3)
@@ -259,6 +287,73 @@ graph_bad("offset-then-rows.graph", edited(G, (36, two(9)), (42, two(65))), 4)
 graph_bad("offset-then-end.graph", edited(G, (48, two(46)))[:-1], 4)
 graph_bad("short-then-row.graph", edited(G, (52, b"\x03"))[:-1], 1)
 graph_bad("more-then-row.graph", edited(G, (53, eight([]))) + b"\x00", 4)
+
+# ---- graph files of edition 2 (02, 10/12): a head of 84 bytes, rows of 17
+
+# 1 again when under 84 bytes, straight after 2: so 52 bytes are long enough for 2 and not for edition 2; A is tested after
+WIDE_HEAD = graph_file(5, [], [], [], [], [], [], [], [], edition=2)
+graph_bad("wide-5-bytes-51.graph", WIDE_HEAD[:51], 1)
+graph_bad("wide-5-bytes-52.graph", WIDE_HEAD[:52], 1)
+graph_bad("wide-5-bytes-83.graph", WIDE_HEAD[:83], 1)
+graph_bad("wide-5-bytes-84.graph", WIDE_HEAD, 3)
+graph_bad("wide-letters-then-short.graph", edited(WIDE_HEAD[:83], (0, b"C")), 2)
+graph_bad("edition-3-bytes-83.graph", edited(WIDE_HEAD[:83], (2, b"\x03")), 2)
+graph_bad("wide-short-then-a.graph", edited(WIDE_HEAD[:83], (3, b"\x81")), 1)
+# a file of edition 1 is never too short at 52 bytes: its A is the fault
+graph_bad("narrow-65-bytes-52.graph", edited(EMPTY_GRAPH, (3, b"\x41")), 3)
+
+# 3: A and its edition
+for a in (65, 97, 128):
+    graph_good(f"a-{a}-wide.graph", graph_file(a, [a - 1], [], [], [a - 1], [], [], [], []), a, [a - 1], [a - 1], 84, NONE)
+for a, edition in ((97, 1), (128, 1), (129, 1), (255, 1), (0, 2), (64, 2), (129, 2), (255, 2)):
+    graph_bad(f"a-{a}-edition-{edition}.graph", graph_file(a, [], [], [], [], [], [], [], [], edition=edition), 3)
+
+# 3: 128 rows and 129; the greatest file has 84 + 17 * 4 * 128 = 8,788 bytes, and 128 rows take 2,176
+WIDE_ALL = range(128)
+WIDE_ROWS = [(a, WIDE_ALL) for a in WIDE_ALL]
+WIDEST = graph_file(128, *[WIDE_ALL] * 4, *[WIDE_ROWS] * 4)
+graph_good("rows-128.graph", WIDEST, 128, WIDE_ALL, WIDE_ALL, 8788, "0 128 2176 128 4352 128 6528 128")
+graph_bad("rows-129.graph", graph_file(128, WIDE_ALL, [], [], WIDE_ALL, WIDE_ROWS + [(128, [0])], [], [], []), 3)
+graph_bad("rows-8789.graph", WIDEST + b"\x00", 4)
+graph_bad("rows-8787.graph", WIDEST[:-1], 1)
+
+# W is G with 64 for 1 and 96 for 2: 84 + 8 * 17 = 220 bytes, and the enabled activity is 0 there too
+W = graph_file(
+    97, [0, 64, 96], [], [], [0, 64, 96],
+    [(64, [0]), (96, [0])],
+    [(0, [96]), (64, [96])],
+    [(0, [64])],
+    [(0, [0]), (64, [64]), (96, [64, 96])],
+)  # fmt: skip
+W_CONTENTS = "0 2 34 2 68 1 85 3"
+graph_good("wide.graph", W, 97, [0, 64, 96], [0], 220, W_CONTENTS)
+graph_good("wide-a-128.graph", edited(W, (3, b"\x80")), 128, [0, 64, 96], [0], 220, W_CONTENTS)
+graph_bad("wide-end-more.graph", W + b"\x00", 4)
+graph_bad("wide-end-short.graph", W[:-1], 1)
+# offsets count 17 a row; W's entries begin at 4 + 4 * 16 = 68
+graph_bad("wide-offset-9-a-row.graph", edited(W, (72, two(18)), (76, two(36)), (80, two(45))), 4)
+
+# 5: an event that is A; executed, pending, included outside the events, which here are 20, 36 and 52
+graph_bad("wide-event-is-a.graph", edited(W, (3, b"\x60")), 5)
+graph_bad("wide-event-127.graph", edited(W, (4, sixteen([0, 64, 96, 127]))), 5)
+graph_bad("wide-executed-outside.graph", edited(W, (20, sixteen([65]))), 5)
+graph_bad("wide-pending-outside.graph", edited(W, (36, sixteen([127]))), 5)
+graph_bad("wide-included-outside.graph", edited(W, (52, sixteen([0, 63, 64, 96]))), 5)
+
+# 5 and 6, row by row. W's first row is at 84, key 64, and its set at 85; the second at 101 and 102. A set with a member from 64 on alone is
+# not empty
+graph_bad("wide-key-is-a.graph", edited(W, (101, b"\x61")), 5)
+graph_bad("wide-key-128.graph", edited(W, (101, b"\x80")), 5)
+graph_bad("wide-set-outside.graph", edited(W, (85, sixteen([0, 97]))), 5)
+graph_bad("wide-rows-falling.graph", edited(W, (84, b"\x60"), (101, b"\x40")), 6)
+graph_bad("wide-row-empty.graph", edited(W, (85, sixteen([]))), 6)
+graph_good("wide-high-row.graph", edited(W, (85, sixteen([96]))), 97, [0, 64, 96], [0], 220, W_CONTENTS)
+
+# two faults in one file: the order decides
+graph_bad("wide-a-then-event.graph", edited(W, (3, b"\x81"), (4, sixteen([127]))), 3)
+graph_bad("wide-marking-then-rows.graph", edited(W, (20, sixteen([65])), (70, two(129))), 5)
+graph_bad("wide-rows-then-offset.graph", edited(W, (68, two(17)), (70, two(129))), 3)
+graph_bad("wide-offset-then-rows.graph", edited(W, (68, two(17)), (74, two(129))), 4)
 
 # ---- a lent buffer: 124 bytes are enough for G, the rest of a larger one stays; 123 give 7, and no byte changes
 
@@ -270,11 +365,51 @@ for size, line in (
     files[f"buffer-{size}"] = b"\xaa" * size
     case("write", "sample.graph", f"buffer-{size}", f"write sample.graph buffer-{size}: {line}")
 
+# and 220 for W
+for size, line in (
+    (220, "0 length 220 file yes rest as it was yes"),
+    (221, "0 length 220 file yes rest as it was yes"),
+    (219, "7 length 0 file no rest as it was yes"),
+):
+    files[f"buffer-{size}"] = b"\xaa" * size
+    case("write", "wide.graph", f"buffer-{size}", f"write wide.graph buffer-{size}: {line}")
+
 # ---- mined graphs, as files: L gives G; a log with A 0 gives the empty graph; a refused log gives its number and nothing else
 
 case("mine", "sample.log", "sample.graph", "mine sample.log sample.graph: 0" + said(3, [0, 1, 2], [0]) + same(124, G_CONTENTS))
 case("mine", "a-0.log", "bytes-52.graph", "mine a-0.log bytes-52.graph: 0" + said(0, [], []) + same(52, NONE))
 case("mine", "a-65.log", "bytes-52.graph", "mine a-65.log bytes-52.graph: 3" + said(0, [], []))
+
+# 02, 10/12: L with 64 for 1 and 96 for 2 gives W, since the numbers keep their order; with A 65 for 97 it is refused. Its calls on W do what
+# those of L do on G (01, "Calls to try"): 96 waits for 0, 0 excludes itself, 96 excludes 64, and 1 is no event
+files["wide.log"] = log_file(97, [[0, 64, 96], [0, 96]])
+case("mine", "wide.log", "wide.graph", "mine wide.log wide.graph: 0" + said(97, [0, 64, 96], [0]) + same(220, W_CONTENTS))
+case("mine", "a-97-edition-1.log", "wide.graph", "mine a-97-edition-1.log wide.graph: 3" + said(0, [], []))
+replays(
+    "wide.graph", "wide-calls.log", 97,
+    ([], (0, 0, [], [], [0, 64, 96], [0], "yes")),
+    ([0], (0, 1, [0], [96], [64, 96], [64, 96], "no")),
+    ([0, 64, 96], (0, 3, [0, 64, 96], [], [], [], "yes")),
+    ([0, 96], (0, 2, [0, 96], [], [], [], "yes")),
+    ([96], ("10 by 0", 0, [], [], [0, 64, 96], [0], "no")),
+    ([0, 0], (9, 1, [0], [96], [64, 96], [64, 96], "no")),
+    ([0, 96, 64], (9, 2, [0, 96], [], [], [], "no")),
+    ([1], (8, 0, [], [], [0, 64, 96], [0], "no")),
+)  # fmt: skip
+
+# the calls ⟨0⟩, ⟨1⟩ and so on, one of each: as in 01's ⟨0⟩, ⟨1⟩ no two are together and none follows another, so by step 6 each excludes each, itself
+# too; no s has a u before it, so step 7 takes nothing. 84 + 17 bytes an activity
+for a in (65, 97, 128):
+    each = list(range(a))
+    files[f"apart-{a}.log"] = log_file(a, [[s] for s in each])
+    files[f"apart-{a}.graph"] = graph_file(a, each, [], [], each, [], [], [], [(s, each) for s in each])
+    names = f"apart-{a}.log apart-{a}.graph"
+    case("mine", *names.split(), f"mine {names}: 0" + said(a, each, each) + same(84 + 17 * a, f"0 0 0 0 0 0 0 {a}"))
+    replays(
+        f"apart-{a}.graph", f"apart-{a}-calls.log", a,
+        ([a - 1], (0, 1, [a - 1], [], [], [], "yes")),
+        ([64, a - 1], (9, 1, [64], [], [], [], "no")),
+    )  # fmt: skip
 
 # 02, 7/12: 0 Draft, 1 Check, 2 Amend, 3 Seal; no call has Amend after Seal. 0 excludes 2, but 1, which stands between 0 and 3, includes it: so
 # "3 excludes 2" is not redundant, and neither are 2 to 2 and 3 to 3, which 0 and 1 exclude and let in. Amend after Seal is refused with 9
@@ -336,9 +471,10 @@ def next_bad(name, number):
 
 next_good("sample.log", 2, (0, 14, 3), (1, 17, 2))
 next_good("length-512.log", 1, (0, 10, 512))
+next_good("a-97-wide.log", 2, (0, 14, 1), (1, 15, 2))
 next_good("bytes-6.log", 0)
 next_good("total-32768-t-1024.log", 1024, (0, 4102, 32), (1023, 36838, 32))
-for name, number in (("bytes-5.log", 1), ("letter-first.log", 2), ("a-65.log", 3), ("offset-more.log", 4), ("byte-is-a.log", 5)):
+for name, number in (("bytes-5.log", 1), ("letter-first.log", 2), ("a-65.log", 3), ("a-64-edition-2.log", 3), ("offset-more.log", 4), ("byte-is-a.log", 5)):
     next_bad(name, number)
 
 # ---- one step at a marking that is handed over: accepting, enabled, execute
@@ -352,8 +488,9 @@ def one_step(accepting, answer, marking):
 
 
 def step(graph, name, marking, accepting, activity, answer, after=None):
-    """Where the step is refused the marking is as it was."""
-    files[name] = b"".join(map(eight, marking)) + bytes([activity])
+    """Where the step is refused the marking is as it was. Its sets have the form of the graph's."""
+    in_bytes = eight if files[graph][2] == 1 else sixteen
+    files[name] = b"".join(map(in_bytes, marking)) + bytes([activity])
     case("step", graph, name, f"step {graph} {name}" + one_step(accepting, answer, after or marking))
 
 
@@ -396,6 +533,18 @@ for name, enabled, activity in (
 step("sample.graph", "kept-0.step", (*BEGUN[:3], [0, 1, 2]), "no", 0, 16)
 step("sample.graph", "freed-none.step", (*BEGUN[:3], [1]), "no", 1, 16)
 
+# the same on W: 127 and 128 are no events, 64 and 96 wait for 0, 127 in a marking is outside, and in its enabled set false
+WIDE_OPEN = ([], [], [0, 64, 96], [0])
+step("wide.graph", "wide-open-0.step", WIDE_OPEN, "yes", 0, 0, ([0], [96], [64, 96], [64, 96]))
+step("wide.graph", "wide-open-96.step", WIDE_OPEN, "yes", 96, "10 by 0")
+step("wide.graph", "wide-begun-0.step", ([0], [96], [64, 96], [64, 96]), "no", 0, 9)
+for activity in (63, 127, 128, 192, 255):
+    step("wide.graph", f"wide-open-{activity}.step", WIDE_OPEN, "yes", activity, 8)
+step("wide.graph", "wide-executed-127.step", ([127], *WIDE_OPEN[1:]), "no", 0, 5)
+step("wide.graph", "wide-included-65.step", ([], [], [0, 64, 65, 96], [0]), "no", 0, 5)
+step("wide.graph", "wide-127-enabled.step", (*WIDE_OPEN[:3], [0, 127]), "no", 0, 16)
+step("wide.graph", "wide-96-enabled.step", (*WIDE_OPEN[:3], [0, 96]), "no", 96, 16)
+
 # 9 comes before 10: in the paper's graph 1 is not included, and its source 0 is included and not executed
 step("paper.graph", "paper-1.step", ([], [0], [0, 2, 3], [0, 2, 3]), "no", 1, 9)
 
@@ -429,7 +578,7 @@ def value(file, name, size, stepped, written, a=3, events=(0, 1, 2), opening=WAI
     """The row: relation, key and members. `stepped`: accepting, number, the marking then; `written`: number, length."""
     relation, key, members = row
     name += ".value"
-    files[name] = bytes([size, a, relation, key]) + eight(members) + eight(events) + b"".join(map(eight, opening))
+    files[name] = bytes([size, a, relation, key]) + b"".join(map(sixteen, (members, events, *opening)))
     number, length = written
     holds = "no" if number else "yes"
     line = f"value {file} {name}" + one_step(*stepped)
@@ -457,16 +606,24 @@ value("row-e.graph", "row-e", 61, ("yes", 0, ([1], [], [1, 2], [1, 2])), (0, 61)
 value("row-c.graph", "size-60", 60, WAITS, (7, 0))
 value("row-c.graph", "size-0", 0, WAITS, (7, 0))
 
-# A 64 and 65, and the greatest byte
-files["a-64-row.graph"] = graph_file(64, [63], [], [], [63], [], [], [], [(63, [63])])
+# A 64, 65, 97, 128 with their last activity, in files of 52 + 9 and of 84 + 17 bytes, and one byte less; A 129, and the greatest byte
 LAST = {"events": [63], "opening": ([], [], [63], [63]), "row": (3, 63, [63])}
-value("a-64-row.graph", "a-64", 61, ("yes", 0, ([63], [], [], [])), (0, 61), a=64, **LAST)
-value_bad("a-65", 3, a=65)
+for a, size in ((64, 61), (65, 101), (97, 101), (128, 101)):
+    last = [a - 1]
+    files[f"a-{a}-row.graph"] = graph_file(a, last, [], [], last, [], [], [], [(a - 1, last)])
+    whole = {"a": a, "events": last, "opening": ([], [], last, last), "row": (3, a - 1, last)}
+    gone = ("yes", 0, (last, [], [], []))
+    value(f"a-{a}-row.graph", f"a-{a}", size, gone, (0, size), **whole)
+    value(f"a-{a}-row.graph", f"a-{a}-less", size - 1, gone, (7, 0), **whole)
+value_bad("a-129", 3, a=129)
 value_bad("a-255", 3, a=255)
 
 # 5: an event that is A; the opening marking outside the events; a row at a number that is no event; a row's set outside the events
 value_bad("event-is-a", 5, a=2)
 value_bad("event-63", 5, a=63, **LAST)
+value_bad("event-64", 5, a=64, events=[0, 1, 2, 64])
+value_bad("event-127", 5, a=127, events=[0, 1, 2, 127])
+value_bad("executed-127", 5, opening=([127], *WAITED[1:]))
 value_bad("executed-outside", 5, opening=([3], *WAITED[1:]))
 value_bad("pending-outside", 5, opening=([], [3], *WAITED[2:]))
 value_bad("included-outside", 5, opening=([], [], [0, 1, 2, 3], [0, 2]))
@@ -474,6 +631,8 @@ for relation in range(4):
     value_bad(f"key-no-event-{relation}", 5, row=(relation, 3, [0]))
     value_bad(f"set-outside-{relation}", 5, row=(relation, 1, [0, 3]))
 value_bad("key-63", 5, a=64, row=(0, 63, [0]))
+value_bad("key-127", 5, a=128, row=(0, 127, [0]))
+value_bad("set-127", 5, row=(0, 1, [0, 127]))
 
 # 16: the opening marking's set is false, with a member too few, one that waits, one that is no event, one that is no activity of A
 value_bad("none-enabled", 16, opening=(*WAITED[:3], []))
@@ -481,6 +640,7 @@ value_bad("one-enabled-less", 16, opening=(*WAITED[:3], [0]))
 value_bad("waiting-enabled", 16, opening=FREE)
 value_bad("no-event-enabled", 16, a=64, opening=(*WAITED[:3], [0, 2, 3]))
 value_bad("63-enabled", 16, opening=(*WAITED[:3], [0, 2, 63]))
+value_bad("127-enabled", 16, opening=(*WAITED[:3], [0, 2, 127]))
 value_bad("enabled-of-no-row", 16, row=(3, 1, [0]))
 
 # an empty row is no fault anywhere, and no row of the file: at 3, which is no event, and where there is no activity at all
@@ -490,10 +650,10 @@ NOTHING = ([], [], [], [])
 value("bytes-52.graph", "empty", 52, ("yes", 8, NOTHING), (0, 52), a=0, events=[], opening=NOTHING, row=(0, 0, []))
 
 # two faults in one value: 3, then 5, then 16, then 7
-value_bad("a-then-event", 3, a=65, opening=([3], *WAITED[1:]))
-value_bad("a-then-buffer", 3, size=60, a=65)
+value_bad("a-then-event", 3, a=129, opening=([3], *WAITED[1:]))
+value_bad("a-then-buffer", 3, size=60, a=129)
 value_bad("event-then-buffer", 5, size=60, a=2)
-value_bad("a-then-false", 3, a=65, opening=FREE)
+value_bad("a-then-false", 3, a=129, opening=FREE)
 value_bad("event-then-false", 5, opening=([3], *FREE[1:]))
 value_bad("row-then-false", 5, opening=FREE, row=(2, 1, [0, 3]))
 value_bad("false-then-buffer", 16, size=60, opening=FREE)

@@ -120,7 +120,7 @@ def refuses(folder):
         same((gave.status, gave.out), (1, b"refused %d\n" % number), f"refusal {number}")
         holds(one_line(gave.err) and gave.err.startswith(f"list: {number}: "), f"refusal {number} says {gave.err!r}")
     gave = folder.run("./list", "-", data=REFUSED[3])
-    same(gave.err, "list: 3: more than 64 activities, 1,024 calls, 512 steps in a call or 32,768 in all\n", "the sentence of 3")
+    same(gave.err, "list: 3: more than 128 activities, 1,024 calls, 512 steps in a call or 32,768 in all, or not the edition for its activities: 1 up to 64, 2 above\n", "the sentence of 3")
 
 
 @test("output that can't be written gives an exit status other than 0")

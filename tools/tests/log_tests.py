@@ -70,7 +70,7 @@ WRONG = {
     "UTF-16": ("call,step\nV1,a\n".encode("utf-16"), [], "line 1: not UTF-8"),
     "an empty file": ("", [], "nothing in it: no call"),
     "empty lines alone": ("\n \r\n\n", [], "nothing in it: no call"),
-    "65 names": (rows(65), [], "65 names, 64 are the most"),
+    "129 names": (rows(129), [], "129 names, 128 are the most"),
     "1,025 calls": (rows(1025, lambda k: "a"), [], "1,025 calls, 1,024 are the most (--once writes each different call once)"),
     "513 steps": ("call,step\nV0,a\n" + "V1,a\n" * 513, [], "line 3: the call that begins here has 513 steps, 512 are the most"),
     "32,769 steps": (MANY + "a\n", [], "32,769 steps, 32,768 are the most (--once writes each different call once)"),
@@ -109,13 +109,16 @@ def wrong(folder):
                 os.unlink(folder.at(name))
 
 
-@test("./log: 64 names, 1,024 calls, 512 steps in a call and 32,768 in all are written, and the proved program accepts them")
+@test("./log: 64, 65 and 128 names, 1,024 calls, 512 steps in a call and 32,768 in all are written, and the proved program accepts them")
 def borders(folder):
-    folder.put("names.csv", rows(64))
     folder.put("most.csv", "steps\n" + ("a," * 511 + "a\n") * 63 + ("a," * 31 + "a\n") + ("a," * 31 + "a\n") * 15 + '""\n' * 945)
-    same(folder.run("./log", "names.csv", "names.log").out, b"64 calls, 64 steps, 64 names\n", "64 names")
+    for count, edition in ((64, 1), (65, 2), (128, 2)):
+        folder.put("names.csv", rows(count))
+        gave = folder.run("./log", "names.csv", f"names-{count}.log")
+        same(gave.out, f"{count} calls, {count} steps, {count} names\n".encode(), f"{count} names")
+        same(folder.get(f"names-{count}.log")[:4], bytes([66, 76, edition, count]), f"the edition for {count}")
     same(folder.run("./log", "most.csv", "most.log").out, b"1,024 calls, 32,768 steps, 1 name\n", "the most of all")
-    for log, first in (("names.log", b"events 64 "), ("most.log", b"events 1 C 0 R 0 I 0 E 0 traces 1024\nT 0 512 0 1\n")):
+    for log, first in (("names-64.log", b"events 64 "), ("names-65.log", b"events 65 "), ("names-128.log", b"events 128 "), ("most.log", b"events 1 C 0 R 0 I 0 E 0 traces 1024\nT 0 512 0 1\n")):
         gave = folder.run("./list", log)
         holds(gave.status == 0 and gave.out.startswith(first), f"{log}: {gave.out[:80]!r}")
 

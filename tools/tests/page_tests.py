@@ -5,7 +5,7 @@ import subprocess
 import logfile
 import pages
 import proved
-from trial import holds, read, same, test
+from trial import holds, log_bytes, read, same, test
 
 
 @test("README: each of its commands prints what it shows; the sample goes from CSV to sentences by two of them")
@@ -29,6 +29,17 @@ def byte_by_byte(_folder):
             same(len(data), int(at), f"{heading}: the place of {numbers}")
             data += bytes(map(int, numbers.split()))
         same(data, read(*path), heading)
+
+
+@test("FORMATS: the graph of edition 2 byte by byte is what is mined from its log")
+def edition_two(_folder):
+    (_, *rows), = pages.tables("docs/FORMATS.md", "bytes of a graph of edition 2")
+    data = b""
+    for numbers, at, _what in rows:
+        same(len(data), int(at), f"the place of {numbers}")
+        data += bytes(map(int, numbers.split()))
+    number, graph = proved.Library().mine(log_bytes(128, [3, 64, 127], [3, 127]), 0)
+    same((number, len(graph), graph[: len(data)]), (0, 220, data), "the graph file")
 
 
 @test("FORMATS: G's opening marking byte by byte is the one that the library gives")

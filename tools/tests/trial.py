@@ -102,7 +102,7 @@ class Folder:
 
 def log_bytes(activities, *calls):
     """A log, written down here a second time so that ./log is not held to itself."""
-    data = [66, 76, 1, activities, len(calls) % 256, len(calls) // 256]
+    data = [66, 76, 2 if activities > 64 else 1, activities, len(calls) % 256, len(calls) // 256]
     start = 0
     for call in calls:
         data += [start % 256, start // 256, len(call) % 256, len(call) // 256]

@@ -6,10 +6,8 @@
 //! back an empty graph then, so `net judge` leaves out what the refusal of no bytes costs. Lent buffers are not cleared between calls. The implementations take turns,
 //! a tenth of a millisecond each, and the best turn counts: other work on the machine then
 //! disturbs both alike, and the best turns hardly at all.
-use compare::door::{
-    Door, FULL, GRAPH_ROOM, LIGHT, LISTING_ROOM, MARKING, RELATIONS_ROOM, TABLE_ROOM, TALLY_ROOM,
-};
-use compare::seeds::shapes::{of_size, small, SHAPES, SIZES};
+use compare::door::{Door, Form, FULL, GRAPH_ROOM, LIGHT, RELATIONS_ROOM, TALLY_ROOM};
+use compare::seeds::shapes::{of_size, small, SHAPES, SIZES, WIDE};
 use compare::seeds::{finish, log_file, Prng};
 use compare::{judge, port, yardstick};
 use std::hint::black_box;
@@ -200,13 +198,14 @@ fn steps(doors: &[Door]) {
 }
 
 fn step_figures(doors: &[Door], file: &[u8], trace: &[u8]) -> [Vec<f64>; 5] {
-    let mut opening = [0; MARKING];
-    let mut desk = vec![0; TABLE_ROOM];
+    let form = Form::in_file(file);
+    let mut opening = vec![0; form.marking()];
+    let mut desk = vec![0; form.table()];
     let judge = judge::door::DOOR;
     assert_eq!((judge.opening)(file, &mut opening), 0);
     assert_eq!((judge.desk_open)(file, &mut desk), 0);
     let stepping = best(doors, |door| {
-        let mut marking = opening;
+        let mut marking = opening.clone();
         for &e in trace {
             let given = (door.step)(black_box(file), &mut marking, e);
             assert_eq!(given % 256, 0);
@@ -225,7 +224,7 @@ fn step_figures(doors: &[Door], file: &[u8], trace: &[u8]) -> [Vec<f64>; 5] {
         }
     });
     let openings = best(doors, |door| {
-        let mut marking = [0; MARKING];
+        let mut marking = vec![0; form.marking()];
         for _ in trace {
             black_box((door.opening)(black_box(file), &mut marking));
         }
@@ -252,7 +251,7 @@ fn listings(doors: &[Door]) {
         let mut call = || (0..steps).map(|_| prng.below(activities) as u8).collect();
         let traces: Vec<Vec<u8>> = (0..calls).map(|_| call()).collect();
         let log = log_file(activities as u8, &traces);
-        let mut out = vec![0; LISTING_ROOM];
+        let mut out = vec![0; Form::in_file(&log).listing()];
         let ns = best(doors, |door| {
             black_box((door.listing)(black_box(&log), FULL, &mut out));
         });
@@ -273,7 +272,7 @@ fn ways(doors: &[Door]) {
     println!("a way out, microseconds a search");
     let small = sample("small", small(3));
     let half = &small.traces[0][..small.traces[0].len() / 2];
-    let mut mined = yardstick::graph_file::read(&small.file).expect("mined");
+    let mut mined = yardstick::value::read(&small.file).expect("mined");
     mined.marking = yardstick::engine::replay(&mined, half).marking;
     let searches = [
         ("mined", mined),
@@ -377,6 +376,21 @@ fn beside(ns: &[f64], unit: f64) -> String {
     text
 }
 
+/// More than 64 activities, at the least and the greatest size: rows of their own, so that the mean above stays what it was.
+fn wide(doors: &[Door]) {
+    println!("97 and 128 activities");
+    head(doors.len() == 2);
+    let mut rows = Vec::new();
+    for (name, shape) in WIDE {
+        for size in [SIZES[0], SIZES[3]] {
+            rows.push(row(doors, &sample(name, of_size(shape, size, 11))));
+        }
+    }
+    if doors.len() > 1 {
+        ratios(&rows);
+    }
+}
+
 fn main() {
     let mut doors = vec![yardstick::door::DOOR];
     doors.extend(port::door());
@@ -396,6 +410,9 @@ fn main() {
     if asked("--replays") {
         return replays(&doors);
     }
+    if asked("--wide") {
+        return wide(&doors);
+    }
     head(doors.len() == 2);
     let mut rows = vec![row(&doors, &sample("small", small(3)))];
     for (name, shape) in SHAPES {
@@ -409,6 +426,7 @@ fn main() {
     if asked("--rows") {
         return;
     }
+    wide(&doors);
     steps(&doors);
     ways(&doors);
 }

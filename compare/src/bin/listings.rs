@@ -4,7 +4,7 @@
 //! The number beside a refused log is what 01 says of it; the judge has to agree.
 use compare::judge::listing::listing;
 use compare::judge::miner::Profile;
-use compare::seeds::{log_file, logs, shapes, Prng};
+use compare::seeds::{log_file, log_of_edition, logs, shapes, Prng};
 use std::path::Path;
 use std::process::ExitCode;
 
@@ -15,18 +15,19 @@ fn l() -> Vec<u8> {
     log_file(3, &[vec![0, 1, 2], vec![0, 2]])
 }
 
-/// No log has more bytes: 64 activities, 1,024 traces of 32 events. Any activity at each
-/// place, or one of the two that belong to the place.
-fn longest(in_order: bool) -> Vec<u8> {
+/// No log has more bytes: 1,024 traces of 32 events. Any activity at each place, or one of the few that belong to
+/// the place.
+fn longest(a: usize, in_order: bool) -> Vec<u8> {
     let mut prng = Prng::new(3);
+    let few = a / 32;
     let mut event = |place: usize| {
-        let own = if in_order { 2 * place } else { 0 };
-        (own + prng.below(if in_order { 2 } else { 64 })) as u8
+        let own = if in_order { few * place } else { 0 };
+        (own + prng.below(if in_order { few } else { a })) as u8
     };
     let traces: Vec<Vec<u8>> = (0..1024)
         .map(|_| (0..32).map(&mut event).collect())
         .collect();
-    log_file(64, &traces)
+    log_file(a as u8, &traces)
 }
 
 /// L with a byte put over it.
@@ -54,8 +55,13 @@ fn refused() -> Vec<(&'static str, u8, Vec<u8>)> {
         ("head-short", 1, cut(l(), 5)),
         ("first-letter", 2, with(0, 67)),
         ("second-letter", 2, with(1, 71)),
-        ("edition", 2, with(2, 2)),
+        ("edition-0", 2, with(2, 0)),
+        ("edition-3", 2, with(2, 3)),
+        ("edition-2-a-3", 3, with(2, 2)),
+        ("edition-2-a-64", 3, log_of_edition(2, 64, &[vec![0]])),
+        ("edition-2-a-129", 3, log_of_edition(2, 129, &[vec![0]])),
         ("a-65", 3, with(3, 65)),
+        ("a-97-event", 5, log_file(97, &[vec![97]])),
         ("t-1025", 3, log_file(1, &vec![Vec::new(); 1025])),
         ("contents-short", 1, cut(l(), 13)),
         ("length-513", 3, log_file(1, &[vec![0; 513]])),
@@ -72,16 +78,17 @@ fn refused() -> Vec<(&'static str, u8, Vec<u8>)> {
 
 /// Around the length of the longest log, which the program's buffer is made for, and far past it.
 fn long() -> Vec<(&'static str, u8, Vec<u8>)> {
-    let mut last = longest(false);
+    let mut last = longest(64, false);
     *last.last_mut().expect("there are bytes") = 64;
     vec![
-        ("longest", 0, longest(false)),
-        ("longest-in-order", 0, longest(true)),
+        ("longest", 0, longest(64, false)),
+        ("longest-in-order", 0, longest(64, true)),
+        ("longest-of-128", 0, longest(128, true)),
         ("longest-last-event", 5, last),
-        ("longest-end-short", 1, cut(longest(true), 36_869)),
-        ("bytes-36871", 4, grown(longest(true), 36_871)),
-        ("bytes-36872", 4, grown(longest(true), 36_872)),
-        ("bytes-100000", 4, grown(longest(false), 100_000)),
+        ("longest-end-short", 1, cut(longest(64, true), 36_869)),
+        ("bytes-36871", 4, grown(longest(64, true), 36_871)),
+        ("bytes-36872", 4, grown(longest(128, true), 36_872)),
+        ("bytes-100000", 4, grown(longest(64, false), 100_000)),
         ("bytes-100000-letters", 2, vec![66; 100_000]),
         ("bytes-100000-a-65", 3, grown(with(3, 65), 100_000)),
     ]

@@ -1,7 +1,7 @@
 //! The call desk: histories of requests, each made of every implementation on the same table.
 use super::record::{Call, Function};
 use super::{decimal, Comparison};
-use crate::door::{asked, PLACE, TABLE_ROOM, WAY};
+use crate::door::{asked, Form, WAY};
 use crate::judge::door::DOOR as JUDGE;
 use crate::seeds::{desk, graphs, Prng};
 use crate::value::Request;
@@ -11,9 +11,9 @@ const HISTORIES: usize = 2;
 const REQUESTS: usize = 40;
 
 /// After so many of a hundred requests a place is asked for its way out, where the graph has few
-/// activities: the judge tries every sequence of four.
+/// events: the judge tries every sequence of four.
 const ASKED: usize = 25;
-const MOST_SEARCHED: u8 = 5;
+const MOST_SEARCHED: u32 = 5;
 
 const UNTOUCHED: u8 = 165;
 
@@ -23,11 +23,10 @@ pub fn round(comparison: &mut Comparison, prng: &mut Prng) {
         let mut table = desk::table(prng, &graph);
         comparison.input("desk: history");
         for _ in 0..REQUESTS {
-            let a = file.get(3).copied().unwrap_or(0);
-            let request = desk::request(prng, &table, a);
+            let request = desk::request(prng, &file, &table);
             table = comparison.desk(&file, &table, request);
-            if graph.a <= MOST_SEARCHED && prng.percent(ASKED) {
-                let place = desk::place(prng, &table);
+            if graph.events.count_ones() <= MOST_SEARCHED && prng.percent(ASKED) {
+                let place = desk::place(prng, &file, &table);
                 comparison.desk_finish(&file, &table, place, desk::way_room(prng));
             }
         }
@@ -35,31 +34,42 @@ pub fn round(comparison: &mut Comparison, prng: &mut Prng) {
 }
 
 /// Every place that a caller may name, on tables of every length near the right one, none and all
-/// of their places taken, with a file that is sound and one that is none; and all activities.
+/// of their places taken, with a file that is sound, one that is cut and one with the other edition; and all activities.
+/// In both forms.
 pub fn once(comparison: &mut Comparison, prng: &mut Prng) {
-    let value = graphs::value_of_size(prng, 5);
-    let sound = graphs::file(&value);
-    for file in [&sound[..], &sound[..51]] {
-        for length in [0, TABLE_ROOM - 1, TABLE_ROOM, TABLE_ROOM + 1] {
-            for first in [0, 1, 255] {
-                let mut table = vec![0; length];
-                let firsts = table.iter_mut().step_by(PLACE);
-                firsts.for_each(|byte| *byte = first);
-                comparison.input("desk: border");
-                comparison.desk(file, &table, Request::Open);
-                for place in desk::ANY_PLACE {
-                    comparison.desk(file, &table, Request::Step(place, 0));
-                    comparison.desk(file, &table, Request::Close(place));
-                    for room in [0, WAY - 1, WAY, WAY + 1] {
-                        comparison.desk_finish(file, &table, place, room);
-                    }
+    let narrow = graphs::value_of_size(prng, 5);
+    let wide = graphs::spread(prng, &narrow);
+    for value in [narrow, wide] {
+        let sound = graphs::file(&value);
+        let mut other = sound.clone();
+        other[2] = 3 - other[2];
+        for file in [&sound[..], &sound[..51], &other, &[]] {
+            border(comparison, file);
+        }
+        let fresh = vec![0; Form::of(value.a).table()];
+        let opened = comparison.desk(&sound, &fresh, Request::Open);
+        for activity in 0..=255 {
+            comparison.desk(&sound, &opened, Request::Step(0, activity));
+        }
+    }
+}
+
+fn border(comparison: &mut Comparison, file: &[u8]) {
+    for length in [0, 1055, 1056, 1057, 2079, 2080, 2081] {
+        for first in [0, 1, 255] {
+            let mut table = vec![0; length];
+            let firsts = table.iter_mut().step_by(Form::in_file(file).place());
+            firsts.for_each(|byte| *byte = first);
+            comparison.input("desk: border");
+            comparison.desk(file, &table, Request::Open);
+            for place in desk::ANY_PLACE {
+                comparison.desk(file, &table, Request::Step(place, 0));
+                comparison.desk(file, &table, Request::Close(place));
+                for room in [0, WAY - 1, WAY, WAY + 1] {
+                    comparison.desk_finish(file, &table, place, room);
                 }
             }
         }
-    }
-    let opened = comparison.desk(&sound, &[0; TABLE_ROOM], Request::Open);
-    for activity in 0..=255 {
-        comparison.desk(&sound, &opened, Request::Step(0, activity));
     }
 }
 

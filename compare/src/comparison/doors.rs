@@ -2,7 +2,7 @@
 //! buffers start with a pattern, so that a byte written where none should be shows.
 use super::record::{Call, Function};
 use super::{decimal, Comparison};
-use crate::door::{Door, FULL, LISTING_ROOM};
+use crate::door::{Door, FULL};
 use crate::judge::door::DOOR as JUDGE;
 
 const UNTOUCHED: u8 = 165;
@@ -89,14 +89,14 @@ impl Comparison {
         (result % 256 == 0).then_some(file)
     }
 
-    pub fn listing(&mut self, log: &[u8], profile: u8) {
+    pub fn listing(&mut self, log: &[u8], profile: u8, room: usize) {
         let filling = Filling {
             named: in_profile(profile, ["listing", "listing, light"]),
             kept_as: Function::Listing,
             profile,
             call: |door, log, profile, lent| (door.listing)(log, profile, lent),
         };
-        self.filled(filling, log, LISTING_ROOM);
+        self.filled(filling, log, room);
     }
 
     pub fn summary(&mut self, log: &[u8], profile: u8, room: usize) {

@@ -2,7 +2,7 @@
 //! the same bytes.
 use super::record::{Call, Function};
 use super::{decimal, Comparison};
-use crate::door::{FULL, GRAPH_ROOM, LIGHT, NO_ACTIVITY, WAY};
+use crate::door::{Form, FULL, GRAPH_ROOM, LIGHT, NO_ACTIVITY, WAY};
 use crate::judge::door::DOOR as JUDGE;
 use crate::seeds::{damage, finish, graphs, logs, Prng};
 use crate::value::{GraphValue, MarkingValue};
@@ -92,8 +92,11 @@ impl Comparison {
 /// Of so many graphs of two events one is recorded.
 const RECORDED: u16 = 2048;
 
+/// Of so many of them one has its events at the border of the two sizes.
+const OVER_64: u16 = 16;
+
 /// How many markings such a graph has.
-const MARKINGS_OF_TWO: u64 = 64;
+const MARKINGS_OF_TWO: u128 = 64;
 
 /// Every graph of two events, each at all of its markings.
 pub fn once(comparison: &mut Comparison) {
@@ -107,11 +110,14 @@ pub fn once(comparison: &mut Comparison) {
 fn of_two(comparison: &mut Comparison, numbers: &[u16]) {
     for &k in numbers {
         comparison.input("half-done: of two events");
-        let graph = finish::of_two(k);
-        let file = graphs::file(&graph);
+        let mut graph = finish::of_two(k);
+        if k % OVER_64 == 5 {
+            graph = graphs::with_numbers(&graph, 65, &[63, 64]);
+        }
+        let (file, form) = (graphs::file(&graph), Form::of(graph.a));
         for marking in 0..MARKINGS_OF_TWO {
             let marking = finish::marking_of_two(&graph, marking);
-            comparison.finish(&file, &graphs::marking_bytes(&marking), WAY);
+            comparison.finish(&file, &graphs::marking_bytes(&marking, form), WAY);
         }
     }
 }
@@ -119,14 +125,17 @@ fn of_two(comparison: &mut Comparison, numbers: &[u16]) {
 pub fn round(comparison: &mut Comparison, prng: &mut Prng) {
     for _ in 0..SMALL {
         let graph = finish::small(prng);
+        let graph = finish::either_size(prng, graph);
         on_graph(comparison, prng, "half-done: small", &graph);
     }
     for _ in 0..CHAINS {
         let graph = finish::chain(prng);
+        let graph = finish::either_size(prng, graph);
         on_graph(comparison, prng, "half-done: chain", &graph);
     }
     for make in [logs::adversarial, logs::process_like, logs::few_variants] {
         let log = make(prng);
+        let log = logs::either_size(prng, log);
         for profile in [FULL, LIGHT] {
             on_mined(comparison, prng, &log, profile);
         }
@@ -137,15 +146,16 @@ fn on_graph(comparison: &mut Comparison, prng: &mut Prng, kind: &'static str, gr
     comparison.input(kind);
     let (file, marking) = finish::bytes(graph);
     comparison.finish(&file, &marking, WAY);
-    let trace = short_trace(prng, graph.a);
-    comparison.shut_by(&file, &trace, graphs::activity(prng, graph.a));
+    let trace = short_trace(prng, graph);
+    comparison.shut_by(&file, &trace, graphs::activity(prng, graph));
     refusals(comparison, prng, &file, graph);
 }
 
 /// What is refused: a damaged file, a marking outside or with a false set, too few bytes of either.
 fn refusals(comparison: &mut Comparison, prng: &mut Prng, file: &[u8], graph: &GraphValue) {
-    let marking = graphs::marking_bytes(&graphs::any_marking(prng, graph)).to_vec();
-    let trace = short_trace(prng, 8);
+    let form = Form::of(graph.a);
+    let marking = graphs::marking_bytes(&graphs::any_marking(prng, graph), form);
+    let trace = short_trace(prng, graph);
     match prng.below(4) {
         0 => {
             let damaged = damage::graph(prng, file);
@@ -154,7 +164,7 @@ fn refusals(comparison: &mut Comparison, prng: &mut Prng, file: &[u8], graph: &G
         }
         1 => comparison.finish(file, &marking, prng.one_of(&[0, 3, 5, 9])),
         2 => {
-            let length = prng.one_of(&graphs::OTHER_LENGTHS);
+            let length = prng.one_of(&graphs::other_lengths(form));
             let mut cut = marking.clone();
             cut.resize(length, 7);
             comparison.finish(file, &cut, prng.one_of(&[0, WAY]));
@@ -164,11 +174,9 @@ fn refusals(comparison: &mut Comparison, prng: &mut Prng, file: &[u8], graph: &G
 }
 
 /// Any bytes now and then.
-fn short_trace(prng: &mut Prng, a: u8) -> Vec<u8> {
+fn short_trace(prng: &mut Prng, graph: &GraphValue) -> Vec<u8> {
     let length = prng.one_of(&[0, 1, 2, 3, 5, 8, 20]);
-    (0..length)
-        .map(|_| graphs::activity(prng, a.max(1)))
-        .collect()
+    (0..length).map(|_| graphs::activity(prng, graph)).collect()
 }
 
 /// The graph of a log where its own calls are half-done, and where they go astray.
@@ -176,26 +184,25 @@ fn on_mined(comparison: &mut Comparison, prng: &mut Prng, log: &[u8], profile: u
     let mut file = vec![0; GRAPH_ROOM];
     let mined = (yardstick::door::DOOR.mine)(log, profile, &mut file);
     file.truncate((mined / 256) as usize);
-    let (Ok(graph), Ok(sound)) = (
-        yardstick::graph_file::read(&file),
-        crate::judge::log::read(log),
-    ) else {
+    let (Ok(graph), Ok(sound)) = (yardstick::value::read(&file), crate::judge::log::read(log))
+    else {
         return;
     };
     for trace in sound.traces.iter().take(4) {
         let half = &trace[..prng.within(0, trace.len())];
-        let half = graphs::changed_trace(prng, half, sound.a);
+        let half = graphs::changed_trace(prng, half, &graph);
         let marking = yardstick::engine::replay(&graph, &half).marking;
-        comparison.shut_by(&file, &half, graphs::activity(prng, sound.a));
+        comparison.shut_by(&file, &half, graphs::activity(prng, &graph));
         if open(&graph, &marking) <= MOST_OPEN {
             comparison.input("half-done: mined");
-            comparison.finish(&file, &graphs::marking_bytes(&marking), WAY);
+            let form = Form::of(graph.a);
+            comparison.finish(&file, &graphs::marking_bytes(&marking, form), WAY);
         }
     }
 }
 
 fn open(graph: &GraphValue, m: &MarkingValue) -> usize {
-    (0..64)
+    (0..128)
         .filter(|&e| yardstick::engine::step(graph, *m, e).is_ok())
         .count()
 }

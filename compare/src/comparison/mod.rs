@@ -22,8 +22,8 @@ type Expected = (&'static str, &'static [u8]);
 const WITH_PORT: &[Expected] = &[
     ("mine", &[0, 1, 2, 3, 4, 5, 7]),
     ("mine, light", &[0, 1, 2, 3, 4, 5, 7]),
-    ("listing", &[0, 1, 2, 3, 4, 5]),
-    ("listing, light", &[0, 1, 2, 3, 4, 5]),
+    ("listing", &[0, 1, 2, 3, 4, 5, 7]),
+    ("listing, light", &[0, 1, 2, 3, 4, 5, 7]),
     ("summary", &[0, 1, 2, 3, 4, 5, 7]),
     ("no profile", &[12]),
     ("replay", &[0, 1, 2, 3, 4, 5, 6, 8, 9, 10]),

@@ -9,6 +9,7 @@ use crate::judge::door::{relations_bytes, DOOR as JUDGE};
 use crate::judge::log;
 use crate::judge::miner::Profile;
 use crate::judge::months::{bytes, facts_of, relations};
+use crate::seeds::logs::spread;
 use crate::seeds::{damage, log_file, months, Prng};
 
 impl Comparison {
@@ -137,7 +138,14 @@ pub fn once(comparison: &mut Comparison, prng: &mut Prng) {
     let logs = months::large(prng);
     comparison.year(prng, &logs);
     let (_, none) = comparison.tally(&log_file(0, &[]), TALLY_ROOM);
-    for a in [64, 65, 255] {
+    // "then 3 for a log's or a tally's A above 64", after 7
+    for a in [64, 65, 97, 128] {
+        let log = log_file(a, &[vec![a - 1]]);
+        for room in [TALLY_ROOM - 1, TALLY_ROOM, TALLY_ROOM + 1] {
+            comparison.tally(&log, room);
+        }
+    }
+    for a in [64, 65, 97, 128, 129, 255] {
         let mut tally = none.clone();
         tally[0] = a;
         for profile in [FULL, LIGHT, 2, 255] {
@@ -157,8 +165,9 @@ pub fn round(comparison: &mut Comparison, prng: &mut Prng) {
     let logs = months::year(prng);
     let joined = comparison.year(prng, &logs);
     comparison.input("months: damaged");
-    let log = match prng.below(3) {
-        0 => damage::log(prng, &logs[0]),
+    let log = match prng.below(6) {
+        0 | 1 => damage::log(prng, &logs[0]),
+        2 => spread(prng, &logs[0]),
         _ => logs[0].clone(),
     };
     let (_, short) = comparison.tally(&log, TALLY_ROOM - 1);

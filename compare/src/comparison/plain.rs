@@ -2,7 +2,7 @@
 //! engines on the same graphs.
 use super::record::{Call, Function};
 use super::{decimal, Comparison};
-use crate::door::{Door, OnPlain, FILE_HEAD, MARKING, MOST_PAIRS, SET};
+use crate::door::{Door, Form, OnPlain, MOST_PAIRS};
 use crate::judge::door::DOOR as JUDGE;
 use crate::value::PlainGraph;
 
@@ -141,9 +141,10 @@ impl Comparison {
 
     /// The graph of an accepted file, as `fill` and `opening` hand it to the plain engine.
     pub fn lists_of(&mut self, file: &[u8]) -> PlainGraph {
-        let opening = self.opening(file, MARKING);
+        let form = Form::in_file(file);
+        let opening = self.opening(file, form.marking());
         let mut graph = PlainGraph {
-            head: [&file[FILE_HEAD], &opening[MARKING - SET..]].concat(),
+            head: [&file[form.file_head()], &opening[3 * form.set..]].concat(),
             ..PlainGraph::default()
         };
         for kind in 0..4 {

@@ -1,7 +1,7 @@
 //! Which plain graphs are tried: the borders once, then seeded ones; and the graphs of files,
 //! handed to the plain engine by `fill`.
 use super::Comparison;
-use crate::door::{MARKING, MOST_PAIRS, SET};
+use crate::door::{Form, MOST_PAIRS};
 use crate::judge;
 use crate::seeds::{graphs, plain, Prng};
 use crate::value::PlainGraph;
@@ -13,7 +13,8 @@ const DAMAGES: usize = 3;
 pub fn once(comparison: &mut Comparison, prng: &mut Prng) {
     for (number, graph) in plain::borders() {
         comparison.input("plain: border");
-        let judged = comparison.plain_accepting(&graph, &[0; MARKING]) as u8;
+        let form = plain::form_of(&graph);
+        let judged = comparison.plain_accepting(&graph, &vec![0; form.marking()]) as u8;
         if judged != number {
             comparison.differ("plain border", "02", || {
                 format!("wanted {number}, judge {judged}, {graph:?}")
@@ -22,7 +23,7 @@ pub fn once(comparison: &mut Comparison, prng: &mut Prng) {
         for trace in [&[][..], &[1, 2, 1], &[2; 512], &[2; 513]] {
             comparison.plain_replay(&graph, trace);
         }
-        for marking in markings() {
+        for marking in markings(form) {
             comparison.plain_accepting(&graph, &marking);
             comparison.plain_step(&graph, &marking, 1);
         }
@@ -32,12 +33,12 @@ pub fn once(comparison: &mut Comparison, prng: &mut Prng) {
 
 /// For a border's graph, of events 0, 1, 2 mostly: one that is true, one that leaves the events,
 /// one with a false set, one with both faults; each whole, cut, and with more bytes than it needs.
-fn markings() -> Vec<Vec<u8>> {
+fn markings(form: Form) -> Vec<Vec<u8>> {
     let mut all = Vec::new();
     for (included, enabled) in [(0, 0), (7, 7), (15, 0), (0, 1), (0, 255), (15, 1)] {
-        for length in [0, SET, 3 * SET, MARKING - 1, MARKING, MARKING + 1] {
-            let mut marking = vec![0; MARKING];
-            (marking[2 * SET], marking[3 * SET]) = (included, enabled);
+        for length in [0, 24, 31, 32, 33, 63, 64, 65] {
+            let mut marking = vec![0; form.marking()];
+            (marking[2 * form.set], marking[3 * form.set]) = (included, enabled);
             marking.resize(length, 7);
             all.push(marking);
         }
@@ -47,7 +48,7 @@ fn markings() -> Vec<Vec<u8>> {
 
 /// All 256 numbers on a graph of few and one of many pairs, also where the marking is outside.
 fn every_activity(comparison: &mut Comparison, prng: &mut Prng) {
-    for a in [3, 64] {
+    for a in [3, 64, 65, 97, 128] {
         let value = graphs::value_of_size(prng, a);
         let mut graph = plain::of(&value);
         plain::reordered(prng, &mut graph);
@@ -83,14 +84,14 @@ fn on_plain(
     walk: &[u8],
 ) {
     comparison.input(kind);
-    let a = graph.head.first().copied().unwrap_or(0);
-    let changed = graphs::changed_trace(prng, walk, a);
-    for trace in [walk, &changed, &graphs::trace(prng, a)] {
+    let steps = graphs::Steps::from(&plain::value_in(graph));
+    let changed = graphs::changed_trace(prng, walk, steps);
+    for trace in [walk, &changed, &graphs::trace(prng, steps)] {
         comparison.plain_replay(graph, trace);
     }
     for _ in 0..3 {
         let marking = plain::marking(prng, graph);
-        let activity = graphs::activity(prng, a);
+        let activity = graphs::activity(prng, steps);
         comparison.plain_step(graph, &marking, activity);
         comparison.plain_accepting(graph, &marking);
     }
@@ -117,11 +118,12 @@ pub fn on_traces(comparison: &mut Comparison, prng: &mut Prng, file: &[u8], trac
     if prng.percent(50) {
         plain::reordered(prng, &mut graph);
     }
+    let steps = graphs::Steps::from(&plain::value_in(&graph));
     for trace in traces.iter().take(2) {
-        let changed = graphs::changed_trace(prng, trace, file[3]);
+        let changed = graphs::changed_trace(prng, trace, steps);
         for trace in [trace, &changed] {
             let marking = plain::marking(prng, &graph);
-            let activity = graphs::activity(prng, file[3]);
+            let activity = graphs::activity(prng, steps);
             comparison.on_both(file, &graph, trace, &marking, activity);
         }
     }

@@ -31,6 +31,37 @@ pub enum Function {
     TallyRelations,
 }
 
+/// In the order of their numbers.
+pub const FUNCTIONS: [Function; 24] = {
+    use Function::*;
+    [
+        Mine,
+        Listing,
+        Rewrite,
+        Replay,
+        Step,
+        PlainStep,
+        PlainAccepting,
+        PlainReplay,
+        Fill,
+        Summary,
+        DeskOpen,
+        DeskStep,
+        DeskClose,
+        Finish,
+        ShutBy,
+        Opening,
+        Marks,
+        MarksText,
+        GuessesText,
+        Replays,
+        DeskFinish,
+        Tally,
+        TallyJoin,
+        TallyRelations,
+    ]
+};
+
 pub struct Call<'a> {
     pub function: Function,
     /// the log, the graph file, a plain graph's head, or a tally; of two that are joined the one beside
@@ -100,7 +131,7 @@ impl Record {
 }
 
 /// FNV-1a, 64 bits.
-fn hash(bytes: &[u8]) -> u64 {
+pub fn hash(bytes: &[u8]) -> u64 {
     bytes.iter().fold(0xCBF2_9CE4_8422_2325, |hash, &byte| {
         (hash ^ u64::from(byte)).wrapping_mul(0x0100_0000_01B3)
     })

@@ -1,6 +1,6 @@
 //! Which inputs are tried: some sets of logs once, then rounds of seeded ones.
 use super::{desk, finish, marks, months, plain_rounds, Comparison};
-use crate::door::{FULL, GRAPH_ROOM, LIGHT, MARKING, SUMMARY_ROOM};
+use crate::door::{Form, FULL, GRAPH_ROOM, LIGHT};
 use crate::seeds::{damage, graphs, logs, shapes, Prng};
 use crate::{judge, seeds};
 
@@ -23,6 +23,18 @@ pub fn once(comparison: &mut Comparison) {
             });
         }
         on_log(comparison, &mut prng, "log: border", &log);
+    }
+    for (number, file) in graphs::borders() {
+        let judged = judge::graph_file::read(&file).err().unwrap_or(0);
+        if judged != number {
+            comparison.differ("border", "01", || {
+                format!(
+                    "wanted {number}, judge {judged}, {:?}",
+                    &file[..file.len().min(90)]
+                )
+            });
+        }
+        on_graph_file(comparison, &mut prng, "graph: border", &file);
     }
     for (_, shape) in shapes::SHAPES {
         let log = shapes::of_size(shape, 4096, 7);
@@ -48,6 +60,7 @@ pub fn round(comparison: &mut Comparison, seed: u64) {
     for (kind, count, make) in logs::KINDS {
         for _ in 0..count {
             let log = make(&mut prng);
+            let log = logs::either_size(&mut prng, log);
             on_log(comparison, &mut prng, kind, &log);
             let damaged = damage::log(&mut prng, &log);
             on_damaged_log(comparison, &mut prng, &damaged);
@@ -71,13 +84,13 @@ fn on_log(comparison: &mut Comparison, prng: &mut Prng, kind: &'static str, log:
         return;
     };
     if log.len() < 400 {
-        let room = prng.one_of(&[0, 51, file.len() - 1, file.len()]);
+        let room = prng.one_of(&[0, 51, 83, file.len() - 1, file.len()]);
         comparison.mine(log, prng.one_of(&[FULL, LIGHT]), room);
     }
     let sound = judge::log::read(log).expect("accepted above");
     for trace in sound.traces.iter().take(4) {
         comparison.replay(&file, trace);
-        let changed = graphs::changed_trace(prng, trace, sound.a);
+        let changed = graphs::changed_trace(prng, trace, &sound);
         comparison.replay(&file, &changed);
     }
     plain_rounds::on_traces(comparison, prng, &file, &sound.traces);
@@ -94,16 +107,22 @@ fn on_damaged_log(comparison: &mut Comparison, prng: &mut Prng, log: &[u8]) {
 /// All that there is of a log in either profile but the full graph, and one call in a profile
 /// that there is not, on which the log has no say.
 fn on_profiles(comparison: &mut Comparison, prng: &mut Prng, log: &[u8]) {
-    comparison.listing(log, FULL);
-    comparison.listing(log, LIGHT);
+    let form = Form::in_file(log);
+    comparison.listing(log, FULL, form.listing());
+    comparison.listing(log, LIGHT, form.listing());
+    if prng.percent(4) {
+        let short = prng.one_of(&[0, Form::NARROW.listing(), form.listing() - 1]);
+        comparison.listing(log, prng.one_of(&[FULL, LIGHT]), short);
+    }
     comparison.mine(log, LIGHT, GRAPH_ROOM);
-    let room = prng.one_of(&[0, SUMMARY_ROOM - 1, SUMMARY_ROOM, SUMMARY_ROOM + 3]);
+    let whole = form.summary();
+    let room = prng.one_of(&[0, 128, whole - 1, whole, whole + 3]);
     comparison.summary(log, FULL, room);
-    comparison.summary(log, LIGHT, SUMMARY_ROOM);
+    comparison.summary(log, LIGHT, whole);
     let none = prng.one_of(&[2, 3, 12, 128, 255]);
     match prng.below(3) {
         0 => drop(comparison.mine(log, none, room)),
-        1 => comparison.listing(log, none),
+        1 => comparison.listing(log, none, room),
         _ => comparison.summary(log, none, room),
     }
 }
@@ -129,20 +148,20 @@ fn on_graph_file(comparison: &mut Comparison, prng: &mut Prng, kind: &'static st
     let room = prng.one_of(&[0, 51, file.len().saturating_sub(1), file.len()]);
     comparison.rewrite(file, room);
     let graph = graphs::graph_in(file);
-    let a = graph.a;
-    let trace = graphs::trace(prng, a);
+    let trace = graphs::trace(prng, &graph);
     comparison.replay(file, &trace);
-    let other = prng.one_of(&graphs::OTHER_LENGTHS);
-    comparison.opening(file, prng.one_of(&[MARKING, other]));
+    let form = Form::in_file(file);
+    let other = prng.one_of(&graphs::other_lengths(form));
+    comparison.opening(file, prng.one_of(&[form.marking(), other]));
     for _ in 0..2 {
-        let marking = graphs::marking_bytes(&graphs::any_marking(prng, &graph));
-        let activity = graphs::activity(prng, a);
+        let marking = graphs::marking_bytes(&graphs::any_marking(prng, &graph), form);
+        let activity = graphs::activity(prng, &graph);
         comparison.step(file, &marking, activity);
     }
     // too few bytes for a marking, and more than it needs
-    let mut marking = graphs::marking_bytes(&graphs::any_marking(prng, &graph)).to_vec();
+    let mut marking = graphs::marking_bytes(&graphs::any_marking(prng, &graph), form);
     marking.resize(other, 0);
-    comparison.step(file, &marking, graphs::activity(prng, a));
+    comparison.step(file, &marking, graphs::activity(prng, &graph));
     plain_rounds::on_graph_file(comparison, prng, file, trace);
 }
 
@@ -169,11 +188,11 @@ fn on_graph_value(
     let length = seeds::graphs::file(value).len();
     let room = prng.one_of(&[0, length - 1, length, length + 5]);
     comparison.value_write(value, room);
-    let trace = graphs::trace(prng, value.a);
+    let trace = graphs::trace(prng, value);
     comparison.value_replay(value, &trace);
     for _ in 0..3 {
         let marking = graphs::any_marking(prng, value);
-        let activity = graphs::activity(prng, value.a);
+        let activity = graphs::activity(prng, value);
         comparison.value_step(value, &marking, activity);
     }
 }

@@ -29,7 +29,7 @@ impl Comparison {
     /// Mining as a value, without step 6; the doors show mining with it.
     pub fn value_read(&mut self, file: &[u8]) {
         let wanted = judge::graph_file::read(file).map(|graph| graph_value(&graph));
-        let got = yardstick::graph_file::read(file);
+        let got = yardstick::value::read(file);
         self.saw("value read", number(&wanted));
         self.same("value read", &wanted, &got, || decimal(file));
     }
@@ -37,7 +37,7 @@ impl Comparison {
     pub fn value_write(&mut self, graph: &GraphValue, room: usize) {
         let (mut lent, mut theirs) = (vec![90; room], vec![90; room]);
         let outcome = judge::graph_file::write(&graph_of(graph), &mut lent);
-        let got = yardstick::graph_file::write(graph, &mut theirs);
+        let got = yardstick::value::write(graph, &mut theirs);
         self.saw("value write", number(&outcome));
         self.same("value write", &(outcome, lent), &(got, theirs), || {
             format!("{graph:?} {room}")

@@ -6,8 +6,7 @@ use super::listing::listing as list;
 use super::miner::{mine as mine_log, Profile};
 use super::{desk, finish, log, marks, months, plain, summary, Pairs, Relations, Set};
 use crate::door::{filled, finished, marked, marks_put, opened, replayed, shut, stepped};
-use crate::door::{verdict, written, Door};
-use crate::door::{MARKING, PLACE, PLACES, RELATIONS_ROOM, SUMMARY_ROOM, TABLE_ROOM, TALLY_ROOM};
+use crate::door::{verdict, written, Door, Form, PLACES, RELATIONS_ROOM, TALLY_ROOM};
 use crate::value::{Answer, PlainGraph};
 
 pub const DOOR: Door = Door {
@@ -56,23 +55,28 @@ fn summarize(bytes: &[u8], profile: u8, out: &mut [u8]) -> u64 {
         Err(number) => return filled(number, 0),
         Ok(log) => log,
     };
-    if out.len() < SUMMARY_ROOM {
+    let form = Form::of(log.1.a);
+    if out.len() < form.summary() {
         return 7;
     }
     let graph = mine_log(&log.1, log.0);
-    for a in 0..64 {
-        let counts = summary::counts(&graph, a);
-        out[usize::from(a)] = counts.conditions;
-        out[64 + usize::from(a)] = counts.excludes;
+    for a in 0..form.activities() {
+        let counts = summary::counts(&graph, a as u8);
+        out[a] = counts.conditions;
+        out[form.activities() + a] = counts.excludes;
     }
     0
 }
 
+/// 12, then 7 where the room is less than a listing of this edition may need, then the log's.
 fn listing(bytes: &[u8], profile: u8, out: &mut [u8]) -> u64 {
     let profile = match Profile::numbered(profile) {
         Err(number) => return filled(number, 0),
         Ok(profile) => profile,
     };
+    if out.len() < Form::in_file(bytes).listing() {
+        return filled(7, 0);
+    }
     let listed = list(bytes, profile);
     let text = listed.text.as_bytes();
     out[..text.len()].copy_from_slice(text);
@@ -93,10 +97,11 @@ fn opening(file: &[u8], lent: &mut [u8]) -> u64 {
         Err(number) => return filled(number, 0),
         Ok(graph) => graph,
     };
-    if lent.len() < MARKING {
+    let form = Form::of(graph.a);
+    if lent.len() < form.marking() {
         return 7;
     }
-    write_marking(&graph.marking, lent);
+    write_marking(&graph.marking, form, lent);
     0
 }
 
@@ -180,11 +185,12 @@ fn replay_on(graph: Result<Graph, u8>, trace: &[u8]) -> u64 {
 
 /// A marking of too few bytes gives 7, after all that the graph by itself is refused for.
 fn lent_marking(graph: &Graph, lent: &[u8]) -> Result<Marking, u8> {
-    if lent.len() < MARKING {
+    let form = Form::of(graph.a);
+    if lent.len() < form.marking() {
         judge_graph(graph)?;
         return Err(7);
     }
-    Ok(read_marking(lent))
+    Ok(read_marking(lent, form.set))
 }
 
 /// The graph's refusals come before those of what was lent.
@@ -192,56 +198,59 @@ fn step_on(graph: Result<Graph, u8>, lent: &mut [u8], activity: u8) -> Result<()
     let graph = graph?;
     let mut marking = lent_marking(&graph, lent)?;
     execute(&graph, &mut marking, activity)?;
-    write_marking(&marking, lent);
+    write_marking(&marking, Form::of(graph.a), lent);
     Ok(())
 }
 
-fn write_marking(marking: &Marking, lent: &mut [u8]) {
-    lent[0..8].copy_from_slice(&set_bytes(&marking.executed));
-    lent[8..16].copy_from_slice(&set_bytes(&marking.pending));
-    lent[16..24].copy_from_slice(&set_bytes(&marking.included));
-    lent[24..32].copy_from_slice(&set_bytes(&marking.enabled));
+fn write_marking(marking: &Marking, form: Form, lent: &mut [u8]) {
+    let m = marking;
+    let sets = [&m.executed, &m.pending, &m.included, &m.enabled];
+    let bytes = sets.map(|set| set_bytes(set, form.set)).concat();
+    lent[..form.marking()].copy_from_slice(&bytes);
 }
 
 fn desk_open(file: &[u8], table: &mut [u8]) -> u64 {
-    opened(at_desk(table, |places| {
+    opened(at_desk(file, table, |places| {
         desk::open(&graph_file::read(file), places)
     }))
 }
 
 fn desk_step(file: &[u8], table: &mut [u8], place: usize, activity: u8) -> u64 {
-    stepped(at_desk(table, |places| {
+    stepped(at_desk(file, table, |places| {
         desk::step(&graph_file::read(file), places, place, activity)
     }))
 }
 
 fn desk_close(file: &[u8], table: &mut [u8], place: usize) -> u64 {
-    written(at_desk(table, |places| {
+    written(at_desk(file, table, |places| {
         desk::close(&graph_file::read(file), places, place).map(|()| 0)
     }))
 }
 
 /// The table is asked as it is, and nothing of it is kept.
 fn desk_finish(file: &[u8], table: &[u8], place: usize, lent: &mut [u8]) -> u64 {
-    let way = at_desk(&mut table.to_vec(), |places| {
+    let way = at_desk(file, &mut table.to_vec(), |places| {
         desk::finish(&graph_file::read(file), places, place, lent.len())
     });
     finished(way, lent)
 }
 
-/// A request to the desk of a table, 7 where that is too short. Only a place that the request
-/// changed is written: a byte that is not 0 where it is open, then its marking.
+/// A request to the desk of a table, 7 where that is too short for a file of this edition. Only a place that the
+/// request changed is written: a byte that is not 0 where it is open, then its marking.
 fn at_desk<T, E: From<u8>>(
+    file: &[u8],
     table: &mut [u8],
     request: impl FnOnce(&mut [desk::Place]) -> Result<T, E>,
 ) -> Result<T, E> {
-    if table.len() < TABLE_ROOM {
+    let form = Form::in_file(file);
+    let at = |place: usize| form.place() * place..form.place() * (place + 1);
+    if table.len() < form.table() {
         return Err(7.into());
     }
     let before: Vec<desk::Place> = (0..PLACES)
         .map(|place| {
-            let bytes = &table[PLACE * place..PLACE * (place + 1)];
-            (bytes[0] != 0).then(|| read_marking(&bytes[1..]))
+            let bytes = &table[at(place)];
+            (bytes[0] != 0).then(|| read_marking(&bytes[1..], form.set))
         })
         .collect();
     let mut after = before.clone();
@@ -250,14 +259,14 @@ fn at_desk<T, E: From<u8>>(
         if before[place] == after[place] {
             continue;
         }
-        let bytes = &mut table[PLACE * place..PLACE * (place + 1)];
+        let bytes = &mut table[at(place)];
         match &after[place] {
             None => bytes.fill(0),
             Some(marking) => {
                 if bytes[0] == 0 {
                     bytes[0] = 1;
                 }
-                write_marking(marking, &mut bytes[1..]);
+                write_marking(marking, form, &mut bytes[1..]);
             }
         }
     }
@@ -303,7 +312,7 @@ fn tally_relations(tally: &[u8], profile: u8, out: &mut [u8]) -> u64 {
 /// in the row of their source.
 pub fn relations_bytes(a: u8, events: &Set, known: &Relations) -> Vec<u8> {
     let mut bytes = vec![a];
-    bytes.extend(set_bytes(events));
+    bytes.extend(set_bytes(events, 8));
     let conditions: Pairs = known.conditions.iter().map(|&(s, t)| (t, s)).collect();
     for pairs in [
         &conditions,
@@ -313,7 +322,7 @@ pub fn relations_bytes(a: u8, events: &Set, known: &Relations) -> Vec<u8> {
     ] {
         for key in 0..64 {
             let row: Set = (0..64).filter(|&x| pairs.contains(&(key, x))).collect();
-            bytes.extend(set_bytes(&row));
+            bytes.extend(set_bytes(&row, 8));
         }
     }
     bytes

@@ -1,14 +1,14 @@
 //! The engine: enabled, execute, accepting, replay, on a graph handed over as a value.
 use super::graph::{judge_marking, judge_members, judge_size, Graph, Marking};
-use super::{Relations, Set};
+use super::{Pairs, Relations, Set};
 use crate::value::Answer;
 
 /// The condition sources of e that are included and not executed.
 fn blockers(graph: &Graph, marking: &Marking, e: u8) -> Set {
     let mut blockers = Set::new();
-    for &(source, target) in &graph.relations.conditions {
-        let included = marking.included.contains(&source);
-        if target == e && included && !marking.executed.contains(&source) {
+    for &source in &marking.included {
+        let leads_to_e = graph.relations.conditions.contains(&(source, e));
+        if leads_to_e && !marking.executed.contains(&source) {
             blockers.insert(source);
         }
     }
@@ -64,22 +64,22 @@ pub fn with_effects(relations: &Relations, marking: &Marking, e: u8) -> Marking 
     let mut after = marking.clone();
     after.executed.insert(e);
     after.pending.remove(&e);
-    for &(source, target) in &relations.responses {
-        if source == e {
-            after.pending.insert(target);
-        }
+    for target in targets(&relations.responses, e) {
+        after.pending.insert(target);
     }
-    for &(source, target) in &relations.excludes {
-        if source == e {
-            after.included.remove(&target);
-        }
+    for target in targets(&relations.excludes, e) {
+        after.included.remove(&target);
     }
-    for &(source, target) in &relations.includes {
-        if source == e {
-            after.included.insert(target);
-        }
+    for target in targets(&relations.includes, e) {
+        after.included.insert(target);
     }
     after
+}
+
+/// The targets of the pairs with this source.
+fn targets(pairs: &Pairs, source: u8) -> impl Iterator<Item = u8> + '_ {
+    let of_source = pairs.range((source, 0)..=(source, 255));
+    of_source.map(|&(_, target)| target)
 }
 
 /// "A marking handed over with a false set is not believed": 16.

@@ -4,6 +4,8 @@ use super::log::Log;
 use super::Set;
 
 pub struct Facts {
+    /// every activity is below this
+    pub below: usize,
     pub traces: Vec<Vec<u8>>,
     /// the activities that occur
     pub events: Set,
@@ -31,55 +33,67 @@ pub struct Facts {
     pub between: Triples,
 }
 
-/// Yes or no for each two activities: a set of pairs as a plain table, because a long log
-/// puts the same pairs in millions of times.
+/// Yes or no for each two activities below a number: a set of pairs as a plain table, because a
+/// long log puts the same pairs in millions of times.
 pub struct Table {
+    below: usize,
     ticked: Vec<bool>,
 }
 
 impl Table {
-    pub fn empty() -> Table {
+    pub fn below(below: usize) -> Table {
         Table {
-            ticked: vec![false; 64 * 64],
+            below,
+            ticked: vec![false; below * below],
         }
     }
 
     pub fn contains(&self, &(s, t): &(u8, u8)) -> bool {
-        self.ticked[usize::from(s) * 64 + usize::from(t)]
+        self.ticked[usize::from(s) * self.below + usize::from(t)]
     }
 
     pub fn insert(&mut self, (s, t): (u8, u8)) {
-        self.ticked[usize::from(s) * 64 + usize::from(t)] = true;
+        self.ticked[usize::from(s) * self.below + usize::from(t)] = true;
     }
 }
 
 /// The same for each three activities.
 pub struct Triples {
+    below: usize,
     ticked: Vec<bool>,
 }
 
 impl Triples {
-    fn index(s: u8, u: u8, t: u8) -> usize {
-        (usize::from(s) * 64 + usize::from(u)) * 64 + usize::from(t)
+    fn below(below: usize) -> Triples {
+        Triples {
+            below,
+            ticked: vec![false; below * below * below],
+        }
+    }
+
+    fn index(&self, s: u8, u: u8, t: u8) -> usize {
+        let places = usize::from(s) * self.below + usize::from(u);
+        places * self.below + usize::from(t)
     }
 
     pub fn has(&self, s: u8, u: u8, t: u8) -> bool {
-        self.ticked[Triples::index(s, u, t)]
+        self.ticked[self.index(s, u, t)]
     }
 
     pub fn tick(&mut self, s: u8, u: u8, t: u8) {
-        self.ticked[Triples::index(s, u, t)] = true;
+        let place = self.index(s, u, t);
+        self.ticked[place] = true;
     }
 }
 
 pub fn gather(log: &Log) -> Facts {
     let events = log.traces.iter().flatten().copied().collect();
-    gather_asking(&log.traces, events)
+    gather_asking(&log.traces, events, usize::from(log.a))
 }
 
-/// Facts of absence for these activities, which may be more than occur.
-pub fn gather_asking(traces: &[Vec<u8>], asked: Set) -> Facts {
-    let mut facts = nothing_seen();
+/// Facts of absence for these activities, which may be more than occur. All are below a number.
+pub fn gather_asking(traces: &[Vec<u8>], asked: Set, below: usize) -> Facts {
+    let mut facts = nothing_seen(below);
     facts.traces = traces.to_vec();
     facts.events = traces.iter().flatten().copied().collect();
     facts.asked = asked;
@@ -110,23 +124,23 @@ fn what_stands_later(trace: &[u8]) -> Vec<Set> {
     sets
 }
 
-pub fn nothing_seen() -> Facts {
+pub fn nothing_seen(below: usize) -> Facts {
+    let table = || Table::below(below);
     Facts {
+        below,
         traces: Vec::new(),
         events: Set::new(),
         asked: Set::new(),
         twice: Set::new(),
-        before: Table::empty(),
-        later: Table::empty(),
-        before_first: Table::empty(),
-        lacks_earlier: Table::empty(),
-        lacks_later: Table::empty(),
-        directly_followed: Table::empty(),
-        lacks_directly_before: Table::empty(),
-        lacks_alternate: Table::empty(),
-        between: Triples {
-            ticked: vec![false; 64 * 64 * 64],
-        },
+        before: table(),
+        later: table(),
+        before_first: table(),
+        lacks_earlier: table(),
+        lacks_later: table(),
+        directly_followed: table(),
+        lacks_directly_before: table(),
+        lacks_alternate: table(),
+        between: Triples::below(below),
     }
 }
 

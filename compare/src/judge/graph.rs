@@ -49,20 +49,20 @@ pub fn judge_marking(events: &Set, marking: &Marking) -> Result<(), u8> {
     Ok(())
 }
 
-/// A as 3 judges it.
+/// A as 3 judges it: "Raise A to 128" (02, 10/12).
 pub fn judge_size(graph: &Graph) -> Result<(), u8> {
-    if graph.a > 64 {
+    if graph.a > 128 {
         return Err(3);
     }
     Ok(())
 }
 
-pub fn set_of(value: u64) -> Set {
-    (0..64).filter(|a| value >> a & 1 == 1).collect()
+pub fn set_of(value: u128) -> Set {
+    (0..128).filter(|a| value >> a & 1 == 1).collect()
 }
 
-pub fn value_of(set: &Set) -> u64 {
-    set.iter().map(|&a| 1u64 << a).sum()
+pub fn value_of(set: &Set) -> u128 {
+    set.iter().map(|&a| 1u128 << a).sum()
 }
 
 pub fn marking_of(value: &MarkingValue) -> Marking {
@@ -95,9 +95,9 @@ fn keyed(rows: &Rows) -> Pairs {
 }
 
 fn rows_of(pairs: &Pairs) -> Rows {
-    let mut rows = [0; 64];
+    let mut rows = [0; 128];
     for &(key, member) in pairs {
-        rows[usize::from(key)] |= 1u64 << member;
+        rows[usize::from(key)] |= 1u128 << member;
     }
     rows
 }

@@ -1,4 +1,5 @@
 //! The log file: its refusals in 01's order, its traces, and the reader over it.
+use super::graph_file::judge_activities;
 use super::two_bytes;
 
 const HEAD: usize = 6;
@@ -35,17 +36,15 @@ pub fn read(bytes: &[u8]) -> Result<Log, u8> {
     })
 }
 
-/// 1, 2, then 3 for A and for T. Gives T.
+/// 1, 2, then 3 for A, with the edition, and for T. Gives T. "The log layout is unchanged but for its edition".
 fn judge_head(bytes: &[u8]) -> Result<usize, u8> {
     if bytes.len() < HEAD {
         return Err(1);
     }
-    if bytes[0] != 66 || bytes[1] != 76 || bytes[2] != 1 {
+    if bytes[0] != 66 || bytes[1] != 76 || (bytes[2] != 1 && bytes[2] != 2) {
         return Err(2);
     }
-    if bytes[3] > 64 {
-        return Err(3);
-    }
+    judge_activities(bytes[2], bytes[3])?;
     let t = two_bytes(bytes, 4);
     if t > 1024 {
         return Err(3);

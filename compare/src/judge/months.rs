@@ -18,7 +18,7 @@ const PAIRS: usize = 512;
 /// All that steps 1 to 8 need to know of these traces. A fact of absence ranges over all 64
 /// activities: "Mind a step absent in one month: its absence before another step counts".
 pub fn facts_of(traces: &[Vec<u8>]) -> Facts {
-    gather_asking(traces, (0..64).collect())
+    gather_asking(traces, (0..64).collect(), 64)
 }
 
 pub fn filled(log: &Log) -> Vec<u8> {
@@ -46,7 +46,7 @@ pub fn bytes(a: u8, facts: &Facts) -> Vec<u8> {
             sets[pair(u, s)] = members(|v| facts.between.has(u, v, s));
         }
     }
-    let mut bytes: Vec<u8> = sets.iter().flat_map(set_bytes).collect();
+    let mut bytes: Vec<u8> = sets.iter().flat_map(|set| set_bytes(set, 8)).collect();
     bytes[0] = a;
     bytes
 }
@@ -74,7 +74,7 @@ fn by_second(table: &Table) -> Vec<Set> {
 pub fn facts_in(tally: &[u8]) -> Facts {
     let set = |k: usize| read_set(&tally[8 * k..8 * k + 8]);
     let by_first = |k: usize| {
-        let mut table = Table::empty();
+        let mut table = Table::below(64);
         for s in 0..64 {
             for t in set(ROWS + 64 * k + usize::from(s)) {
                 table.insert((s, t));
@@ -83,7 +83,7 @@ pub fn facts_in(tally: &[u8]) -> Facts {
         table
     };
     let by_second = |k: usize| {
-        let mut table = Table::empty();
+        let mut table = Table::below(64);
         for t in 0..64 {
             for s in set(ROWS + 64 * k + usize::from(t)) {
                 table.insert((s, t));
@@ -100,7 +100,7 @@ pub fn facts_in(tally: &[u8]) -> Facts {
         lacks_directly_before: by_second(4),
         lacks_alternate: by_second(5),
         directly_followed: by_first(6),
-        ..nothing_seen()
+        ..nothing_seen(64)
     };
     facts.twice = members(|s| facts.before.contains(&(s, s)));
     for u in 0..64 {

@@ -3,7 +3,7 @@
 use super::graph::{judge_members, judge_size, Graph};
 use super::graph_file::{read_marking, read_set};
 use super::{Pairs, Relations};
-use crate::door::{HEAD, HEAD_MARKING, MOST_PAIRS};
+use crate::door::{Form, MOST_PAIRS};
 use crate::value::PlainGraph;
 
 /// A pair is source x 256 + target; order and repetition do not count.
@@ -26,17 +26,24 @@ fn relations_in(lists: &[Vec<u16>; 4]) -> Relations {
     }
 }
 
+/// By its A: sets of 16 bytes above 64.
+pub fn form_of(plain: &PlainGraph) -> Form {
+    Form::of(plain.head.first().copied().unwrap_or(0))
+}
+
 /// 7 where there is no whole head; then every 3, of A, of a trace's length, of a list's; then
 /// the graph's 5s. Its 16 comes after the 5 of a marking beside it, so it is not judged here.
 pub fn read(plain: &PlainGraph, trace_length: usize) -> Result<Graph, u8> {
-    if plain.head.len() < HEAD {
+    let form = form_of(plain);
+    if plain.head.len() < form.head() {
         return Err(7);
     }
-    let graph = Graph {
+    let opening = &plain.head[form.head_marking()..form.head()];
+    let mut graph = Graph {
         a: plain.head[0],
-        events: read_set(&plain.head[1..9]),
-        marking: read_marking(&plain.head[HEAD_MARKING..HEAD]),
-        relations: relations_in(&plain.lists),
+        events: read_set(&plain.head[1..form.head_marking()]),
+        marking: read_marking(opening, form.set),
+        relations: Relations::default(),
     };
     judge_size(&graph)?;
     if trace_length > 512 {
@@ -47,6 +54,7 @@ pub fn read(plain: &PlainGraph, trace_length: usize) -> Result<Graph, u8> {
             return Err(3);
         }
     }
+    graph.relations = relations_in(&plain.lists);
     judge_members(&graph)?;
     Ok(graph)
 }

@@ -122,10 +122,9 @@ pub fn step6(facts: &Facts, stood: &Relations) -> Relations {
 pub fn step7(facts: &Facts, stood: &Relations) -> Relations {
     let mut after = stood.clone();
     for &(s, t) in &stood.excludes {
-        for &u in &facts.events {
-            if makes_redundant(facts, stood, u, s, t) {
-                after.excludes.remove(&(s, t));
-            }
+        let explains = |&u: &u8| makes_redundant(facts, stood, u, s, t);
+        if facts.events.iter().any(explains) {
+            after.excludes.remove(&(s, t));
         }
     }
     after
@@ -135,7 +134,7 @@ pub fn step7(facts: &Facts, stood: &Relations) -> Relations {
 /// includes t stands between a u and a later s in any trace (02, 7/12).
 pub fn makes_redundant(facts: &Facts, stood: &Relations, u: u8, s: u8, t: u8) -> bool {
     let alternately = !facts.lacks_alternate.contains(&(u, s));
-    if !stood.excludes.contains(&(u, t)) || !alternately || stood.includes.contains(&(u, t)) {
+    if !alternately || !stood.excludes.contains(&(u, t)) || stood.includes.contains(&(u, t)) {
         return false;
     }
     let lets_in = |&v: &u8| facts.between.has(u, v, s) && stood.includes.contains(&(v, t));
@@ -180,7 +179,7 @@ pub fn step9(facts: &Facts, stood: &Relations) -> Relations {
 /// replayed with includes and excludes alone, from all included; t's own effects come
 /// after it is judged.
 pub fn held_up(facts: &Facts, stood: &Relations) -> Table {
-    let mut found = Table::empty();
+    let mut found = Table::below(facts.below);
     for trace in &facts.traces {
         let mut included = facts.events.clone();
         let mut executed = Set::new();

@@ -3,13 +3,15 @@
 // All faults are of one type, and some of them change the length.
 #![allow(clippy::ptr_arg)]
 use super::Prng;
+use crate::door::Form;
 
 type Fault = fn(&mut Prng, &mut Vec<u8>);
 
-const LOG_FAULTS: [Fault; 11] = [
+const LOG_FAULTS: [Fault; 12] = [
     cut,
     longer,
     letters,
+    edition,
     log_size,
     log_count,
     log_length,
@@ -20,10 +22,12 @@ const LOG_FAULTS: [Fault; 11] = [
     shorter_by_one,
 ];
 
-const GRAPH_FAULTS: [Fault; 14] = [
+const GRAPH_FAULTS: [Fault; 16] = [
     cut,
     longer,
     letters,
+    edition,
+    cut_at_a_head,
     graph_size,
     graph_events,
     graph_marking,
@@ -88,8 +92,20 @@ fn longer(prng: &mut Prng, bytes: &mut Vec<u8>) {
 
 fn letters(prng: &mut Prng, bytes: &mut Vec<u8>) {
     let at = prng.below(3);
-    let value = prng.one_of(&[0, 1, 2, 66, 71, 76, 255]);
+    let value = prng.one_of(&[0, 1, 2, 3, 66, 71, 76, 255]);
     put(bytes, at, value);
+}
+
+/// The other edition, or none.
+fn edition(prng: &mut Prng, bytes: &mut Vec<u8>) {
+    let value = prng.one_of(&[0, 1, 2, 1, 2, 3]);
+    put(bytes, 2, value);
+}
+
+/// As long as a head of either edition, or nearly.
+fn cut_at_a_head(prng: &mut Prng, bytes: &mut Vec<u8>) {
+    let kept = prng.one_of(&[51, 52, 83, 84]);
+    bytes.resize(kept, 0);
 }
 
 fn any_byte(prng: &mut Prng, bytes: &mut Vec<u8>) {
@@ -100,7 +116,7 @@ fn any_byte(prng: &mut Prng, bytes: &mut Vec<u8>) {
 }
 
 fn log_size(prng: &mut Prng, bytes: &mut Vec<u8>) {
-    let value = prng.one_of(&[0, 1, 2, 63, 64, 65, 128, 255]);
+    let value = prng.one_of(&[0, 1, 2, 63, 64, 65, 97, 128, 129, 255]);
     put(bytes, 3, value);
 }
 
@@ -155,19 +171,19 @@ fn log_body(prng: &mut Prng, bytes: &mut Vec<u8>) {
     if bytes.len() > start {
         let at = prng.within(start, bytes.len() - 1);
         let a = bytes[3];
-        bytes[at] = prng.one_of(&[a, a.wrapping_add(1), 64, 255]);
+        bytes[at] = prng.one_of(&[a, a.wrapping_add(1), 64, 128, 255]);
     }
 }
 
 fn graph_size(prng: &mut Prng, bytes: &mut Vec<u8>) {
     let stood = bytes.get(3).copied().unwrap_or(0);
-    let value = prng.one_of(&[0, 63, 64, 65, 255, stood.wrapping_sub(1)]);
+    let value = prng.one_of(&[0, 63, 64, 65, 97, 128, 129, 255, stood.wrapping_sub(1)]);
     put(bytes, 3, value);
 }
 
 /// Turns one bit of the set that starts here.
 fn turn(prng: &mut Prng, bytes: &mut [u8], at: usize) {
-    let at = at + prng.below(8);
+    let at = at + prng.below(Form::in_file(bytes).set);
     if let Some(byte) = bytes.get_mut(at) {
         *byte ^= 1 << prng.below(8);
     }
@@ -178,34 +194,61 @@ fn graph_events(prng: &mut Prng, bytes: &mut Vec<u8>) {
 }
 
 fn graph_marking(prng: &mut Prng, bytes: &mut Vec<u8>) {
-    let set = 12 + 8 * prng.below(3);
+    let size = Form::in_file(bytes).set;
+    let set = 4 + size * prng.within(1, 3);
     turn(prng, bytes, set);
 }
 
+/// Where a file of this edition has its entries.
+fn contents(bytes: &[u8]) -> usize {
+    4 + 4 * Form::in_file(bytes).set
+}
+
 fn graph_count(prng: &mut Prng, bytes: &mut Vec<u8>) {
-    let at = 38 + 4 * prng.below(4);
+    let at = contents(bytes) + 2 + 4 * prng.below(4);
     let stood = get_two(bytes, at);
-    let value = prng.one_of(&[0, 64, 65, 66, 256, 65535, stood + 1, stood.wrapping_sub(1)]);
+    let value = prng.one_of(&[
+        0,
+        64,
+        65,
+        66,
+        128,
+        129,
+        256,
+        65535,
+        stood + 1,
+        stood.wrapping_sub(1),
+    ]);
     put_two(bytes, at, value);
 }
 
 fn graph_offset(prng: &mut Prng, bytes: &mut Vec<u8>) {
-    let at = 36 + 4 * prng.below(4);
+    let at = contents(bytes) + 4 * prng.below(4);
     let stood = get_two(bytes, at);
-    let value = prng.one_of(&[0, 9, stood + 9, stood + 1, stood + 256]);
+    let value = prng.one_of(&[0, 9, 17, stood + 9, stood + 17, stood + 1, stood + 256]);
     put_two(bytes, at, value);
 }
 
 /// The place of a random row, where there is one.
 fn graph_row_at(prng: &mut Prng, bytes: &[u8]) -> Option<usize> {
-    let rows = bytes.len().saturating_sub(52) / 9;
-    (rows > 0).then(|| 52 + 9 * prng.below(rows))
+    let form = Form::in_file(bytes);
+    let rows = bytes.len().saturating_sub(form.first_row()) / form.row();
+    (rows > 0).then(|| form.first_row() + form.row() * prng.below(rows))
 }
 
 fn graph_key(prng: &mut Prng, bytes: &mut Vec<u8>) {
     if let Some(at) = graph_row_at(prng, bytes) {
         let stood = bytes[at];
-        let value = prng.one_of(&[0, stood.wrapping_sub(1), stood + 1, 63, 64, 200, 255]);
+        let value = prng.one_of(&[
+            0,
+            stood.wrapping_sub(1),
+            stood.wrapping_add(1),
+            63,
+            64,
+            128,
+            200,
+            255,
+        ]);
         put(bytes, at, value);
     }
 }
@@ -215,12 +258,13 @@ fn graph_row(prng: &mut Prng, bytes: &mut Vec<u8>) {
     let Some(at) = graph_row_at(prng, bytes) else {
         return;
     };
+    let row = Form::in_file(bytes).row();
     match prng.below(3) {
-        0 => bytes[at + 1..at + 9].fill(0),
+        0 => bytes[at + 1..at + row].fill(0),
         1 => turn(prng, bytes, at + 1),
         _ => {
             let key = bytes[at];
-            put(bytes, at + 9, key);
+            put(bytes, at + row, key);
         }
     }
 }
@@ -230,19 +274,21 @@ fn graph_row_twice_bad(prng: &mut Prng, bytes: &mut Vec<u8>) {
     let Some(at) = graph_row_at(prng, bytes) else {
         return;
     };
+    let row = Form::in_file(bytes).row();
     if prng.percent(50) {
-        bytes[at + 1..at + 9].fill(0);
-        bytes[at] = prng.one_of(&[63, 64, 255]);
+        bytes[at + 1..at + row].fill(0);
+        bytes[at] = prng.one_of(&[63, 64, 128, 255]);
     } else {
         bytes[at] = 0;
-        bytes[at + 1..at + 9].fill(255);
+        bytes[at + 1..at + row].fill(255);
     }
 }
 
 /// A row with a 6, and somewhere else one with a 5: the earlier one decides.
 fn graph_two_rows(prng: &mut Prng, bytes: &mut Vec<u8>) {
     if let Some(at) = graph_row_at(prng, bytes) {
-        bytes[at + 1..at + 9].fill(0);
+        let row = Form::in_file(bytes).row();
+        bytes[at + 1..at + row].fill(0);
     }
     if let Some(at) = graph_row_at(prng, bytes) {
         bytes[at] = 255;

@@ -1,6 +1,7 @@
 //! Half-done calls: graphs and markings at which a way out is asked for. The judge tries every
 //! sequence of four steps, so the graphs are small, or few of their steps are open.
 use super::{graphs, Prng};
+use crate::door::Form;
 use crate::value::{GraphValue, MarkingValue};
 use crate::yardstick::engine::kept;
 
@@ -11,7 +12,7 @@ pub fn of_two(k: u16) -> GraphValue {
         events: 3,
         ..GraphValue::EMPTY
     };
-    let row = |at: u16| u64::from(k >> at & 3);
+    let row = |at: u16| u128::from(k >> at & 3);
     for key in 0..2 {
         let at = 2 * key as u16;
         graph.conditions[key] = row(at);
@@ -22,12 +23,13 @@ pub fn of_two(k: u16) -> GraphValue {
     graph
 }
 
-/// Marking k of such a graph, k below 64.
-pub fn marking_of_two(graph: &GraphValue, k: u64) -> MarkingValue {
+/// Marking k of such a graph, k below 64: the events stand side by side, from the first on.
+pub fn marking_of_two(graph: &GraphValue, k: u128) -> MarkingValue {
+    let first = graph.events.trailing_zeros();
     let sets = MarkingValue {
-        executed: k & 3,
-        pending: k >> 2 & 3,
-        included: k >> 4 & 3,
+        executed: (k & 3) << first,
+        pending: (k >> 2 & 3) << first,
+        included: (k >> 4 & 3) << first,
         enabled: 0,
     };
     kept(graph, sets)
@@ -36,7 +38,7 @@ pub fn marking_of_two(graph: &GraphValue, k: u64) -> MarkingValue {
 /// A small graph with so few pairs that some ways are long. Most of its steps are included.
 pub fn small(prng: &mut Prng) -> GraphValue {
     let a = prng.within(1, 7) as u8;
-    let events = (1u64 << a) - 1;
+    let events = (1u128 << a) - 1;
     let mut graph = GraphValue {
         a,
         events,
@@ -51,24 +53,24 @@ pub fn small(prng: &mut Prng) -> GraphValue {
     ] {
         let share = prng.one_of(&shares);
         for row in rows.iter_mut().take(usize::from(a)) {
-            *row = prng.sparse(share) & events;
+            *row = prng.set(share, usize::from(a));
         }
     }
-    graph.marking = kept(&graph, sets(prng, events));
+    graph.marking = kept(&graph, sets(prng, usize::from(a)));
     graph
 }
 
 /// Something owed, mostly.
-fn sets(prng: &mut Prng, events: u64) -> MarkingValue {
+fn sets(prng: &mut Prng, a: usize) -> MarkingValue {
     let (done, owed, inside) = (
         prng.one_of(&[0, 20, 60]),
         prng.one_of(&[15, 30, 60]),
         prng.one_of(&[60, 90, 100]),
     );
     MarkingValue {
-        executed: prng.sparse(done) & events,
-        pending: prng.sparse(owed) & events,
-        included: prng.sparse(inside) & events,
+        executed: prng.set(done, a),
+        pending: prng.set(owed, a),
+        included: prng.set(inside, a),
         enabled: 0,
     }
 }
@@ -80,7 +82,7 @@ pub fn chain(prng: &mut Prng) -> GraphValue {
     let mut order: Vec<usize> = (0..a).collect();
     prng.shuffle(&mut order);
     let links = prng.within(1, a - 1);
-    let events = (1u64 << a) - 1;
+    let events = (1u128 << a) - 1;
     let mut graph = GraphValue {
         a: a as u8,
         events,
@@ -106,10 +108,10 @@ pub fn chain(prng: &mut Prng) -> GraphValue {
 pub fn hopeless() -> GraphValue {
     let mut graph = GraphValue {
         a: 64,
-        events: u64::MAX,
+        events: u128::from(u64::MAX),
         ..GraphValue::EMPTY
     };
-    graph.marking.included = u64::MAX;
+    graph.marking.included = graph.events;
     graph.marking.pending = 1;
     // 0 waits for 1, and 1 for itself
     graph.conditions[0] = 2;
@@ -127,7 +129,15 @@ pub fn restless() -> GraphValue {
     graph
 }
 
+/// As it is, or over more activities than 64.
+pub fn either_size(prng: &mut Prng, graph: GraphValue) -> GraphValue {
+    if prng.percent(25) {
+        return graphs::spread(prng, &graph);
+    }
+    graph
+}
+
 pub fn bytes(graph: &GraphValue) -> (Vec<u8>, Vec<u8>) {
-    let marking = graphs::marking_bytes(&graph.marking).to_vec();
+    let marking = graphs::marking_bytes(&graph.marking, Form::of(graph.a));
     (graphs::file(graph), marking)
 }

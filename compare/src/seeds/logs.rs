@@ -1,6 +1,7 @@
 //! Accepted logs of many kinds, most of them small, for the comparison.
 use super::process::{build, run_of, shuffled};
-use super::{log_file, Prng};
+use super::{log_file, log_of_edition, Prng};
+use crate::judge;
 
 pub type Maker = fn(&mut Prng) -> Vec<u8>;
 
@@ -150,8 +151,57 @@ pub fn empty(prng: &mut Prng) -> Vec<u8> {
     log_file(a, &vec![Vec::new(); count])
 }
 
-/// At and just past every limit. The number beside a log is what 01 says of it.
+/// Of so many of a hundred logs the activities get other numbers, below 65 to 128.
+const SPREAD: usize = 25;
+
+/// As it is made, or spread over more activities than 64 (02, 10/12): its rules then meet at both sizes.
+pub fn either_size(prng: &mut Prng, log: Vec<u8>) -> Vec<u8> {
+    if prng.percent(SPREAD) {
+        return spread(prng, &log);
+    }
+    log
+}
+
+/// The same traces over other numbers: some of them below 64, some above, the border's neighbours and the greatest often.
+pub fn spread(prng: &mut Prng, log: &[u8]) -> Vec<u8> {
+    let sound = judge::log::read(log).expect("sound kinds");
+    let a = prng.one_of(&[65, 66, 97, 97, 127, 128]);
+    let numbers = numbers_below(prng, a, usize::from(sound.a));
+    let other = |e: &u8| numbers[usize::from(*e)];
+    let traces: Vec<Vec<u8>> = sound
+        .traces
+        .iter()
+        .map(|trace| trace.iter().map(other).collect())
+        .collect();
+    log_file(a, &traces)
+}
+
+/// So many different numbers below a, in any order: 0, 63, 64 and the greatest mostly among them.
+pub fn numbers_below(prng: &mut Prng, a: u8, count: usize) -> Vec<u8> {
+    let mut all = shuffled(prng, a);
+    for (place, border) in [63, 64, a - 1, 0].into_iter().enumerate().take(count) {
+        if prng.percent(70) {
+            let at = all
+                .iter()
+                .position(|&e| e == border)
+                .expect("all are there");
+            all.swap(place, at);
+        }
+    }
+    all.truncate(count);
+    prng.shuffle(&mut all);
+    all
+}
+
+/// At and just past every limit, in both editions. The number beside a log is what 01 and 02 say of it.
 pub fn borders(prng: &mut Prng) -> Vec<(u8, Vec<u8>)> {
+    let mut all = narrow_borders(prng);
+    all.extend(edition_borders());
+    all.extend(wide_borders(prng));
+    all
+}
+
+fn narrow_borders(prng: &mut Prng) -> Vec<(u8, Vec<u8>)> {
     let full: Vec<Vec<u8>> = traces(prng, 64, |prng| random_trace(prng, 64, 512));
     let mut over = full.clone();
     over.push(vec![0]);
@@ -164,7 +214,6 @@ pub fn borders(prng: &mut Prng) -> Vec<(u8, Vec<u8>)> {
         (3, log_file(1, &vec![vec![0]; 1025])),
         (0, log_file(0, &vec![Vec::new(); 1024])),
         (0, bytes_at_a(64, 63)),
-        (3, bytes_at_a(65, 63)),
         (5, bytes_at_a(64, 64)),
         (5, bytes_at_a(0, 0)),
         (0, log_file(64, &full)),
@@ -173,6 +222,56 @@ pub fn borders(prng: &mut Prng) -> Vec<(u8, Vec<u8>)> {
         (
             0,
             log_file(64, &traces(prng, 1024, |prng| random_trace(prng, 64, 32))),
+        ),
+    ]
+}
+
+/// Each edition with each A at a border, with and without an event; faults before and after it in the order.
+fn edition_borders() -> Vec<(u8, Vec<u8>)> {
+    let mut all = Vec::new();
+    for edition in [0, 1, 2, 3, 255] {
+        for a in [0, 1, 5, 63, 64, 65, 66, 97, 127, 128, 129, 255] {
+            let number = match (edition, a) {
+                (1, ..=64) | (2, 65..=128) => 0,
+                (1 | 2, _) => 3,
+                _ => 2,
+            };
+            all.push((number, log_of_edition(edition, a, &[])));
+            let mut cut = log_of_edition(edition, a, &[vec![0]]);
+            cut.truncate(6);
+            all.push((if number == 0 { 1 } else { number }, cut));
+            let many = log_of_edition(edition, a, &vec![Vec::new(); 1025]);
+            all.push((if number == 0 { 3 } else { number }, many));
+            for e in [a.saturating_sub(1), a] {
+                let judged = if number == 0 && e >= a { 5 } else { number };
+                all.push((judged, log_of_edition(edition, a, &[vec![e]])));
+            }
+        }
+    }
+    all
+}
+
+/// Traces of any of 128 activities are many and short, or long and few: the judge takes its time.
+fn wide_borders(prng: &mut Prng) -> Vec<(u8, Vec<u8>)> {
+    let few: Vec<Vec<u8>> = traces(prng, 64, |prng| {
+        let used = numbers_below(prng, 128, 4);
+        (0..512).map(|_| prng.one_of(&used)).collect()
+    });
+    let mut over = few.clone();
+    over.push(vec![127]);
+    let alone: Vec<Vec<u8>> = (0..128).map(|e| vec![e]).collect();
+    let round: Vec<u8> = (0..512u32).map(|place| (place % 128) as u8).collect();
+    vec![
+        (0, log_file(128, &few)),
+        (3, log_file(128, &over)),
+        (0, log_file(128, &[round])),
+        // every pair is excluded, as many as a relation can have
+        (0, log_file(128, &alone)),
+        (3, log_file(97, &[vec![96; 513]])),
+        (0, log_file(97, &[vec![96; 512]])),
+        (
+            0,
+            log_file(97, &traces(prng, 1024, |prng| random_trace(prng, 97, 5))),
         ),
     ]
 }

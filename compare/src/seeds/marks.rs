@@ -29,10 +29,12 @@ pub fn labels(prng: &mut Prng, count: usize) -> Vec<u8> {
 /// one of them is damaged.
 pub fn case(prng: &mut Prng) -> (Vec<u8>, Vec<u8>) {
     let log = prng.one_of(&[logs::adversarial, logs::process_like, logs::few_variants])(prng);
+    let log = logs::either_size(prng, log);
     let file = match prng.below(4) {
         0 => graphs::file(&graphs::value(prng)),
         1 => {
             let other = logs::adversarial(prng);
+            let other = logs::either_size(prng, other);
             mined(prng, &other)
         }
         _ => mined(prng, &log),
@@ -61,14 +63,18 @@ fn changed(prng: &mut Prng, log: &[u8]) -> Vec<u8> {
     let Ok(sound) = judge::log::read(log) else {
         return log.to_vec();
     };
-    let a = (sound.a + 1).min(64);
+    let a = (sound.a + 1).min(128);
+    let steps = graphs::Steps {
+        a,
+        ..graphs::Steps::from(&sound)
+    };
     let traces: Vec<Vec<u8>> = sound
         .traces
         .iter()
         .map(|trace| match prng.below(3) {
             0 => trace.clone(),
             _ => {
-                let mut other = graphs::changed_trace(prng, trace, a);
+                let mut other = graphs::changed_trace(prng, trace, steps);
                 other.retain(|&e| e < a);
                 other.truncate(trace.len());
                 other

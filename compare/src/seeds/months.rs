@@ -57,7 +57,7 @@ pub fn damaged(prng: &mut Prng, tally: &[u8]) -> Vec<u8> {
         bytes[at] ^= 1 << prng.below(8);
     }
     bytes[0] = match prng.below(4) {
-        0 => prng.one_of(&[65, 128, 255]),
+        0 => prng.one_of(&[65, 97, 128, 129, 255]),
         _ => prng.within(0, 64) as u8,
     };
     let share = prng.one_of(&[0, 5, 15]);

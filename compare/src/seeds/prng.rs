@@ -47,6 +47,11 @@ impl Prng {
         }
     }
 
+    /// A set of activities below a, each in it with about this chance.
+    pub fn set(&mut self, chance: usize, a: usize) -> u128 {
+        (0..a).fold(0, |set, bit| set | u128::from(self.percent(chance)) << bit)
+    }
+
     /// A word in which each bit is set with about this chance.
     pub fn sparse(&mut self, chance: usize) -> u64 {
         (0..64).fold(0, |word, bit| word | u64::from(self.percent(chance)) << bit)

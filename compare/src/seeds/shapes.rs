@@ -10,15 +10,24 @@ type Trace = Box<dyn FnMut(&mut Prng) -> Vec<u8>>;
 type Shape = fn(&mut Prng) -> (u8, Trace);
 
 pub const SHAPES: [(&str, Shape); 9] = [
-    ("process-like", process_like),
+    ("process-like", process_like::<60>),
     ("few variants", few_variants),
     ("long traces", long_traces),
-    ("all distinct", all_distinct),
-    ("random", random),
-    ("cyclic", cyclic),
-    ("long process", long_process),
+    ("all distinct", all_distinct::<64>),
+    ("random", random::<64>),
+    ("cyclic", cyclic::<64>),
+    ("long process", long_process::<64>),
     ("nested rounds", nested_rounds),
     ("common prefix", common_prefix),
+];
+
+/// Of more than 64 activities (02, 10/12).
+pub const WIDE: [(&str, Shape); 5] = [
+    ("process-like", process_like::<97>),
+    ("all distinct", all_distinct::<128>),
+    ("random", random::<128>),
+    ("cyclic", cyclic::<128>),
+    ("long process", long_process::<128>),
 ];
 
 /// Traces of this shape until there are just so many events.
@@ -72,14 +81,14 @@ fn at_least(process: &Process, prng: &mut Prng, least: usize) -> Vec<u8> {
     trace
 }
 
-fn process_like(prng: &mut Prng) -> (u8, Trace) {
-    let order = shuffled(prng, 60);
+fn process_like<const A: u8>(prng: &mut Prng) -> (u8, Trace) {
+    let order = shuffled(prng, A);
     let process = build(prng, &order);
-    (60, Box::new(move |prng| at_least(&process, prng, 33)))
+    (A, Box::new(move |prng| at_least(&process, prng, 33)))
 }
 
 fn few_variants(prng: &mut Prng) -> (u8, Trace) {
-    let (a, mut make) = process_like(prng);
+    let (a, mut make) = process_like::<60>(prng);
     let variants: Vec<Vec<u8>> = (0..8).map(|_| make(prng)).collect();
     (a, Box::new(move |prng| variants[prng.below(8)].clone()))
 }
@@ -91,16 +100,16 @@ fn long_traces(prng: &mut Prng) -> (u8, Trace) {
 }
 
 /// No activity twice in a trace, and no two traces alike.
-fn all_distinct(_: &mut Prng) -> (u8, Trace) {
-    (64, Box::new(|prng| shuffled(prng, 64)))
+fn all_distinct<const A: u8>(_: &mut Prng) -> (u8, Trace) {
+    (A, Box::new(|prng| shuffled(prng, A)))
 }
 
-fn random(_: &mut Prng) -> (u8, Trace) {
+fn random<const A: u8>(_: &mut Prng) -> (u8, Trace) {
     (
-        64,
+        A,
         Box::new(|prng| {
             (0..prng.within(33, 63))
-                .map(|_| prng.below(64) as u8)
+                .map(|_| prng.below(usize::from(A)) as u8)
                 .collect()
         }),
     )
@@ -108,15 +117,16 @@ fn random(_: &mut Prng) -> (u8, Trace) {
 
 /// All activities in their order, round after round: whoever looks back for what stands since the
 /// last e finds all of it, and has to look back a whole round.
-fn cyclic(_: &mut Prng) -> (u8, Trace) {
-    (64, Box::new(|_| (0..512).map(|i| (i % 64) as u8).collect()))
+fn cyclic<const A: u8>(_: &mut Prng) -> (u8, Trace) {
+    let round = |i: usize| (i % usize::from(A)) as u8;
+    (A, Box::new(move |_| (0..512).map(round).collect()))
 }
 
 /// Runs of one process over all activities, one after another: rounds, with some left out.
-fn long_process(prng: &mut Prng) -> (u8, Trace) {
-    let order = shuffled(prng, 64);
+fn long_process<const A: u8>(prng: &mut Prng) -> (u8, Trace) {
+    let order = shuffled(prng, A);
     let process = build(prng, &order);
-    (64, Box::new(move |prng| at_least(&process, prng, 512)))
+    (A, Box::new(move |prng| at_least(&process, prng, 512)))
 }
 
 /// A round of k is two rounds of k - 1 with a k after the first, as the marks of a ruler.
@@ -128,7 +138,7 @@ fn nested_rounds(_: &mut Prng) -> (u8, Trace) {
 /// The same first 40 steps, then any.
 fn common_prefix(prng: &mut Prng) -> (u8, Trace) {
     let prefix: Vec<u8> = shuffled(prng, 64)[..40].to_vec();
-    let mut tail = random(prng).1;
+    let mut tail = random::<64>(prng).1;
     let trace = move |prng: &mut Prng| prefix.iter().copied().chain(tail(prng)).collect();
     (64, Box::new(trace))
 }

@@ -3,7 +3,8 @@ use super::engine::replay_judged;
 use super::log::{judge, Log};
 use super::miner::mine_in;
 use super::rows::{count, transposed, Bits};
-use crate::value::{GraphValue, Rows};
+use super::word::Word;
+use crate::value::GraphOf;
 
 struct Page<'a> {
     lent: &'a mut [u8],
@@ -28,7 +29,7 @@ impl Page<'_> {
         self.number(number);
     }
 
-    fn pairs(&mut self, name: u8, by_source: &Rows) {
+    fn pairs<W: Word, const N: usize>(&mut self, name: u8, by_source: &[W; N]) {
         for (source, &row) in by_source.iter().enumerate() {
             for target in Bits(row) {
                 self.text(&[name]);
@@ -51,13 +52,16 @@ pub fn listing(bytes: &[u8], profile: u8, lent: &mut [u8]) -> (u8, usize) {
             (number, page.length)
         }
         Ok(log) => {
-            list(&log, &mine_in(&log, profile), &mut page);
+            match log.a {
+                ..=64 => list::<u64, 64>(&log, &mine_in(&log, profile), &mut page),
+                _ => list::<u128, 128>(&log, &mine_in(&log, profile), &mut page),
+            }
             (0, page.length)
         }
     }
 }
 
-fn list(log: &Log, graph: &GraphValue, page: &mut Page) {
+fn list<W: Word, const N: usize>(log: &Log, graph: &GraphOf<W, N>, page: &mut Page) {
     let conditions = transposed(&graph.conditions);
     let named = [
         (b'C', &conditions),
@@ -66,10 +70,10 @@ fn list(log: &Log, graph: &GraphValue, page: &mut Page) {
         (b'E', &graph.excludes),
     ];
     page.text(b"events");
-    page.field(graph.events.count_ones() as usize);
+    page.field(graph.events.count());
     for (name, rows) in named {
         page.text(&[b' ', name]);
-        page.field(count(rows) as usize);
+        page.field(count(rows));
     }
     page.text(b" traces");
     page.field(log.count());

@@ -11,12 +11,12 @@ pub fn judge(bytes: &[u8]) -> Result<Log<'_>, u8> {
         return Err(1);
     }
     let (head, rest) = bytes.split_at(6);
-    if head[..3] != [66, 76, 1] {
+    if head[..2] != [66, 76] || !(1..=2).contains(&head[2]) {
         return Err(2);
     }
-    let a = head[3];
+    let (edition, a) = (head[2], head[3]);
     let t = usize::from(u16::from_le_bytes([head[4], head[5]]));
-    if a > 64 || t > 1024 {
+    if a > 128 || (a > 64) != (edition == 2) || t > 1024 {
         return Err(3);
     }
     if rest.len() < 4 * t {

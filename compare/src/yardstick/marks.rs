@@ -1,6 +1,7 @@
 //! Marks: the four counts in one array, by verdict and label.
+use super::word::Word;
 use super::{engine, log};
-use crate::value::GraphValue;
+use crate::value::GraphOf;
 
 /// At 2 x verdict + label: true negatives, false negatives, false positives, true positives.
 pub type Counts = [usize; 4];
@@ -15,7 +16,11 @@ fn labels_fit(labels: &[u8], traces: usize) -> Result<(), u8> {
     Ok(())
 }
 
-pub fn on_graph(graph: &GraphValue, log: &log::Log, labels: &[u8]) -> Result<Counts, u8> {
+pub fn on_graph<W: Word, const N: usize>(
+    graph: &GraphOf<W, N>,
+    log: &log::Log,
+    labels: &[u8],
+) -> Result<Counts, u8> {
     labels_fit(labels, log.count())?;
     let mut counts = [0; 4];
     for (trace, &label) in log.traces().zip(labels) {
@@ -39,7 +44,11 @@ pub fn on_guesses(guesses: &[u8], labels: &[u8]) -> Result<Counts, u8> {
 }
 
 /// 128 where it ends accepting, else its number.
-pub fn replays(graph: &GraphValue, log: &log::Log, out: &mut [u8]) -> Result<usize, u8> {
+pub fn replays<W: Word, const N: usize>(
+    graph: &GraphOf<W, N>,
+    log: &log::Log,
+    out: &mut [u8],
+) -> Result<usize, u8> {
     let lent = out.get_mut(..log.count()).ok_or(7)?;
     for (byte, trace) in lent.iter_mut().zip(log.traces()) {
         let done = engine::replay_judged(graph, trace);

@@ -1,22 +1,23 @@
 //! The ten steps on rows. Conditions are kept by target, the others by source.
-use super::facts::{gather, Facts};
+use super::facts::{gather, Fact, Facts};
 use super::log::Log;
 use super::redundant::{not_redundant, Around};
 use super::replayed_pass::{between, held_up};
 use super::rows::{reduced, transposed, Bits};
-use crate::value::{GraphValue, MarkingValue, Rows};
+use super::word::Word;
+use crate::value::{GraphOf, MarkingOf};
 
-pub fn mine(log: &Log) -> GraphValue {
-    mined::<true>(log)
+pub fn mine<W: Word, const N: usize>(log: &Log) -> GraphOf<W, N> {
+    mined::<W, N, true>(log)
 }
 
 /// Light: without step 6 and its pass.
-pub fn mine_light(log: &Log) -> GraphValue {
-    mined::<false>(log)
+pub fn mine_light<W: Word, const N: usize>(log: &Log) -> GraphOf<W, N> {
+    mined::<W, N, false>(log)
 }
 
 /// By the number of the profile, where there is one.
-pub fn mine_in(log: &Log, profile: u8) -> GraphValue {
+pub fn mine_in<W: Word, const N: usize>(log: &Log, profile: u8) -> GraphOf<W, N> {
     if profile == 0 {
         mine(log)
     } else {
@@ -25,8 +26,8 @@ pub fn mine_in(log: &Log, profile: u8) -> GraphValue {
 }
 
 #[inline(always)]
-fn mined<const STEP6: bool>(log: &Log) -> GraphValue {
-    let facts = gather(log);
+fn mined<W: Word, const N: usize, const STEP6: bool>(log: &Log) -> GraphOf<W, N> {
+    let facts = gather::<W, N>(log);
     let mut graph = opened(log.a, facts.events);
     steps_1_to_3(&facts, &mut graph);
     steps_4_and_5(&facts, &mut graph.excludes);
@@ -50,25 +51,28 @@ fn mined<const STEP6: bool>(log: &Log) -> GraphValue {
 
 /// Before there is a relation. What is mined is written or replayed, and neither asks for the set
 /// of the opening marking.
-fn opened(a: u8, events: u64) -> GraphValue {
-    let marking = MarkingValue {
-        executed: 0,
-        pending: 0,
+fn opened<W: Word, const N: usize>(a: u8, events: W) -> GraphOf<W, N> {
+    let marking = MarkingOf {
+        executed: W::NONE,
+        pending: W::NONE,
         included: events,
-        enabled: 0,
+        enabled: W::NONE,
     };
-    GraphValue {
+    GraphOf {
         a,
         events,
         marking,
-        ..GraphValue::EMPTY
+        ..GraphOf::empty()
     }
 }
 
 /// Rows of the events; what is no event has the empty row.
 #[inline(always)]
-fn row_of_each(facts: &Facts, row: impl Fn(&super::facts::Fact) -> u64) -> Rows {
-    let mut rows = [0; 64];
+fn row_of_each<W: Word, const N: usize>(
+    facts: &Facts<W, N>,
+    row: impl Fn(&Fact<W>) -> W,
+) -> [W; N] {
+    let mut rows = [W::NONE; N];
     for e in Bits(facts.events) {
         rows[e] = row(&facts.of[e]);
     }
@@ -77,16 +81,16 @@ fn row_of_each(facts: &Facts, row: impl Fn(&super::facts::Fact) -> u64) -> Rows 
 
 /// A first e has no e before it and a last one none after, so no pair of step 2 is a
 /// self-pair, and neither is one of step 3.
-fn steps_1_to_3(facts: &Facts, graph: &mut GraphValue) {
+fn steps_1_to_3<W: Word, const N: usize>(facts: &Facts<W, N>, graph: &mut GraphOf<W, N>) {
     for e in Bits(facts.events) {
         let fact = &facts.of[e];
-        let here = 1u64 << e;
+        let here = W::ONE << e;
         graph.excludes[e] = here & !facts.twice;
         graph.conditions[e] = fact.always_before;
         graph.responses[e] = fact.always_after;
-        let one_before = fact.directly_before.is_power_of_two() && facts.starts & here == 0;
+        let one_before = fact.directly_before.is_one() && facts.starts & here == W::NONE;
         if one_before {
-            graph.includes[fact.directly_before.trailing_zeros() as usize] |= here;
+            graph.includes[fact.directly_before.least()] |= here;
             graph.excludes[e] |= here;
         }
     }
@@ -94,26 +98,26 @@ fn steps_1_to_3(facts: &Facts, graph: &mut GraphValue) {
 
 /// Each target takes its smallest source. Neither step adds or asks for a pair that the
 /// other could change: step 4 has no self-pairs and step 5 reads only those.
-fn steps_4_and_5(facts: &Facts, excludes: &mut Rows) {
+fn steps_4_and_5<W: Word, const N: usize>(facts: &Facts<W, N>, excludes: &mut [W; N]) {
     let before = row_of_each(facts, |fact| fact.before);
     let after = transposed(&before);
     for target in Bits(facts.events) {
-        let here = 1u64 << target;
+        let here = W::ONE << target;
         let never_together = facts.events & !(before[target] | after[target] | here);
-        if never_together != 0 {
-            excludes[never_together.trailing_zeros() as usize] |= here;
+        if never_together != W::NONE {
+            excludes[never_together.least()] |= here;
         }
         let only_after = after[target] & !before[target];
-        if only_after != 0 && excludes[target] & here == 0 {
-            excludes[only_after.trailing_zeros() as usize] |= here;
+        if only_after != W::NONE && excludes[target] & here == W::NONE {
+            excludes[only_after.least()] |= here;
         }
     }
 }
 
-fn step6(log: &Log, facts: &Facts, graph: &mut GraphValue) {
+fn step6<W: Word, const N: usize>(log: &Log, facts: &Facts<W, N>, graph: &mut GraphOf<W, N>) {
     let directly_before = row_of_each(facts, |fact| fact.directly_before);
     let followed = transposed(&directly_before);
-    let mut never = [0; 64];
+    let mut never = [W::NONE; N];
     for s in Bits(facts.events) {
         never[s] = facts.events & !followed[s];
         graph.excludes[s] |= never[s];

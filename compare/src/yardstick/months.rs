@@ -3,12 +3,16 @@
 use super::facts::{gather, Facts};
 use super::log::Log;
 use super::rows::{reduced, transposed, union, Bits};
-use super::{bit, index};
+use super::word::{bit, index};
 use crate::door::TALLY_ROOM;
-use crate::value::{GraphValue, Rows};
+use crate::value::GraphOf;
 
 const ROWS: usize = 2;
 const PAIRS: usize = 512;
+
+/// A tally has 64 activities at the most.
+type Rows = [u64; 64];
+type Graph = GraphOf<u64, 64>;
 
 /// Row s: for each u, what stands between a u and a later s.
 type Between = [Rows; 64];
@@ -25,7 +29,7 @@ struct Tables {
 }
 
 pub fn fill(log: &Log, tally: &mut [u8; TALLY_ROOM]) {
-    let facts = gather(log);
+    let facts = gather::<u64, 64>(log);
     let mut between = [[0; 64]; 64];
     for trace in log.traces() {
         stand_between(trace, &mut between);
@@ -57,23 +61,23 @@ fn word(tally: &[u8; TALLY_ROOM], at: usize) -> u64 {
 fn stand_between(trace: &[u8], between: &mut Between) {
     let mut last = [0; 64];
     for (place, &e) in trace.iter().enumerate() {
-        last[index(e)] = place as u32;
+        last[index::<64>(e)] = place as u32;
     }
     let (mut firsts, mut gaps, mut count, mut seen) = ([0u8; 64], [0u64; 64], 0, 0);
     for (place, &e) in (0..).zip(trace) {
-        if last[index(e)] == place {
-            let row = &mut between[index(e)];
+        if last[index::<64>(e)] == place {
+            let row = &mut between[index::<64>(e)];
             let mut since = 0;
             for (&u, &gap) in firsts[..count].iter().zip(&gaps[..count]).rev() {
                 since |= gap;
-                row[index(u)] |= since;
+                row[index::<64>(u)] |= since;
             }
         }
         if count > 0 {
-            gaps[(count - 1) & 63] |= bit(e);
+            gaps[(count - 1) & 63] |= bit::<u64>(e);
         }
-        if seen & bit(e) == 0 {
-            seen |= bit(e);
+        if seen & bit::<u64>(e) == 0 {
+            seen |= bit::<u64>(e);
             firsts[count & 63] = e;
             count += 1;
         }
@@ -81,8 +85,8 @@ fn stand_between(trace: &[u8], between: &mut Between) {
 }
 
 /// What breaks a rule is what did not hold at every place; at no place of what is no event.
-fn tables_of(facts: &Facts) -> Tables {
-    let row = |of: fn(&Facts, usize) -> u64| {
+fn tables_of(facts: &Facts<u64, 64>) -> Tables {
+    let row = |of: fn(&Facts<u64, 64>, usize) -> u64| {
         let mut rows = [0; 64];
         for e in Bits(facts.events) {
             rows[e] = of(facts, e);
@@ -149,13 +153,13 @@ pub fn join(tally: &mut [u8; TALLY_ROOM], other: &[u8; TALLY_ROOM]) {
 }
 
 /// Steps 1 to 8 on rows. Only the rows of events are looked at, whatever the others hold.
-pub fn relations<const STEP6: bool>(tally: &[u8; TALLY_ROOM]) -> GraphValue {
+pub fn relations<const STEP6: bool>(tally: &[u8; TALLY_ROOM]) -> Graph {
     let events = word(tally, 1);
     let tables = tables_in(tally);
-    let mut graph = GraphValue {
+    let mut graph = Graph {
         a: tally[0],
         events,
-        ..GraphValue::EMPTY
+        ..Graph::empty()
     };
     for e in Bits(events) {
         let others = events & !(1 << e);
@@ -195,7 +199,7 @@ fn exclude(excludes: &mut Rows, tables: &Tables, events: u64, target: usize, cha
 }
 
 /// What lets t in is gathered by target, a word for each s that t never directly follows.
-fn step6(tally: &[u8; TALLY_ROOM], tables: &Tables, graph: &mut GraphValue) {
+fn step6(tally: &[u8; TALLY_ROOM], tables: &Tables, graph: &mut Graph) {
     let mut let_in = [0; 64];
     for s in Bits(graph.events) {
         let never = graph.events & !tables.followed[s];
@@ -209,7 +213,7 @@ fn step6(tally: &[u8; TALLY_ROOM], tables: &Tables, graph: &mut GraphValue) {
     }
 }
 
-fn not_redundant(tally: &[u8; TALLY_ROOM], tables: &Tables, graph: &GraphValue) -> Rows {
+fn not_redundant(tally: &[u8; TALLY_ROOM], tables: &Tables, graph: &Graph) -> Rows {
     let mut left = graph.excludes;
     for s in Bits(graph.events) {
         for u in Bits(graph.events & !tables.unalternated[s]) {

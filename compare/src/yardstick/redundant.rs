@@ -1,40 +1,39 @@
 //! Step 7 (02, 7/12). What one u after another makes redundant goes. The log is asked only
 //! about pairs in doubt: something that includes the target comes after some u and before
 //! some s, in one trace or in two.
-use super::index;
 use super::log::Log;
 use super::rows::{transposed, union, Bits};
-use crate::value::Rows;
+use super::word::{index, Word};
 
-pub struct Around {
+pub struct Around<W, const N: usize> {
     /// what is before some e
-    pub before: Rows,
+    pub before: [W; N],
     /// what alternately precedes e
-    pub alternately: Rows,
+    pub alternately: [W; N],
 }
 
-pub fn not_redundant(
+pub fn not_redundant<W: Word, const N: usize>(
     log: &Log,
-    events: u64,
-    around: &Around,
-    includes: &Rows,
-    excludes: &Rows,
-) -> Rows {
+    events: W,
+    around: &Around<W, N>,
+    includes: &[W; N],
+    excludes: &[W; N],
+) -> [W; N] {
     let later = transposed(&around.before);
     let followers = transposed(&around.alternately);
     let mut left = *excludes;
     for u in Bits(events) {
         let asked = excludes[u] & !includes[u] & union(&left, followers[u]);
-        if asked == 0 {
+        if asked == W::NONE {
             continue;
         }
-        if asked & union(includes, later[u]) == 0 {
+        if asked & union(includes, later[u]) == W::NONE {
             for s in Bits(followers[u]) {
                 left[s] &= !asked;
             }
             continue;
         }
-        let mut open = [0; 64];
+        let mut open = [W::NONE; N];
         for s in Bits(followers[u]) {
             let doubted = union(includes, later[u] & around.before[s]);
             left[s] &= !asked | doubted;
@@ -49,17 +48,23 @@ pub fn not_redundant(
 }
 
 /// Row s loses what was let in between a u and some later s.
-fn reopen(log: &Log, u: usize, followers: u64, includes: &Rows, open: &mut Rows) {
+fn reopen<W: Word, const N: usize>(
+    log: &Log,
+    u: usize,
+    followers: W,
+    includes: &[W; N],
+    open: &mut [W; N],
+) {
     for (k, trace) in log.traces().enumerate() {
-        if k % 4 == 0 && union(open, followers) == 0 {
+        if k % 4 == 0 && union(open, followers) == W::NONE {
             return;
         }
-        let mut after_first = trace.iter().skip_while(|&&e| index(e) != u);
+        let mut after_first = trace.iter().skip_while(|&&e| index::<N>(e) != u);
         after_first.next();
-        let mut since = 0;
+        let mut since = W::NONE;
         for &e in after_first {
-            open[index(e)] &= !since;
-            since |= includes[index(e)];
+            open[index::<N>(e)] &= !since;
+            since |= includes[index::<N>(e)];
         }
     }
 }

@@ -1,32 +1,32 @@
-//! Rows of sets: 64 words, one for each activity.
-use crate::value::Rows;
+//! Rows of sets: a word for each activity.
+use super::word::Word;
 
 /// The set bits of a word, rising.
 #[derive(Clone, Copy)]
-pub struct Bits(pub u64);
+pub struct Bits<W>(pub W);
 
-impl Iterator for Bits {
+impl<W: Word> Iterator for Bits<W> {
     type Item = usize;
 
     #[inline(always)]
     fn next(&mut self) -> Option<usize> {
-        if self.0 == 0 {
+        if self.0 == W::NONE {
             return None;
         }
-        let lowest = self.0.trailing_zeros() as usize;
-        self.0 &= self.0 - 1;
+        let lowest = self.0.least();
+        self.0 = self.0.without_least();
         Some(lowest)
     }
 }
 
 /// Bit t of row s becomes bit s of row t, by swapping ever smaller blocks.
-pub fn transposed(rows: &Rows) -> Rows {
+pub fn transposed<W: Word, const N: usize>(rows: &[W; N]) -> [W; N] {
     let mut out = *rows;
-    let mut width = 32;
-    let mut low = 0x0000_0000_FFFF_FFFFu64;
+    let mut width = N / 2;
+    let mut low = W::ALL >> width;
     while width != 0 {
         let mut base = 0;
-        while base < 64 {
+        while base < N {
             for k in base..base + width {
                 let swap = (out[k] >> width ^ out[k + width]) & low;
                 out[k] ^= swap << width;
@@ -42,22 +42,22 @@ pub fn transposed(rows: &Rows) -> Rows {
 
 /// What stands in the row of some member.
 #[inline(always)]
-pub fn union(rows: &Rows, members: u64) -> u64 {
-    Bits(members).fold(0, |all, member| all | rows[member])
+pub fn union<W: Word, const N: usize>(rows: &[W; N], members: W) -> W {
+    Bits(members).fold(W::NONE, |all, member| all | rows[member])
 }
 
 /// A pair goes where a middle activity explains it; by source or by target alike.
 #[inline(always)]
-pub fn reduced(rows: &Rows) -> Rows {
-    let mut out = [0; 64];
-    for key in 0..64 {
-        if rows[key] != 0 {
+pub fn reduced<W: Word, const N: usize>(rows: &[W; N]) -> [W; N] {
+    let mut out = [W::NONE; N];
+    for key in 0..N {
+        if rows[key] != W::NONE {
             out[key] = rows[key] & !union(rows, rows[key]);
         }
     }
     out
 }
 
-pub fn count(rows: &Rows) -> u32 {
-    rows.iter().map(|row| row.count_ones()).sum()
+pub fn count<W: Word, const N: usize>(rows: &[W; N]) -> usize {
+    rows.iter().map(|row| row.count()).sum()
 }

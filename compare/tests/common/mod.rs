@@ -1,7 +1,8 @@
 //! What the tests share: log L and its graph's file as 01 gives them, and short calls.
 #![allow(dead_code)]
-use compare::door::{Door, FULL, GRAPH_ROOM, LISTING_ROOM};
-use compare::seeds::log_file;
+use compare::door::{Door, Form, FULL, GRAPH_ROOM, LISTING_ROOM};
+use compare::seeds::{graphs, log_file};
+use compare::value::MarkingValue;
 use compare::{judge, port, yardstick};
 
 /// Log L, byte by byte from 01.
@@ -84,6 +85,14 @@ pub fn has(door: &Door, log: &[u8], pair: &str) -> bool {
 /// The number of mining into a buffer with room for any graph.
 pub fn mined_number(door: &Door, log: &[u8]) -> u64 {
     (door.mine)(log, FULL, &mut vec![0; GRAPH_ROOM]) % 256
+}
+
+/// A lent marking of at most 64 activities, and its length.
+pub const MARKING: usize = Form::NARROW.marking();
+
+pub fn marking_bytes(marking: &MarkingValue) -> [u8; MARKING] {
+    let bytes = graphs::marking_bytes(marking, Form::NARROW);
+    bytes.try_into().expect("a narrow one has 32 bytes")
 }
 
 /// number, blocker, place, accepting

@@ -1,12 +1,13 @@
 //! Wrong desks. Each asks the judge and spoils one thing, on the histories of the comparison.
 use super::{all_found, SEEDS};
-use compare::door::{asked, opened, stepped, MARKING, PLACE, PLACES, SET, TABLE_ROOM};
+use compare::door::{asked, opened, stepped, Form, PLACES};
 use compare::judge::door::DOOR as JUDGE;
 use compare::judge::engine::kept;
 use compare::judge::graph::Marking;
-use compare::judge::graph_file::{read, read_marking, set_bytes};
+use compare::judge::graph_file::{self, read, set_bytes};
 use compare::seeds::{desk, Prng};
 use compare::value::Request::{self, Close, Open, Step};
+use std::ops::Range;
 
 /// file, table, request
 type Desk = fn(&[u8], &mut [u8], Request) -> u64;
@@ -22,8 +23,7 @@ fn found(mutant: Desk) -> Option<u64> {
         let (file, graph) = desk::file(&mut prng);
         let mut table = desk::table(&mut prng, &graph);
         for _ in 0..40 {
-            let a = file.get(3).copied().unwrap_or(0);
-            let request = desk::request(&mut prng, &table, a);
+            let request = desk::request(&mut prng, &file, &table);
             let mut lent = table.clone();
             let given = mutant(&file, &mut lent, request);
             if given != right(&file, &mut table, request) || lent != table {
@@ -91,12 +91,23 @@ fn a_right_desk_is_not_told_apart() {
     assert_eq!(found(right), None);
 }
 
-fn is_open(table: &[u8], place: usize) -> bool {
-    place < PLACES && table.len() >= TABLE_ROOM && table[PLACE * place] != 0
+/// The bytes of a place, for a file of this edition.
+fn at(file: &[u8], place: usize) -> Range<usize> {
+    let size = Form::in_file(file).place();
+    size * place..size * (place + 1)
 }
 
-fn marking(table: &mut [u8], place: usize) -> &mut [u8] {
-    &mut table[PLACE * place + 1..PLACE * (place + 1)]
+fn is_open(file: &[u8], table: &[u8], place: usize) -> bool {
+    let whole = table.len() >= Form::in_file(file).table();
+    place < PLACES && whole && table[at(file, place).start] != 0
+}
+
+fn marking<'a>(file: &[u8], table: &'a mut [u8], place: usize) -> &'a mut [u8] {
+    &mut table[at(file, place)][1..]
+}
+
+fn read_marking(file: &[u8], bytes: &[u8]) -> Marking {
+    graph_file::read_marking(bytes, Form::in_file(file).set)
 }
 
 fn done(given: u64) -> bool {
@@ -107,8 +118,8 @@ fn touches_the_next(file: &[u8], table: &mut [u8], request: Request) -> u64 {
     let given = right(file, table, request);
     if let Step(place, _) = request {
         if done(given) && place + 1 < PLACES {
-            let own = marking(table, place).to_vec();
-            marking(table, place + 1).copy_from_slice(&own);
+            let own = marking(file, table, place).to_vec();
+            marking(file, table, place + 1).copy_from_slice(&own);
         }
     }
     given
@@ -118,8 +129,8 @@ fn close_keeps_the_marking(file: &[u8], table: &mut [u8], request: Request) -> u
     let before = table.to_vec();
     let given = right(file, table, request);
     if let (Close(place), true) = (request, done(given)) {
-        let at = PLACE * place + 1;
-        marking(table, place).copy_from_slice(&before[at..at + PLACE - 1]);
+        let stood = &before[at(file, place)][1..];
+        marking(file, table, place).copy_from_slice(stood);
     }
     given
 }
@@ -127,7 +138,7 @@ fn close_keeps_the_marking(file: &[u8], table: &mut [u8], request: Request) -> u
 fn close_keeps_the_place(file: &[u8], table: &mut [u8], request: Request) -> u64 {
     let given = right(file, table, request);
     if let (Close(place), true) = (request, done(given)) {
-        table[PLACE * place] = 1;
+        table[at(file, place).start] = 1;
     }
     given
 }
@@ -135,7 +146,7 @@ fn close_keeps_the_place(file: &[u8], table: &mut [u8], request: Request) -> u64
 fn closes_whatever_is_owed(file: &[u8], table: &mut [u8], request: Request) -> u64 {
     let given = right(file, table, request);
     if let (Close(place), 15) = (request, given) {
-        table[PLACE * place..PLACE * (place + 1)].fill(0);
+        table[at(file, place)].fill(0);
         return 0;
     }
     given
@@ -146,7 +157,7 @@ fn opened_at(
     file: &[u8],
     table: &mut [u8],
     request: Request,
-    choose: fn(&[u8]) -> Option<usize>,
+    choose: fn(&[u8], &[u8]) -> Option<usize>,
 ) -> u64 {
     let before = table.to_vec();
     let given = right(file, table, request);
@@ -154,34 +165,36 @@ fn opened_at(
         return given;
     }
     let lowest = (given / 256) as usize;
-    let bytes = table[PLACE * lowest..PLACE * (lowest + 1)].to_vec();
+    let bytes = table[at(file, lowest)].to_vec();
     table.copy_from_slice(&before);
-    match choose(&before) {
+    match choose(file, &before) {
         None => opened(Err(13)),
         Some(place) => {
-            table[PLACE * place..PLACE * (place + 1)].copy_from_slice(&bytes);
+            table[at(file, place)].copy_from_slice(&bytes);
             opened(Ok(place))
         }
     }
 }
 
 fn highest_free(file: &[u8], table: &mut [u8], request: Request) -> u64 {
-    opened_at(file, table, request, |table| {
-        (0..PLACES).rev().find(|&place| !is_open(table, place))
+    opened_at(file, table, request, |file, table| {
+        (0..PLACES)
+            .rev()
+            .find(|&place| !is_open(file, table, place))
     })
 }
 
 fn after_the_highest(file: &[u8], table: &mut [u8], request: Request) -> u64 {
-    opened_at(file, table, request, |table| {
-        let highest = (0..PLACES).rev().find(|&place| is_open(table, place));
+    opened_at(file, table, request, |file, table| {
+        let highest = (0..PLACES).rev().find(|&place| is_open(file, table, place));
         let next = highest.map_or(0, |place| place + 1);
         (next < PLACES).then_some(next)
     })
 }
 
 fn empty_is_free(file: &[u8], table: &mut [u8], request: Request) -> u64 {
-    opened_at(file, table, request, |table| {
-        (0..PLACES).find(|&place| table[PLACE * place + 1..][..PLACE - 1] == [0; PLACE - 1])
+    opened_at(file, table, request, |file, table| {
+        (0..PLACES).find(|&place| table[at(file, place)][1..].iter().all(|&byte| byte == 0))
     })
 }
 
@@ -190,20 +203,21 @@ fn open_keeps_the_marking(file: &[u8], table: &mut [u8], request: Request) -> u6
     let given = right(file, table, request);
     if request == Open && done(given) {
         let place = (given / 256) as usize;
-        let at = PLACE * place + 1;
-        marking(table, place).copy_from_slice(&before[at..at + PLACE - 1]);
+        let stood = &before[at(file, place)][1..];
+        marking(file, table, place).copy_from_slice(stood);
     }
     given
 }
 
 fn open_is_one(file: &[u8], table: &mut [u8], request: Request) -> u64 {
     let before = table.to_vec();
-    for first in table.iter_mut().step_by(PLACE).filter(|first| **first > 1) {
-        *first = 0;
-    }
+    let firsts = table.iter_mut().step_by(at(file, 1).start);
+    firsts
+        .filter(|first| **first > 1)
+        .for_each(|first| *first = 0);
     let changed = table.to_vec();
     let given = right(file, table, request);
-    for place in (0..table.len()).step_by(PLACE) {
+    for place in (0..table.len()).step_by(at(file, 1).start) {
         if table[place] == changed[place] {
             table[place] = before[place];
         }
@@ -214,7 +228,7 @@ fn open_is_one(file: &[u8], table: &mut [u8], request: Request) -> u64 {
 fn step_puts_one(file: &[u8], table: &mut [u8], request: Request) -> u64 {
     let given = right(file, table, request);
     if let (Step(place, _), true) = (request, done(given)) {
-        table[PLACE * place] = 1;
+        table[at(file, place).start] = 1;
     }
     given
 }
@@ -222,7 +236,7 @@ fn step_puts_one(file: &[u8], table: &mut [u8], request: Request) -> u64 {
 fn fifteen_before_five(file: &[u8], table: &mut [u8], request: Request) -> u64 {
     let given = right(file, table, request);
     if let (Close(place), 5) = (request, given) {
-        let m = read_marking(marking(table, place));
+        let m = read_marking(file, marking(file, table, place));
         if !m.pending.is_disjoint(&m.included) {
             return 15;
         }
@@ -231,7 +245,7 @@ fn fifteen_before_five(file: &[u8], table: &mut [u8], request: Request) -> u64 {
 }
 
 fn thirteen_first(file: &[u8], table: &mut [u8], request: Request) -> u64 {
-    if request == Open && (0..PLACES).all(|place| is_open(table, place)) {
+    if request == Open && (0..PLACES).all(|place| is_open(file, table, place)) {
         return opened(Err(13));
     }
     right(file, table, request)
@@ -257,7 +271,7 @@ fn fourteen_after_the_file(file: &[u8], table: &mut [u8], request: Request) -> u
 fn refused_step_changes(file: &[u8], table: &mut [u8], request: Request) -> u64 {
     let given = right(file, table, request);
     if let (Step(place, e), 9 | 10) = (request, given % 256) {
-        marking(table, place)[usize::from(e) / 8] |= 1 << (e % 8);
+        marking(file, table, place)[usize::from(e) / 8] |= 1 << (e % 8);
     }
     given
 }
@@ -278,11 +292,11 @@ fn some_outside(file: &[u8], table: &[u8]) -> bool {
     };
     (0..PLACES).any(|place| {
         let outside = || {
-            let m = read_marking(&table[PLACE * place + 1..]);
+            let m = read_marking(file, &table[at(file, place)][1..]);
             let sets = [&m.executed, &m.pending, &m.included];
             sets.iter().any(|set| !set.is_subset(&graph.events))
         };
-        is_open(table, place) && outside()
+        is_open(file, table, place) && outside()
     })
 }
 
@@ -309,7 +323,8 @@ fn open_judges_all(file: &[u8], table: &mut [u8], request: Request) -> u64 {
 fn open_leaves_the_set_empty(file: &[u8], table: &mut [u8], request: Request) -> u64 {
     let given = right(file, table, request);
     if request == Open && done(given) {
-        marking(table, (given / 256) as usize)[MARKING - SET..].fill(0);
+        let set = Form::in_file(file).set;
+        marking(file, table, (given / 256) as usize)[3 * set..].fill(0);
     }
     given
 }
@@ -318,7 +333,8 @@ fn close_keeps_the_set(file: &[u8], table: &mut [u8], request: Request) -> u64 {
     let before = table.to_vec();
     let given = right(file, table, request);
     if let (Close(place), true) = (request, done(given)) {
-        let set = PLACE * (place + 1) - SET..PLACE * (place + 1);
+        let end = at(file, place).end;
+        let set = end - Form::in_file(file).set..end;
         table[set.clone()].copy_from_slice(&before[set]);
     }
     given
@@ -334,16 +350,17 @@ fn place_of(request: Request) -> usize {
 
 /// The marking at a place as it would be with its true set, where the file is sound.
 fn kept_there(file: &[u8], bytes: &[u8]) -> Option<(Marking, Marking)> {
-    let (graph, stands) = (read(file).ok()?, read_marking(bytes));
+    let (graph, stands) = (read(file).ok()?, read_marking(file, bytes));
     Some((stands.clone(), kept(&graph, stands)))
 }
 
 /// The table with the set at the request's place put right.
 fn put_right(file: &[u8], table: &[u8], request: Request) -> Vec<u8> {
     let mut other = table.to_vec();
-    let bytes = marking(&mut other, place_of(request));
+    let bytes = marking(file, &mut other, place_of(request));
     if let Some((_, right)) = kept_there(file, bytes) {
-        bytes[MARKING - SET..].copy_from_slice(&set_bytes(&right.enabled));
+        let set = Form::in_file(file).set;
+        bytes[3 * set..].copy_from_slice(&set_bytes(&right.enabled, set));
     }
     other
 }
@@ -366,7 +383,7 @@ fn sixteen_before_five(file: &[u8], table: &mut [u8], request: Request) -> u64 {
     if given % 256 != 5 || request == Open {
         return given;
     }
-    match kept_there(file, marking(table, place_of(request))) {
+    match kept_there(file, marking(file, table, place_of(request))) {
         Some((stands, right)) if stands != right => given + 11,
         _ => given,
     }
@@ -386,9 +403,9 @@ fn every_set_judged(file: &[u8], table: &mut [u8], request: Request) -> u64 {
     let before = table.to_vec();
     let given = right(file, table, request);
     let elsewhere = |place| {
-        let bytes = &before[PLACE * place + 1..PLACE * (place + 1)];
+        let bytes = &before[at(file, place)][1..];
         let false_there = kept_there(file, bytes).is_some_and(|(stands, right)| stands != right);
-        is_open(&before, place) && false_there
+        is_open(file, &before, place) && false_there
     };
     if request == Open || !done(given) || !(0..PLACES).any(elsewhere) {
         return given;

@@ -1,6 +1,6 @@
 //! Wrong ways out of the call at a place. Each asks the judge and spoils one thing, on the histories of the comparison.
 use super::{all_found, SEEDS};
-use compare::door::{asked, MARKING, PLACE, PLACES, SET, WAY};
+use compare::door::{asked, Form, PLACES, WAY};
 use compare::judge::door::DOOR as JUDGE;
 use compare::judge::engine::kept;
 use compare::judge::graph_file::{read, read_marking, set_bytes};
@@ -19,13 +19,12 @@ fn found(mutant: Ways) -> Option<u64> {
         let mut prng = Prng::new(seed);
         let (file, graph) = desk::file(&mut prng);
         let mut table = desk::table(&mut prng, &graph);
-        let a = file.get(3).copied().unwrap_or(0);
         for _ in 0..40 {
-            let request = desk::request(&mut prng, &table, a);
+            let request = desk::request(&mut prng, &file, &table);
             asked(&JUDGE, &file, &mut table, request);
-            let place = desk::place(&mut prng, &table);
+            let place = desk::place(&mut prng, &file, &table);
             let room = desk::way_room(&mut prng);
-            if graph.a > 5 {
+            if graph.events.count_ones() > 5 {
                 continue;
             }
             let (mut lent, mut theirs, mut own) = (table.clone(), vec![165; room], vec![165; room]);
@@ -66,8 +65,9 @@ const MUTANTS: [(&str, Ways); 11] = [
     ("the room after the marking", room_last),
     ("the marking of place 0", |file, table, place, way| {
         let mut other = table.to_vec();
-        if place < PLACES && other.len() >= PLACE * PLACES {
-            other.copy_within(1..PLACE, PLACE * place + 1);
+        let form = Form::in_file(file);
+        if place < PLACES && other.len() >= form.table() {
+            other.copy_within(1..form.place(), form.place() * place + 1);
         }
         right(file, &mut other, place, way)
     }),
@@ -127,10 +127,12 @@ fn room_last(file: &[u8], table: &mut [u8], place: usize, way: &mut [u8]) -> u64
 }
 
 fn opening_asked(file: &[u8], table: &mut [u8], place: usize, way: &mut [u8]) -> u64 {
-    let mut opening = [0; MARKING];
+    let form = Form::in_file(file);
+    let mut opening = vec![0; form.marking()];
     let mut other = table.to_vec();
-    if place < PLACES && other.len() >= PLACE * PLACES && (JUDGE.opening)(file, &mut opening) == 0 {
-        other[PLACE * place + 1..PLACE * (place + 1)].copy_from_slice(&opening);
+    let there = place < PLACES && other.len() >= form.table();
+    if there && (JUDGE.opening)(file, &mut opening) == 0 {
+        other[form.place() * place + 1..form.place() * (place + 1)].copy_from_slice(&opening);
     }
     right(file, &mut other, place, way)
 }
@@ -149,8 +151,9 @@ fn false_set_believed(file: &[u8], table: &mut [u8], place: usize, way: &mut [u8
         return given;
     };
     let mut other = table.to_vec();
-    let bytes = &mut other[PLACE * place + 1..PLACE * (place + 1)];
-    let set = set_bytes(&kept(&graph, read_marking(bytes)).enabled);
-    bytes[MARKING - SET..].copy_from_slice(&set);
+    let form = Form::in_file(file);
+    let bytes = &mut other[form.place() * place + 1..form.place() * (place + 1)];
+    let put_right = kept(&graph, read_marking(bytes, form.set));
+    bytes[3 * form.set..].copy_from_slice(&set_bytes(&put_right.enabled, form.set));
     right(file, &mut other, place, way)
 }

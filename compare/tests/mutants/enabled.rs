@@ -2,11 +2,11 @@
 //! another place than 02's 6/12 says.
 use super::engine::{self, right, Execute};
 use super::{all_found, plain as on_lists, SEEDS};
-use compare::door::{self, HEAD, MARKING, SET};
+use compare::door::{self, Form};
 use compare::judge::door::DOOR as JUDGE;
 use compare::judge::engine::{enabled_events, kept};
-use compare::judge::graph::{graph_of, Graph, Marking};
-use compare::judge::graph_file::{self, read_marking, set_bytes};
+use compare::judge::graph::{graph_of, value_of, Graph, Marking};
+use compare::judge::graph_file::{self, set_bytes};
 use compare::judge::{plain, Set};
 use compare::seeds::{finish as half_done, graphs, plain as lists, Prng};
 use compare::value::{Answer, GraphValue, PlainGraph};
@@ -96,13 +96,21 @@ fn sets_kept_wrongly() {
 
 /// The set of a lent marking that is whole, and the true one for its other three.
 fn sets(graph: &Graph, lent: &[u8]) -> Option<(Set, Set)> {
-    let marking = (lent.len() >= MARKING).then(|| read_marking(lent))?;
+    let whole = lent.len() >= Form::of(graph.a).marking();
+    let marking = whole.then(|| read_marking(graph, lent))?;
     Some((marking.enabled.clone(), enabled_events(graph, &marking)))
 }
 
+/// A whole marking in the form for the graph's A.
+fn read_marking(graph: &Graph, lent: &[u8]) -> Marking {
+    graph_file::read_marking(lent, Form::of(graph.a).set)
+}
+
 /// The same bytes with another set.
-fn put_set(lent: &mut [u8], set: &Set) {
-    lent[MARKING - SET..MARKING].copy_from_slice(&set_bytes(set));
+fn put_set(graph: &Graph, lent: &mut [u8], set: &Set) {
+    let form = Form::of(graph.a);
+    let place = 3 * form.set..form.marking();
+    lent[place].copy_from_slice(&set_bytes(set, form.set));
 }
 
 /// A graph file, a lent marking, an activity.
@@ -126,10 +134,10 @@ fn at_sixteen(
         None => given,
         // taken for a true one
         Some(0) => {
-            put_set(lent, &wanted);
+            put_set(&graph, lent, &wanted);
             let done = (JUDGE.step)(file, lent, e);
             if done % 256 != 0 {
-                put_set(lent, &set);
+                put_set(&graph, lent, &set);
             }
             done
         }
@@ -176,8 +184,8 @@ const ON_FILES: [(&str, OnFile); 10] = [
         let given = (JUDGE.step)(f, m, e);
         if given % 256 == 16 {
             let graph = graph_file::read(f).expect("a sound file");
-            let wanted = enabled_events(&graph, &read_marking(m));
-            put_set(m, &wanted);
+            let wanted = enabled_events(&graph, &read_marking(&graph, m));
+            put_set(&graph, m, &wanted);
         }
         given
     }),
@@ -211,9 +219,10 @@ fn found_on_files(mutant: OnFile) -> Option<u64> {
         let value = graphs::value(&mut prng);
         let file = graphs::file(&value);
         (0..3).any(|_| {
-            let marking = graphs::marking_bytes(&graphs::any_marking(&mut prng, &value));
-            let e = graphs::activity(&mut prng, value.a);
-            let (mut wanted, mut lent) = (marking, marking);
+            let form = Form::of(value.a);
+            let mut lent = graphs::marking_bytes(&graphs::any_marking(&mut prng, &value), form);
+            let e = graphs::activity(&mut prng, &value);
+            let mut wanted = lent.clone();
             let differs = (JUDGE.step)(&file, &mut wanted, e) != mutant(&file, &mut lent, e);
             differs || lent != wanted
         })
@@ -240,8 +249,8 @@ fn false_opening(graph: &PlainGraph) -> bool {
 fn put_right(graph: &PlainGraph) -> PlainGraph {
     let mut other = graph.clone();
     if let Ok(read) = plain::read(graph, 0) {
-        let set = set_bytes(&enabled_events(&read, &read.marking));
-        other.head[HEAD - SET..HEAD].copy_from_slice(&set);
+        let set = value_of(&enabled_events(&read, &read.marking));
+        lists::put_enabled(&mut other, set);
     }
     other
 }
@@ -259,7 +268,8 @@ const ON_LISTS: [(&str, OnLists); 7] = [
         let mut other = m.to_vec();
         if false_marking(g, m) {
             let graph = graph_of(&lists::value_in(g));
-            put_set(&mut other, &enabled_events(&graph, &read_marking(m)));
+            let set = enabled_events(&graph, &read_marking(&graph, m));
+            put_set(&graph, &mut other, &set);
         }
         (JUDGE.plain_accepting)(g, &other)
     }),
@@ -285,7 +295,7 @@ const ON_LISTS: [(&str, OnLists); 7] = [
     }),
     ("a short marking's 7 before the graph's 16", |g, m| {
         let given = (JUDGE.plain_accepting)(g, m);
-        if given == 16 && m.len() < MARKING {
+        if given == 16 && m.len() < lists::form_of(g).marking() {
             return 7;
         }
         given
@@ -323,7 +333,7 @@ fn a_replay_that_believes() {
     let found = (0..SEEDS).find(|&seed| {
         let mut prng = Prng::new(seed);
         on_lists::graphs_of(seed).iter().any(|graph| {
-            let trace = graphs::trace(&mut prng, graph.head.first().copied().unwrap_or(0));
+            let trace = graphs::trace(&mut prng, &lists::value_in(graph));
             let believed = (JUDGE.plain_replay)(&put_right(graph), &trace);
             believed != (JUDGE.plain_replay)(graph, &trace)
         })
@@ -395,7 +405,7 @@ fn wrong_writes() {
 fn opened_with(file: &[u8], lent: &mut [u8], set: fn(&Graph) -> Set) -> u64 {
     let given = (JUDGE.opening)(file, lent);
     if let (0, Ok(graph)) = (given, graph_file::read(file)) {
-        put_set(lent, &set(&graph));
+        put_set(&graph, lent, &set(&graph));
     }
     given
 }
@@ -411,8 +421,9 @@ const OPENINGS: [(&str, door::Fill); 6] = [
         opened_with(f, lent, |graph| graph.events.clone())
     }),
     ("room for three sets is enough", |f, lent| {
-        let mut whole = [0; MARKING];
-        if (JUDGE.opening)(f, lent) != 7 || lent.len() < MARKING - SET {
+        let form = Form::in_file(f);
+        let mut whole = vec![0; form.marking()];
+        if (JUDGE.opening)(f, lent) != 7 || lent.len() < 3 * form.set {
             return (JUDGE.opening)(f, lent);
         }
         let given = (JUDGE.opening)(f, &mut whole);
@@ -421,7 +432,7 @@ const OPENINGS: [(&str, door::Fill); 6] = [
         given
     }),
     ("7 before the file", |f, lent| {
-        if lent.len() < MARKING {
+        if lent.len() < Form::in_file(f).marking() {
             return 7;
         }
         (JUDGE.opening)(f, lent)
@@ -429,7 +440,7 @@ const OPENINGS: [(&str, door::Fill); 6] = [
     ("the rest is cleared", |f, lent| {
         let given = (JUDGE.opening)(f, lent);
         if given == 0 {
-            lent[MARKING..].fill(0);
+            lent[Form::in_file(f).marking()..].fill(0);
         }
         given
     }),
@@ -443,8 +454,9 @@ fn wrong_openings() {
             let sound = graphs::file(&graphs::value(&mut prng));
             let cut = sound[..sound.len() - 1].to_vec();
             [sound, cut].iter().any(|file| {
-                let other = prng.one_of(&graphs::OTHER_LENGTHS);
-                let room = prng.one_of(&[MARKING, other]);
+                let form = Form::in_file(file);
+                let other = prng.one_of(&graphs::other_lengths(form));
+                let room = prng.one_of(&[form.marking(), other]);
                 let (mut wanted, mut lent) = (vec![165; room], vec![165; room]);
                 let differs = (JUDGE.opening)(file, &mut wanted) != mutant(file, &mut lent);
                 differs || wanted != lent
@@ -466,7 +478,8 @@ fn way_out(file: &[u8], marking: &[u8]) -> u64 {
 fn believed(file: &[u8], marking: &[u8]) -> u64 {
     let graph = graph_file::read(file).expect("a sound file");
     let mut other = marking.to_vec();
-    put_set(&mut other, &enabled_events(&graph, &read_marking(marking)));
+    let set = enabled_events(&graph, &read_marking(&graph, marking));
+    put_set(&graph, &mut other, &set);
     way_out(file, &other)
 }
 
@@ -480,7 +493,7 @@ const WAYS: [(&str, WayOut); 4] = [
         given => given,
     }),
     ("a call that may end is not judged", |f, m| {
-        let marking = read_marking(m);
+        let marking = graph_file::read_marking(m, Form::in_file(f).set);
         match way_out(f, m) {
             16 if marking.pending.is_disjoint(&marking.included) => 0,
             given => given,
@@ -503,7 +516,9 @@ fn wrong_ways_out() {
             let mut prng = Prng::new(seed);
             (0..20).any(|_| {
                 let graph = half_done::small(&mut prng);
-                let marking = graphs::marking_bytes(&graphs::any_marking(&mut prng, &graph));
+                let graph = half_done::either_size(&mut prng, graph);
+                let marking = graphs::any_marking(&mut prng, &graph);
+                let marking = graphs::marking_bytes(&marking, Form::of(graph.a));
                 let file = graphs::file(&graph);
                 way_out(&file, &marking) != mutant(&file, &marking)
             })

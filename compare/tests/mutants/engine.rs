@@ -1,5 +1,6 @@
 //! Wrong versions of a step and of enabled.
 use super::{all_found, SEEDS};
+use compare::door::Form;
 use compare::judge::door::DOOR as JUDGE;
 use compare::judge::engine::{blocked, stepped};
 use compare::judge::graph::{graph_of, marking_of, Graph, Marking};
@@ -23,7 +24,7 @@ pub fn found(mutant: Execute) -> Option<u64> {
         let graph = graph_of(&value);
         for _ in 0..3 {
             let marking = marking_of(&graphs::marking(&mut prng, &value));
-            let e = graphs::activity(&mut prng, value.a);
+            let e = graphs::activity(&mut prng, &value);
             if right(&graph, &marking, e) != mutant(&graph, &marking, e) {
                 return Some(seed);
             }
@@ -191,11 +192,12 @@ fn found_in_the_number() {
         let mut prng = Prng::new(seed);
         let value = graphs::value(&mut prng);
         let file = graphs::file(&value);
-        let trace = graphs::trace(&mut prng, value.a);
+        let trace = graphs::trace(&mut prng, &value);
         let mut given = vec![(JUDGE.replay)(&file, &trace)];
         given.push((JUDGE.replay)(&file[..file.len() - 1], &trace));
-        let mut lent = graphs::marking_bytes(&graphs::marking(&mut prng, &value));
-        let activity = graphs::activity(&mut prng, value.a);
+        let marking = graphs::marking(&mut prng, &value);
+        let mut lent = graphs::marking_bytes(&marking, Form::of(value.a));
+        let activity = graphs::activity(&mut prng, &value);
         given.push((JUDGE.step)(&file, &mut lent, activity));
         given.iter().any(|&number| mutant(number) != number)
     };

@@ -1,5 +1,6 @@
 //! Readers that judge in another order than 01's, as changes to the judge's number.
 use super::{all_found, SEEDS};
+use compare::door::Form;
 use compare::judge::{graph_file, log, two_bytes};
 use compare::seeds::{damage, graphs, logs, Prng};
 
@@ -19,6 +20,7 @@ fn found_log(mutant: Number) -> Option<u64> {
         let mut prng = Prng::new(seed);
         for (_, _, make) in logs::KINDS {
             let sound = make(&mut prng);
+            let sound = logs::either_size(&mut prng, sound);
             let bytes = damage::log(&mut prng, &sound);
             count += 1;
             if log_number(&bytes) != mutant(&bytes) {
@@ -128,7 +130,7 @@ fn log_tail_passes(bytes: &[u8]) -> u8 {
 
 fn no_total(bytes: &[u8]) -> u8 {
     match log_number(bytes) {
-        3 if bytes[3] <= 64
+        3 if graph_file::judge_activities(bytes[2], bytes[3]).is_ok()
             && two_bytes(bytes, 4) <= 1024
             && entries(bytes).iter().all(|&(_, length)| length <= 512) =>
         {
@@ -139,25 +141,31 @@ fn no_total(bytes: &[u8]) -> u8 {
 }
 
 /// The rows of a graph file that came as far as its rows: relation, key, set.
-fn rows(bytes: &[u8]) -> Vec<(usize, u8, u64)> {
+fn rows(bytes: &[u8]) -> Vec<(usize, u8, u128)> {
+    let form = Form::in_file(bytes);
     let mut all = Vec::new();
-    let mut at = 52;
+    let mut at = form.first_row();
     for relation in 0..4 {
-        for _ in 0..two_bytes(bytes, 38 + 4 * relation) {
-            all.push((relation, bytes[at], word(bytes, at + 1)));
-            at += 9;
+        for _ in 0..rows_of(bytes, relation) {
+            all.push((relation, bytes[at], graphs::set_at(bytes, at + 1, form)));
+            at += form.row();
         }
     }
     all
 }
 
-fn word(bytes: &[u8], at: usize) -> u64 {
-    u64::from_le_bytes(bytes[at..at + 8].try_into().expect("eight bytes"))
+/// An entry of the contents: its offset, its number of rows.
+fn offset_of(bytes: &[u8], relation: usize) -> usize {
+    two_bytes(bytes, 4 + 4 * Form::in_file(bytes).set + 4 * relation)
 }
 
-fn stray(bytes: &[u8], key: u8, set: u64) -> bool {
-    let events = word(bytes, 4);
-    key >= 64 || events >> key & 1 == 0 || set & !events != 0
+fn rows_of(bytes: &[u8], relation: usize) -> usize {
+    two_bytes(bytes, 6 + 4 * Form::in_file(bytes).set + 4 * relation)
+}
+
+fn stray(bytes: &[u8], key: u8, set: u128) -> bool {
+    let events = graphs::set_at(bytes, 4, Form::in_file(bytes));
+    key >= 128 || events >> key & 1 == 0 || set & !events != 0
 }
 
 fn fives_first(bytes: &[u8]) -> u8 {
@@ -174,19 +182,21 @@ fn fives_first(bytes: &[u8]) -> u8 {
 
 /// A file in which only rows can be at fault, told by emptying it of them.
 fn rows_reached(bytes: &[u8]) -> bool {
-    if bytes.len() < 52 || (0..4).any(|k| two_bytes(bytes, 38 + 4 * k) > 64) {
+    let form = Form::in_file(bytes);
+    let first = form.first_row();
+    if bytes.len() < first || (0..4).any(|k| rows_of(bytes, k) > form.activities()) {
         return false;
     }
-    let count: usize = (0..4).map(|k| two_bytes(bytes, 38 + 4 * k)).sum();
-    let mut head = bytes[..52].to_vec();
-    head[36..].fill(0);
+    let count: usize = (0..4).map(|k| rows_of(bytes, k)).sum();
+    let mut head = bytes[..first].to_vec();
+    head[first - 16..].fill(0);
     let offsets = (0..4).scan(0, |earlier, k| {
-        let sound = two_bytes(bytes, 36 + 4 * k) == 9 * *earlier;
-        *earlier += two_bytes(bytes, 38 + 4 * k);
+        let sound = offset_of(bytes, k) == form.row() * *earlier;
+        *earlier += rows_of(bytes, k);
         Some(sound)
     });
     offsets.into_iter().all(|sound| sound)
-        && bytes.len() == 52 + 9 * count
+        && bytes.len() == first + form.row() * count
         && graph_number(&head) == 0
 }
 
@@ -226,11 +236,12 @@ fn equal_keys_pass(bytes: &[u8]) -> u8 {
 
 fn end_first(bytes: &[u8]) -> u8 {
     let number = graph_number(bytes);
-    if number != 3 || bytes[3] > 64 {
+    if number != 3 || graph_file::judge_activities(bytes[2], bytes[3]).is_err() {
         return number;
     }
-    let count: usize = (0..4).map(|k| two_bytes(bytes, 38 + 4 * k)).sum();
-    if bytes.len() < 52 + 9 * count {
+    let form = Form::in_file(bytes);
+    let count: usize = (0..4).map(|k| rows_of(bytes, k)).sum();
+    if bytes.len() < form.first_row() + form.row() * count {
         1
     } else {
         number

@@ -10,6 +10,7 @@ mod marks;
 mod mining;
 mod months;
 mod plain;
+mod wide;
 mod wrong_steps;
 
 /// How many seeds a mutant may survive.

@@ -27,6 +27,7 @@ fn each_log(mut look: impl FnMut(&[u8], &Facts) -> bool) -> Option<u64> {
             for _ in 0..of_a_kind {
                 count += 1;
                 let bytes = make(&mut prng);
+                let bytes = logs::either_size(&mut prng, bytes);
                 let log = log::read(&bytes).expect("sound kinds");
                 if look(&bytes, &gather(&log)) {
                     return Some(count);

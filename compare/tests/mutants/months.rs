@@ -2,7 +2,7 @@
 use super::wrong_steps::step7_of_01;
 use super::{all_found, SEEDS};
 use compare::door::TALLY_ROOM;
-use compare::judge::facts::{gather, gather_asking, nothing_seen};
+use compare::judge::facts::{gather_asking, nothing_seen};
 use compare::judge::log::{read, Log};
 use compare::judge::miner::{relations_by, Profile};
 use compare::judge::months::{bytes, facts_in, facts_of, filled, first_eight, joined, relations};
@@ -58,7 +58,7 @@ fn reading(relations: fn(&[u8], Profile) -> Relations) -> Months {
 /// What stands between two activities by another test of the places of u, v and s in a trace.
 fn between(log: &Log, counts: fn(&[u8], usize, usize, usize) -> bool) -> Vec<u8> {
     let mut facts = facts_of(&log.traces);
-    facts.between = nothing_seen().between;
+    facts.between = nothing_seen(64).between;
     for trace in &log.traces {
         for to in 0..trace.len() {
             for v in 0..to {
@@ -85,11 +85,14 @@ fn told_by_relations() -> Vec<(&'static str, Months)> {
     vec![
         (
             "absence limited to the month's A",
-            filling(|log| bytes(log.a, &gather_asking(&log.traces, (0..log.a).collect()))),
+            filling(|log| bytes(log.a, &gather_asking(&log.traces, (0..log.a).collect(), 64))),
         ),
         (
             "absence limited to the month's events",
-            filling(|log| bytes(log.a, &gather(log))),
+            filling(|log| {
+                let events = log.traces.iter().flatten().copied().collect();
+                bytes(log.a, &gather_asking(&log.traces, events, 64))
+            }),
         ),
         (
             "what stands between, from the nearest u",

@@ -2,10 +2,11 @@
 //! judge another graph than they were handed.
 use super::engine::{right, Execute, MUTANTS};
 use super::{all_found, SEEDS};
-use compare::door::{self, Door, HEAD, HEAD_MARKING, MARKING, MOST_PAIRS, SET};
+use compare::door::{self, Door, MOST_PAIRS};
 use compare::judge::door::DOOR as JUDGE;
 use compare::judge::graph_file::read_marking;
 use compare::judge::plain::read;
+use compare::seeds::plain::form_of;
 use compare::seeds::{graphs, plain, Prng};
 use compare::value::PlainGraph;
 use std::collections::BTreeSet;
@@ -30,10 +31,10 @@ pub fn graphs_of(seed: u64) -> Vec<PlainGraph> {
 
 /// A step and a verdict at markings, and a replay, as the comparison makes them.
 fn told_apart(prng: &mut Prng, graph: &PlainGraph, mutant: Reading) -> bool {
-    let a = graph.head.first().copied().unwrap_or(0);
+    let steps = graphs::Steps::from(&plain::value_in(graph));
     for _ in 0..3 {
         let marking = plain::marking(prng, graph);
-        let activity = graphs::activity(prng, a);
+        let activity = graphs::activity(prng, steps);
         let mut lent = [marking.clone(), marking.clone()];
         let wanted = (JUDGE.plain_step)(graph, &mut lent[0], activity);
         let given = match mutant(graph) {
@@ -44,7 +45,7 @@ fn told_apart(prng: &mut Prng, graph: &PlainGraph, mutant: Reading) -> bool {
             return true;
         }
     }
-    let trace = graphs::trace(prng, a);
+    let trace = graphs::trace(prng, steps);
     let given = match mutant(graph) {
         Ok(other) => (JUDGE.plain_replay)(&other, &trace),
         Err(number) => door::replayed(number, 0, false),
@@ -64,7 +65,7 @@ fn found(mutant: Reading) -> Option<u64> {
     None
 }
 
-const READINGS: [(&str, Reading); 22] = [
+const READINGS: [(&str, Reading); 26] = [
     ("a pair listed twice is none", |g| lists(g, odd)),
     ("only the first pair of a source", |g| {
         lists(g, first_of_source)
@@ -91,6 +92,23 @@ const READINGS: [(&str, Reading); 22] = [
     ("source modulo 64", |g| {
         lists(g, |l| l.iter().map(|p| p & 0x3FFF).collect())
     }),
+    ("target modulo 128", |g| {
+        lists(g, |l| l.iter().map(|p| p & 0xFF7F).collect())
+    }),
+    ("source modulo 128", |g| {
+        lists(g, |l| l.iter().map(|p| p & 0x7FFF).collect())
+    }),
+    ("limit 4,096 as before", |g| limited(g, 4096)),
+    ("limit 4,096 up to 64 activities", |g| {
+        limited(
+            g,
+            if form_of(g).set == 8 {
+                4096
+            } else {
+                MOST_PAIRS
+            },
+        )
+    }),
     ("target not judged", |g| {
         judged_without(g, |events, [_, source]| holds(events, source))
     }),
@@ -99,8 +117,8 @@ const READINGS: [(&str, Reading); 22] = [
     }),
     ("pairs not judged", |g| judged_without(g, |_, _| true)),
     ("5 before 3", five_first),
-    ("limit 4,095", |g| limited(g, MOST_PAIRS - 1)),
-    ("limit 4,097", |g| limited(g, MOST_PAIRS + 1)),
+    ("limit 16,383", |g| limited(g, MOST_PAIRS - 1)),
+    ("limit 16,385", |g| limited(g, MOST_PAIRS + 1)),
     ("no limit", |g| limited(g, usize::MAX)),
     ("limit on different pairs", |g| lists(g, once_each)),
     ("limit on conditions alone", |g| limit_on(g, 0)),
@@ -138,8 +156,8 @@ const LIMITS: [(&str, Reading); 8] = [
     ("limit on responses alone", |g| limit_on(g, 1)),
     ("limit on includes alone", |g| limit_on(g, 2)),
     ("limit on excludes alone", |g| limit_on(g, 3)),
-    ("limit 4,095", |g| limited(g, MOST_PAIRS - 1)),
-    ("limit 4,097", |g| limited(g, MOST_PAIRS + 1)),
+    ("limit 16,383", |g| limited(g, MOST_PAIRS - 1)),
+    ("limit 16,385", |g| limited(g, MOST_PAIRS + 1)),
     ("5 before 3", five_first),
     ("a head a byte short is enough", short_head),
 ];
@@ -163,7 +181,7 @@ fn found_by_the_borders() {
 }
 
 fn number_of(graph: &PlainGraph) -> u64 {
-    (JUDGE.plain_accepting)(graph, &[0; MARKING]) % 256
+    (JUDGE.plain_accepting)(graph, &vec![0; form_of(graph).marking()]) % 256
 }
 
 fn lists(graph: &PlainGraph, change: fn(&[u16]) -> Vec<u16>) -> Result<PlainGraph, u8> {
@@ -211,21 +229,21 @@ fn rising_part(list: &[u16]) -> Vec<u16> {
     list[..fall.map_or(list.len(), |place| place + 1)].to_vec()
 }
 
-fn events_of(graph: &PlainGraph) -> u64 {
+fn events_of(graph: &PlainGraph) -> u128 {
     plain::value_in(graph).events
 }
 
-fn holds(events: u64, activity: u8) -> bool {
-    activity < 64 && events >> activity & 1 == 1
+fn holds(events: u128, activity: u8) -> bool {
+    activity < 128 && events >> activity & 1 == 1
 }
 
-fn within(events: u64, pair: u16) -> bool {
+fn within(events: u128, pair: u16) -> bool {
     let [target, source] = pair.to_le_bytes();
     holds(events, source) && holds(events, target)
 }
 
 /// A pair outside the events that passes has no effect.
-fn judged_without(graph: &PlainGraph, passes: fn(u64, [u8; 2]) -> bool) -> Result<PlainGraph, u8> {
+fn judged_without(graph: &PlainGraph, passes: fn(u128, [u8; 2]) -> bool) -> Result<PlainGraph, u8> {
     let events = events_of(graph);
     let mut other = graph.clone();
     if other.lists.iter().all(|list| list.len() <= MOST_PAIRS) {
@@ -239,14 +257,15 @@ fn judged_without(graph: &PlainGraph, passes: fn(u64, [u8; 2]) -> bool) -> Resul
 fn five_first(graph: &PlainGraph) -> Result<PlainGraph, u8> {
     let events = events_of(graph);
     let stray = |list: &Vec<u16>| list.iter().any(|&pair| !within(events, pair));
-    if graph.head.len() >= HEAD && graph.lists.iter().any(stray) {
+    if graph.head.len() >= form_of(graph).head() && graph.lists.iter().any(stray) {
         return Err(5);
     }
     Ok(graph.clone())
 }
 
 fn limited(graph: &PlainGraph, limit: usize) -> Result<PlainGraph, u8> {
-    if graph.head.len() >= HEAD && graph.lists.iter().any(|list| list.len() > limit) {
+    let whole = graph.head.len() >= form_of(graph).head();
+    if whole && graph.lists.iter().any(|list| list.len() > limit) {
         return Err(3);
     }
     lists(graph, once_each)
@@ -262,9 +281,10 @@ fn limit_on(graph: &PlainGraph, kind: usize) -> Result<PlainGraph, u8> {
 /// What is outside the events is not marked.
 fn opening_passes(graph: &PlainGraph) -> Result<PlainGraph, u8> {
     let mut other = graph.clone();
-    if other.head.len() >= HEAD {
-        for place in HEAD_MARKING..HEAD - SET {
-            other.head[place] &= graph.head[1 + (place - 1) % SET];
+    let form = form_of(graph);
+    if other.head.len() >= form.head() {
+        for place in form.head_marking()..form.head() - form.set {
+            other.head[place] &= graph.head[1 + (place - 1) % form.set];
         }
     }
     Ok(other)
@@ -272,7 +292,7 @@ fn opening_passes(graph: &PlainGraph) -> Result<PlainGraph, u8> {
 
 fn short_head(graph: &PlainGraph) -> Result<PlainGraph, u8> {
     let mut other = graph.clone();
-    if other.head.len() == HEAD - 1 {
+    if other.head.len() == form_of(graph).head() - 1 {
         other.head.push(0);
     }
     Ok(other)
@@ -283,17 +303,17 @@ pub fn found_step(mutant: Execute) -> Option<u64> {
     for seed in 0..SEEDS {
         let mut prng = Prng::new(seed + SEEDS);
         for graph in graphs_of(seed) {
-            let a = graph.head.first().copied().unwrap_or(0);
+            let steps = graphs::Steps::from(&plain::value_in(&graph));
             let Ok(judged) = read(&graph, 0) else {
                 continue;
             };
             for _ in 0..3 {
                 let bytes = plain::marking(&mut prng, &graph);
-                let activity = graphs::activity(&mut prng, a);
+                let activity = graphs::activity(&mut prng, steps);
                 if (JUDGE.plain_accepting)(&graph, &bytes) % 256 != 0 {
                     continue;
                 }
-                let m = read_marking(&bytes);
+                let m = read_marking(&bytes, form_of(&graph).set);
                 if right(&judged, &m, activity) != mutant(&judged, &m, activity) {
                     return Some(seed);
                 }
@@ -316,13 +336,13 @@ fn found_by_steps_on_lists() {
 type Accepting = fn(&PlainGraph, &[u8]) -> u64;
 
 /// number + 2^32 where the pending and included sets that were picked have nothing in common.
-fn accepting_by(graph: &PlainGraph, bytes: &[u8], open: fn(u64, u64, u64) -> bool) -> u64 {
+fn accepting_by(graph: &PlainGraph, bytes: &[u8], open: fn(u128, u128, u128) -> bool) -> u64 {
     let number = (JUDGE.plain_accepting)(graph, bytes) % 256;
-    let word = |at: usize| u64::from_le_bytes(bytes[at..at + 8].try_into().expect("eight bytes"));
-    if number != 0 || open(word(0), word(8), word(16)) {
+    if number != 0 {
         return number;
     }
-    1 << 32
+    let m = plain::marking_at(bytes, 0, form_of(graph));
+    u64::from(!open(m.executed, m.pending, m.included)) << 32
 }
 
 const VERDICTS: [(&str, Accepting); 5] = [
@@ -337,7 +357,7 @@ const VERDICTS: [(&str, Accepting); 5] = [
     ("always", |g, m| accepting_by(g, m, |_, _, _| false)),
     ("the marking's 7 before the graph's 5", |g, m| {
         let number = (JUDGE.plain_accepting)(g, m);
-        if number == 5 && m.len() < MARKING {
+        if number == 5 && m.len() < form_of(g).marking() {
             7
         } else {
             number

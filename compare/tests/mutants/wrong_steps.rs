@@ -4,7 +4,7 @@ use compare::judge::steps::{held_up, makes_redundant, pairs_of, reduced, smalles
 use compare::judge::{Pairs, Relations, Set};
 
 pub fn responses_of_first(facts: &Facts, stood: &Relations) -> Relations {
-    let mut lacks = Table::empty();
+    let mut lacks = Table::below(facts.below);
     for trace in &facts.traces {
         for &s in &facts.events {
             let Some(first) = trace.iter().position(|&e| e == s) else {
@@ -26,7 +26,7 @@ pub fn responses_of_first(facts: &Facts, stood: &Relations) -> Relations {
 }
 
 pub fn chain_but_for_starts(facts: &Facts, stood: &Relations) -> Relations {
-    let mut lacks = Table::empty();
+    let mut lacks = Table::below(facts.below);
     for pair in facts.traces.iter().flat_map(|trace| trace.windows(2)) {
         for &s in facts.events.iter().filter(|&&s| s != pair[0]) {
             lacks.insert((s, pair[1]));
@@ -335,7 +335,7 @@ fn conditions_added(facts: &Facts, stood: &Relations, test: impl Fn(u8, u8) -> b
 /// Where s follows t, something before that t must exclude s; where none follows, all is
 /// well. That is how 01 says line 33 is not to be read.
 pub fn step9_implication(facts: &Facts, stood: &Relations) -> Relations {
-    let mut breaks = Table::empty();
+    let mut breaks = Table::below(facts.below);
     for trace in &facts.traces {
         for (j, &t) in trace.iter().enumerate() {
             for &s in &trace[j + 1..] {
@@ -377,7 +377,7 @@ pub fn step9_any_t(facts: &Facts, stood: &Relations) -> Relations {
 }
 
 pub fn step9_own_effects(facts: &Facts, stood: &Relations) -> Relations {
-    let mut held = Table::empty();
+    let mut held = Table::below(facts.below);
     for trace in &facts.traces {
         let mut included = facts.events.clone();
         for (place, &t) in trace.iter().enumerate() {

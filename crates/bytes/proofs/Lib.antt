@@ -5,3 +5,4 @@ pub mod Rooms
 pub mod NumberLaws
 pub mod SetLaws
 pub mod Opens
+pub mod Editions

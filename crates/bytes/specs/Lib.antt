@@ -1,3 +1,4 @@
 pub mod Numbers
 pub mod Opens
 pub mod Sets
+pub mod Editions

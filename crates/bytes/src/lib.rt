@@ -1,4 +1,5 @@
-// What the files of this house share: what a file opens with, numbers and sets as bytes (01, "Sizes").
+// What the files of this house share: what a file opens with, editions, numbers and sets as bytes (01, "Sizes").
+pub mod edition;
 pub mod number;
 pub mod opening;
 pub mod room;

@@ -10,8 +10,9 @@ use lib.Dec.{ltb, ltb→lt, lt→ltb}
 use lib.ListN.{length, drop}
 use Rattle.sets.specs.declared.answer.Answer.the-variants.{Done, TooShort, WrongLetters, AboveLimit, WrongOffset, Outside}
 use Rattle.sets.proofs.Tests.{non-false, split, either, T→true}
-use Rattle.bytes.specs.Opens.{opensWith}
-use Rattle.calllog.specs.Layout.{mark, headSize, longestLog, activitiesIn, tracesIn, offsetAt, lengthAt, bodiesStart, eventsBefore}
+use Rattle.bytes.specs.Editions.{editionFor, editionIn, opensFile, beyond}
+use Rattle.bytes.proofs.Editions.{within-limit, within-both}
+use Rattle.calllog.specs.Layout.{letters, headSize, longestLog, activitiesIn, tracesIn, offsetAt, lengthAt, bodiesStart, eventsBefore}
 use Rattle.sets.specs.Sizes.{mostActivities, mostTraces, longestTrace, mostEvents}
 use Rattle.sets.specs.Answers.{isDone, firstRefusal}
 use Rattle.sets.specs.declared.answer.Answer.{Answer}
@@ -23,8 +24,9 @@ use Rattle.calllog.proofs.Contents.{entry-good}
 
 pub record Accepted (bytes : List ℕ) : Type 0 where
   pub long : headSize ≤ length bytes
-  pub named : opensWith mark bytes ≡ true
+  pub named : opensFile letters bytes ≡ true
   pub activities : activitiesIn bytes ≤ mostActivities
+  pub edition : editionIn bytes ≡ editionFor (activitiesIn bytes)
   pub traces : tracesIn bytes ≤ mostTraces
   pub lengths : (k : ℕ) → k < tracesIn bytes → lengthAt bytes k ≤ longestTrace
   pub totals : (k : ℕ) → k < tracesIn bytes → eventsBefore bytes k + lengthAt bytes k ≤ mostEvents
@@ -34,7 +36,7 @@ pub record Accepted (bytes : List ℕ) : Type 0 where
 
 module _ (bytes : List ℕ) where
   pub head-good : judgedHead bytes ≡ Done
-      → (headSize ≤ length bytes) × (opensWith mark bytes ≡ true) × (activitiesIn bytes ≤ mostActivities) × (tracesIn bytes ≤ mostTraces) × (bodiesStart bytes ≤ length bytes)
+      → (headSize ≤ length bytes) × (opensFile letters bytes ≡ true) × (beyond (editionIn bytes) (activitiesIn bytes) ≡ false) × (tracesIn bytes ≤ mostTraces) × (bodiesStart bytes ≤ length bytes)
   unfolding judgedHead
   head-good d =
       let p = went _ TooShort _ refl d in
@@ -44,7 +46,7 @@ module _ (bytes : List ℕ) where
       let c = went _ TooShort _ refl (s .1) in (
         ltb-false (length bytes) headSize (p .0),
         T→true _ (non-false _ (q .0)),
-        ltb-false mostActivities (activitiesIn bytes) (r .0),
+        r .0,
         ltb-false mostTraces (tracesIn bytes) (s .0),
         ltb-false (length bytes) (bodiesStart bytes) (c .0),
       )
@@ -75,7 +77,8 @@ module _ (bytes : List ℕ) where
       record {
         long = h .0;
         named = h .1;
-        activities = h .2;
+        activities = within-limit (editionIn bytes) (activitiesIn bytes) (h .2) .0;
+        edition = within-limit (editionIn bytes) (activitiesIn bytes) (h .2) .1;
         traces = h .3;
         lengths = λ k l. entry-good _ _ _ (e k l) .0;
         totals = λ k l. entry-good _ _ _ (e k l) .1;
@@ -89,7 +92,7 @@ module _ (bytes : List ℕ) where
   accepts a =
       let w = a .whole in
       let head : judgedHead bytes ≡ Done =
-      sym (head-done bytes _ refl (a .long) _ refl (λ i. not (a .named i)) _ refl (a .activities) _ refl (a .traces) (omega arith)) in
+      sym (head-done bytes _ refl (a .long) _ _ refl refl _ refl (λ i. not (a .named i)) _ refl (within-both _ _ (a .activities) (a .edition)) _ refl (a .traces) (omega arith)) in
       ask-on _ _ head
       ∙ ask-on _ _
       (no-refusal (entryOf bytes) (tracesIn bytes) (λ k l. sym (entry-done _ _ _ (a .lengths k l) (a .totals k l) (a .offsets k l))))

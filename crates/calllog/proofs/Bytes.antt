@@ -1,11 +1,14 @@
 -- A log that is written by the rules is a list of bytes. Assumes nothing.
 use mathlib.Core.Path.{_≡_}
-use mathlib.Core.Bool.{true}
+use mathlib.Core.Bool.{Bool, true, false}
 use mathlib.Core.List.{List, [], _∷_}
 use Prim.Native.Nat.{ℕ, _+_, _/_, _%_, _≤_, _<_}
 use native.Mathlib.Omega.{arith}
 use lib.Dec.{T, ltb, ltb→lt, lt→ltb}
 use lib.ListN.{length, length-append}
+use Rattle.sets.specs.Tests.{when_then_else_}
+use Rattle.sets.specs.Members.{word}
+use Rattle.bytes.specs.Editions.{narrowEdition, wideEdition, editionFor}
 use Rattle.sets.proofs.Tests.{and-l, and-r, and-i, T→true, true→T}
 use Rattle.calllog.specs.Judged.{allBelow}
 use Rattle.calllog.specs.Written.{entriesOf, endToEnd, logBytes, WithinLimits}
@@ -36,6 +39,14 @@ entries-bytes earlier (t ∷ ts) l =
     let e = length-append t (endToEnd ts) in
     two-more earlier _ (omega arith) (two-more (length t) _ (omega arith) (entries-bytes (earlier + length t) ts (omega arith)))
 
+edition-small : (a : ℕ) → editionFor a < 256
+unfolding editionFor
+edition-small a = by (ltb word a)
+  where
+    by : (t : Bool) → (when t then wideEdition else narrowEdition) < 256
+    by true = omega arith
+    by false = omega arith
+
 pub written-bytes : (a : ℕ) (ts : List (List ℕ)) → WithinLimits a ts → allBelow 256 (logBytes a ts) ≡ true
 unfolding logBytes
 written-bytes a ts w =
@@ -44,6 +55,6 @@ written-bytes a ts w =
     T→true _
     (one-more 256 66 _ (omega arith)
     (one-more 256 76 _ (omega arith)
-    (one-more 256 1 _ (omega arith)
+    (one-more 256 (editionFor a) _ (edition-small a)
     (one-more 256 a _ (omega (arith, w .activities))
     (two-more (length ts) _ (omega (arith, w .number)) (below-join 256 (entriesOf 0 ts) (endToEnd ts) contents bodies))))))

@@ -9,15 +9,16 @@ use borrow.Author.Tests.{le-ltb, ltb-false}
 use lib.Dec.{eqb, ltb}
 use lib.ListN.{length, take}
 use lib.Seq.{getD-take, length-take-le}
-use Rattle.sets.specs.Tests.{_and_, non, when_then_else_}
+use Rattle.sets.specs.Tests.{_and_, _or_, non, when_then_else_}
 use Rattle.sets.specs.Answers.{isDone, thenAsk, firstRefusal}
 use Rattle.sets.specs.declared.answer.Answer.{Answer}
 use Rattle.sets.specs.declared.answer.Answer.the-variants.{Done, TooShort, WrongLetters, AboveLimit}
 use Rattle.bytes.specs.Numbers.{numberAt}
 use Rattle.bytes.specs.Opens.{opensWith}
 use Rattle.bytes.proofs.NumberLaws.{two-bytes}
-use Rattle.calllog.specs.Layout.{mark, headSize, longestLog, activitiesIn, tracesIn, offsetAt, lengthAt, bodiesStart, eventsBefore}
-use Rattle.sets.specs.Sizes.{mostActivities, mostTraces}
+use Rattle.bytes.specs.Editions.{narrowEdition, wideEdition, editionIn, opensFile, beyond}
+use Rattle.calllog.specs.Layout.{letters, headSize, longestLog, activitiesIn, tracesIn, offsetAt, lengthAt, bodiesStart, eventsBefore}
+use Rattle.sets.specs.Sizes.{mostTraces}
 use Rattle.calllog.specs.Judged.{judgedHead, judgedEntry, entryOf, judgedBodies, judgedContents, judgedLog}
 use Rattle.sets.proofs.Order.{none-refuses, refusals-same}
 use Rattle.sets.proofs.Asking.{done-is, ask-stop}
@@ -43,7 +44,7 @@ tests o a t s =
 
 head-tests : (bytes : List ℕ) → headSize ≤ length bytes
     → judgedHead bytes
-    ≡ tests (opensWith mark bytes) (ltb mostActivities (activitiesIn bytes)) (ltb mostTraces (tracesIn bytes)) (ltb (length bytes) (bodiesStart bytes))
+    ≡ tests (opensFile letters bytes) (beyond (editionIn bytes) (activitiesIn bytes)) (ltb mostTraces (tracesIn bytes)) (ltb (length bytes) (bodiesStart bytes))
 unfolding judgedHead tests
 head-tests bytes l = rw (le-ltb (length bytes) headSize l)
 
@@ -64,6 +65,15 @@ module _ (bytes : List ℕ) (long : longestLog < length bytes) where
   unfolding activitiesIn
   activities-same = getD-take (longestLog + 1) bytes 3 0 (omega arith)
 
+  edition-same : editionIn first ≡ editionIn bytes
+  edition-same = getD-take (longestLog + 1) bytes 2 0 (omega arith)
+
+  file-same : opensFile letters first ≡ opensFile letters bytes
+  unfolding opensFile
+  file-same =
+      λ i.
+      opens-same letters bytes (longestLog + 1) (omega arith) i and (eqb (edition-same i) narrowEdition or eqb (edition-same i) wideEdition)
+
   traces-same : tracesIn first ≡ tracesIn bytes
   unfolding tracesIn
   traces-same = number-same 4 (omega arith)
@@ -79,19 +89,19 @@ module _ (bytes : List ℕ) (long : longestLog < length bytes) where
       let f = ltb (length first) (bodiesStart first) in
       let b = ltb (length bytes) (bodiesStart bytes) in
       head-tests first (omega arith)
-      ∙ (λ i. tests (opens-same mark bytes (longestLog + 1) (omega arith) i) (ltb mostActivities (activities-same i)) (ltb mostTraces (traces-same i)) f)
+      ∙ (λ i. tests (file-same i) (beyond (edition-same i) (activities-same i)) (ltb mostTraces (traces-same i)) f)
       ∙ go (ltb mostTraces (tracesIn bytes)) refl
       ∙ sym (head-tests bytes (omega arith))
     where
       go : (t : Bool) → ltb mostTraces (tracesIn bytes) ≡ t
-          → tests (opensWith mark bytes) (ltb mostActivities (activitiesIn bytes)) t (ltb (length first) (bodiesStart first))
-          ≡ tests (opensWith mark bytes) (ltb mostActivities (activitiesIn bytes)) t (ltb (length bytes) (bodiesStart bytes))
+          → tests (opensFile letters bytes) (beyond (editionIn bytes) (activitiesIn bytes)) t (ltb (length first) (bodiesStart first))
+          ≡ tests (opensFile letters bytes) (beyond (editionIn bytes) (activitiesIn bytes)) t (ltb (length bytes) (bodiesStart bytes))
       go true e = refl
       go false e =
           let l = ltb-false mostTraces (tracesIn bytes) e in
           let n = first-length in
           let m = traces-same in
-          ap (tests (opensWith mark bytes) (ltb mostActivities (activitiesIn bytes)) false)
+          ap (tests (opensFile letters bytes) (beyond (editionIn bytes) (activitiesIn bytes)) false)
           (le-ltb (length first) (bodiesStart first) (omega arith) ∙ sym (le-ltb (length bytes) (bodiesStart bytes) (omega arith)))
 
   -- ---- the entries, where there are no more than there may be

@@ -1,5 +1,5 @@
 -- The judgement of a log, test by test, as the code meets the tests. Assumes nothing.
-use mathlib.Core.Path.{_≡_}
+use mathlib.Core.Path.{_≡_, sym, _∙_}
 use mathlib.Core.Bool.{Bool, true, false, not}
 use mathlib.Core.List.{List}
 use Prim.Native.Nat.{ℕ, _+_, _≤_, _<_}
@@ -7,9 +7,9 @@ use borrow.Author.Tests.{lt-ltb, le-ltb, eq-eqb, ne-eqb, not-true, not-false}
 use lib.ListN.{length, drop}
 use Rattle.sets.specs.Tests.{non}
 use Rattle.sets.specs.declared.answer.Answer.the-variants.{Done, TooShort, WrongLetters, AboveLimit, WrongOffset, Outside}
-use Rattle.bytes.specs.Opens.{opensWith}
-use Rattle.calllog.specs.Layout.{mark, headSize, activitiesIn, tracesIn, bodiesStart}
-use Rattle.sets.specs.Sizes.{mostActivities, mostTraces, longestTrace, mostEvents}
+use Rattle.bytes.specs.Editions.{editionIn, opensFile, beyond}
+use Rattle.calllog.specs.Layout.{letters, headSize, activitiesIn, tracesIn, bodiesStart}
+use Rattle.sets.specs.Sizes.{mostTraces, longestTrace, mostEvents}
 use Rattle.calllog.specs.Judged.{allBelow, judgedHead, judgedEntry, judgedBodies}
 
 -- ---- the head. o, a, t and s are what the code has read
@@ -19,20 +19,23 @@ module _ (bytes : List ℕ) where
   unfolding judgedHead
   head-short h = rw (lt-ltb (length bytes) headSize h)
 
-  module _ (o : Bool) (eo : o ≡ opensWith mark bytes) (h : headSize ≤ length bytes) where
+  module _ (o : Bool) (eo : o ≡ opensFile letters bytes) (h : headSize ≤ length bytes) where
     pub head-letters : not o ≡ true → WrongLetters ≡ judgedHead bytes
     unfolding judgedHead non
     head-letters f = rw (le-ltb (length bytes) headSize h, ← eo, not-true o f)
 
-    module _ (a : ℕ) (ea : a ≡ activitiesIn bytes) (yes : not o ≡ false) where
-      pub head-activities : mostActivities < a → AboveLimit ≡ judgedHead bytes
-      unfolding judgedHead non
-      head-activities l = rw (le-ltb (length bytes) headSize h, ← eo, not-false o yes, ← ea, lt-ltb mostActivities a l)
+    module _ (e a : ℕ) (ee : e ≡ editionIn bytes) (ea : a ≡ activitiesIn bytes) (b : Bool) (eb : b ≡ beyond e a) (yes : not o ≡ false) where
+      is-beyond : beyond (editionIn bytes) (activitiesIn bytes) ≡ b
+      is-beyond = (λ i. beyond (sym ee i) (sym ea i)) ∙ sym eb
 
-      module _ (t : ℕ) (et : t ≡ tracesIn bytes) (few : a ≤ mostActivities) where
+      pub head-activities : b ≡ true → AboveLimit ≡ judgedHead bytes
+      unfolding judgedHead non
+      head-activities l = rw (le-ltb (length bytes) headSize h, ← eo, not-false o yes, is-beyond, l)
+
+      module _ (t : ℕ) (et : t ≡ tracesIn bytes) (few : b ≡ false) where
         pub head-traces : mostTraces < t → AboveLimit ≡ judgedHead bytes
         unfolding judgedHead non
-        head-traces l = rw (le-ltb (length bytes) headSize h, ← eo, not-false o yes, ← ea, le-ltb mostActivities a few, ← et, lt-ltb mostTraces t l)
+        head-traces l = rw (le-ltb (length bytes) headSize h, ← eo, not-false o yes, is-beyond, few, ← et, lt-ltb mostTraces t l)
 
         module _ (s : ℕ) (es : s ≡ bodiesStart bytes) (low : t ≤ mostTraces) where
           pub head-cut : length bytes < s → TooShort ≡ judgedHead bytes
@@ -42,8 +45,8 @@ module _ (bytes : List ℕ) where
                 le-ltb (length bytes) headSize h,
                 ← eo,
                 not-false o yes,
-                ← ea,
-                le-ltb mostActivities a few,
+                is-beyond,
+                few,
                 ← et,
                 le-ltb mostTraces t low,
                 ← es,
@@ -57,8 +60,8 @@ module _ (bytes : List ℕ) where
                 le-ltb (length bytes) headSize h,
                 ← eo,
                 not-false o yes,
-                ← ea,
-                le-ltb mostActivities a few,
+                is-beyond,
+                few,
                 ← et,
                 le-ltb mostTraces t low,
                 ← es,

@@ -1,18 +1,21 @@
 -- A log written by the rules from A and traces within the limits is accepted, and gives that A and those traces. Assumes nothing.
 use mathlib.Core.Path.{_≡_, refl, sym, ap, ap₂, _∙_}
-use mathlib.Core.Bool.{true}
+use mathlib.Core.Bool.{Bool, true, false}
 use mathlib.Core.List.{List, [], _∷_, _++_, append-nil}
 use Prim.Native.Nat.{ℕ, zero, suc, _+_, _*_, _/_, _%_, _≤_, _<_}
 use native.Mathlib.Nat.{not-suc-le-zero, le-of-suc-le-suc, add-zero, zero-add, add-assoc, le-refl}
 use native.Mathlib.Omega.{arith}
 use lib.ListN.{length, getD, take, drop, length-append, take-append-drop}
 use lib.Seq.{take-suc, take-length, drop-drop, drop-at, getD-append-add, ext-getD}
-use Rattle.sets.specs.Tests.{_and_}
+use lib.Dec.{eqb, ltb}
+use Rattle.sets.specs.Tests.{_and_, _or_, when_then_else_}
+use Rattle.sets.specs.Members.{word}
 use Rattle.sets.specs.declared.answer.Answer.the-variants.{Done}
 use Rattle.bytes.specs.Numbers.{numberAt}
 use Rattle.bytes.specs.Opens.{opensWith}
 use Rattle.bytes.proofs.NumberLaws.{two-bytes}
-use Rattle.calllog.specs.Layout.{mark, headSize, entrySize, activitiesIn, tracesIn, offsetAt, lengthAt, bodiesStart, eventsBefore}
+use Rattle.bytes.specs.Editions.{narrowEdition, wideEdition, editionFor, editionIn, opensFile}
+use Rattle.calllog.specs.Layout.{letters, headSize, entrySize, activitiesIn, tracesIn, offsetAt, lengthAt, bodiesStart, eventsBefore}
 use Rattle.calllog.specs.Judged.{judgedLog, allBelow}
 use Rattle.calllog.specs.Logs.{Log, traceAt, tracesFrom, logOf}
 use Rattle.calllog.specs.Written.{twoBytes, entriesOf, endToEnd, logBytes, WithinLimits}
@@ -86,13 +89,21 @@ module _ (a : ℕ) (ts : List (List ℕ)) where
   unfolding tracesIn logBytes
   says-traces = two-bytes (logBytes a ts) 4 ∙ two-back (length ts)
 
-  says-named : opensWith mark (logBytes a ts) ≡ true
-  unfolding opensWith _and_ logBytes
-  says-named = refl
+  says-edition : editionIn (logBytes a ts) ≡ editionFor a
+  unfolding logBytes
+  says-edition = refl
+
+  says-named : opensFile letters (logBytes a ts) ≡ true
+  unfolding opensWith _and_ _or_ logBytes opensFile editionFor
+  says-named = one-of (ltb word a)
+    where
+      one-of : (t : Bool) → (eqb (when t then wideEdition else narrowEdition) narrowEdition or eqb (when t then wideEdition else narrowEdition) wideEdition) ≡ true
+      one-of true = refl
+      one-of false = refl
 
   number-in : (i : ℕ) → numberAt 2 (logBytes a ts) (headSize + i) ≡ numberAt 2 behind i
   unfolding logBytes
-  number-in i = number-behind (mark ++ (a ∷ []) ++ twoBytes (length ts)) behind i
+  number-in i = number-behind (letters ++ (editionFor a ∷ a ∷ []) ++ twoBytes (length ts)) behind i
 
   says-offset : (k : ℕ) → k < length ts → offsetAt (logBytes a ts) k ≡ before ts k
   unfolding offsetAt
@@ -157,6 +168,7 @@ module _ (a : ℕ) (ts : List (List ℕ)) where
         long = omega (arith, says-size);
         named = says-named;
         activities = omega (arith, says-activities, w .activities);
+        edition = says-edition ∙ ap editionFor (sym says-activities);
         traces = omega (arith, w .number);
         lengths = λ k l. omega (arith, says-length k (omega arith), w .lengths k (omega arith));
         totals = λ k l.

@@ -1,4 +1,4 @@
--- When a log is refused, and with which number (01, "Numbers given back": the order for logs).
+-- When a log is refused, and with which number (01, "Numbers given back": the order for logs; 02, 10/12: the editions).
 use mathlib.Core.Bool.{Bool, true}
 use mathlib.Core.List.{List, [], _∷_}
 use Prim.Native.Nat.{ℕ, _+_}
@@ -8,21 +8,21 @@ use Rattle.sets.specs.Tests.{_and_, non, when_then_else_}
 use Rattle.sets.specs.Answers.{thenAsk, firstRefusal}
 use Rattle.sets.specs.declared.answer.Answer.{Answer}
 use Rattle.sets.specs.declared.answer.Answer.the-variants.{Done, TooShort, WrongLetters, AboveLimit, WrongOffset, Outside}
-use Rattle.bytes.specs.Opens.{opensWith}
-use Rattle.calllog.specs.Layout.{mark, headSize, activitiesIn, tracesIn, offsetAt, lengthAt, bodiesStart, eventsBefore}
-use Rattle.sets.specs.Sizes.{mostActivities, mostTraces, longestTrace, mostEvents}
+use Rattle.bytes.specs.Editions.{editionIn, opensFile, beyond}
+use Rattle.calllog.specs.Layout.{letters, headSize, activitiesIn, tracesIn, offsetAt, lengthAt, bodiesStart, eventsBefore}
+use Rattle.sets.specs.Sizes.{mostTraces, longestTrace, mostEvents}
 
 -- every one is below a
 unfoldable pub allBelow : ℕ → List ℕ → Bool
 allBelow a [] = true
 allBelow a (x ∷ xs) = ltb x a and allBelow a xs
 
--- up to the end of the contents: 1 (under 6 bytes), 2, 3 (A, then T), 1 (contents cut)
+-- up to the end of the contents: 1 (under 6 bytes), 2, 3 (A with the edition, then T), 1 (contents cut)
 unfoldable pub judgedHead : List ℕ → Answer
 judgedHead bytes =
     when ltb (length bytes) headSize then TooShort
-    else when non (opensWith mark bytes) then WrongLetters
-    else when ltb mostActivities (activitiesIn bytes) then AboveLimit
+    else when non (opensFile letters bytes) then WrongLetters
+    else when beyond (editionIn bytes) (activitiesIn bytes) then AboveLimit
     else when ltb mostTraces (tracesIn bytes) then AboveLimit
     else when ltb (length bytes) (bodiesStart bytes) then TooShort
     else Done

@@ -1,20 +1,13 @@
 -- Where a log file keeps what (01, "Sizes" and "Log"). Of bytes that end too soon, what is missing reads as 0.
-use mathlib.Core.List.{List, [], _∷_, _++_}
+use mathlib.Core.List.{List, [], _∷_}
 use Prim.Native.Nat.{ℕ, zero, suc, _+_, _*_}
 use Rattle.sets.specs.Sizes.{mostTraces, mostEvents}
 use lib.ListN.{getD}
 use Rattle.bytes.specs.Numbers.{numberAt, numberLength}
 
--- the two letters, B and L, and the edition
+-- the two letters, B and L
 abbrev pub letters : List ℕ
 letters = 66 ∷ 76 ∷ []
-
-abbrev pub edition : ℕ
-edition = 1
-
--- what a file opens with: both
-abbrev pub mark : List ℕ
-mark = letters ++ (edition ∷ [])
 
 -- how many bytes stand before the entries, and how many an entry has
 abbrev pub headSize : ℕ

@@ -4,7 +4,8 @@ use mathlib.Core.List.{List, [], _∷_, _++_}
 use mathlib.Core.Path.{_≡_}
 use Prim.Native.Nat.{ℕ, _+_, _/_, _%_, _≤_, _<_}
 use lib.ListN.{length, getD}
-use Rattle.calllog.specs.Layout.{mark}
+use Rattle.bytes.specs.Editions.{editionFor}
+use Rattle.calllog.specs.Layout.{letters}
 use Rattle.sets.specs.Sizes.{mostActivities, mostTraces, longestTrace, mostEvents}
 use Rattle.calllog.specs.Judged.{allBelow}
 
@@ -23,7 +24,7 @@ endToEnd [] = []
 endToEnd (t ∷ ts) = t ++ endToEnd ts
 
 unfoldable pub logBytes : ℕ → List (List ℕ) → List ℕ
-logBytes a traces = mark ++ (a ∷ []) ++ twoBytes (length traces) ++ entriesOf 0 traces ++ endToEnd traces
+logBytes a traces = letters ++ (editionFor a ∷ a ∷ []) ++ twoBytes (length traces) ++ entriesOf 0 traces ++ endToEnd traces
 
 -- A and traces that keep to the limits, with every member below A
 pub record WithinLimits (a : ℕ) (traces : List (List ℕ)) : Type 0 where

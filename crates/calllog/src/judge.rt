@@ -6,7 +6,7 @@ ghost use Rattle.calllog.specs.Layout.{bodiesStart};
 ghost use Rattle.calllog.specs.Judged.{allBelow, judgedHead, judgedEntry, judgedBodies, judgedContents, judgedLog};
 ghost use Rattle.calllog.specs.Logs.{judgedOf};
 use crate::layout;
-use bytes::opens_with;
+use bytes::edition;
 use sets::Answer;
 
 // The answer, A and T; 0 and 0 where the log is refused.
@@ -54,10 +54,10 @@ fn judge_head(bytes: &[u8]) -> Answer
     if bytes.len() < layout::HEAD_SIZE {
         return Answer::TooShort;
     }
-    if !opens_with(&layout::MARK, bytes) {
+    if !edition::opens_file(&layout::LETTERS, bytes) {
         return Answer::WrongLetters;
     }
-    if layout::MOST_ACTIVITIES < layout::activities(bytes) {
+    if edition::is_beyond(edition::edition_in(bytes), layout::activities(bytes)) {
         return Answer::AboveLimit;
     }
     if layout::MOST_TRACES < layout::traces(bytes) {

@@ -7,19 +7,12 @@ ghost use Rattle.calllog.specs.Layout.{activitiesIn, tracesIn, offsetAt,
 use bytes::byte_at;
 use bytes::number::LENGTH as NUMBER;
 use bytes::number_at;
-use sets::Activity;
 use sets::Place;
 
-// The two letters and the edition, and both: what a log opens with.
-const LETTERS: [u8; 2] = *b"BL";
+// The two letters that a log opens with; the edition comes after them.
+pub const LETTERS: [u8; 2] = *b"BL";
 
-const EDITION: u8 = 1;
-
-pub const MARK: [u8; 3] = [LETTERS[0], LETTERS[1], EDITION];
-
-// The greatest A, T, length of a trace and number of events.
-pub const MOST_ACTIVITIES: u8 = Activity::LIMIT;
-
+// The greatest T, length of a trace and number of events.
 pub const MOST_TRACES: u16 = 1024;
 
 pub const LONGEST_TRACE: u16 = Place::LIMIT as u16;

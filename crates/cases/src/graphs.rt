@@ -2,32 +2,43 @@
 use crate::files;
 use crate::moves;
 use crate::text;
+use bytes::edition;
+use bytes::set::set_at;
 use engine::Graph;
 use engine::Head;
 use engine::Relations;
 use engine::graph::KINDS;
 use rules::Profile;
 use sets::Activity;
-use sets::Set;
-use sets::activity::WIDTH;
+use sets::rows::WORDS;
 use sets::tables;
 
-// Room for the greatest graph file: 52 bytes, and 9 for each of 64 rows in 4 relations.
-const ROOM: usize = 2356;
+// Room for the greatest graph file: 84 bytes, and 17 for each of 128 rows in 4 relations.
+const ROOM: usize = 8788;
 
 // The number in two bytes.
 fn say_two(low: u8, high: u8) {
     text::number(b" ", low as u64 + 256 * high as u64);
 }
 
-// The contents: offset and number of rows, four times, as they stand in the file.
+// The eight numbers from a place on.
+fn say_eight(bytes: &[u8; ROOM], from: u8) {
+    let mut i: u8 = 0;
+    while i < 16 {
+        let at = from as usize + i as usize;
+        say_two(bytes[at], bytes[at + 1]);
+        i += 2;
+    }
+}
+
+// The contents: offset and number of rows, four times, as they stand in the file, after four sets of 8 bytes, or of 16 in edition 2.
 fn say_contents(bytes: &[u8; ROOM]) {
     text::say(b" contents");
-    let mut at = 36;
-    while at < 52 {
-        say_two(bytes[at], bytes[at + 1]);
-        at += 2;
+    if bytes[2] == edition::WIDE {
+        say_eight(bytes, 68);
+        return;
     }
+    say_eight(bytes, 36);
 }
 
 // Whether the first bytes of a buffer are the file, and no more than that.
@@ -111,14 +122,9 @@ pub fn lend(file: &[u8], i: u32) {
     write_into(r.graph, file, &before[..n], &mut out[..k]);
 }
 
-// The set in the first 8 bytes: a marking's executed activities stand first.
-fn set_of(bytes: &[u8]) -> Set {
-    let m = graphfile::marking::read_marking(bytes);
-    m.state.executed
-}
-
-// A value's bytes: how large a buffer is lent to its write; A; relation, key and set of its row; events; opening marking.
-const VALUE: usize = 52;
+// A value's bytes: how large a buffer is lent to its write; A; relation, key and set of its row; events; opening marking. Its sets have
+// 16 bytes whatever A is, so that they can have what A does not allow.
+const VALUE: usize = 100;
 
 // A graph put together by hand: nothing judges it, so it may be one that no file can hold. It has one row, in the relation of that number.
 fn value_of(bytes: &[u8]) -> Graph {
@@ -127,11 +133,11 @@ fn value_of(bytes: &[u8]) -> Graph {
     }
     let head = Head {
         activities: bytes[1],
-        events: set_of(&bytes[12..]),
-        opening: graphfile::marking::read_marking(&bytes[20..]),
+        events: set_at(bytes, 20, true),
+        opening: graphfile::marking::read_marking(&bytes[36..], true),
     };
-    let mut relations: Relations = [0; KINDS as usize * WIDTH];
-    let row = set_of(&bytes[4..]);
+    let mut relations: Relations = [0; KINDS as usize * WORDS];
+    let row = set_at(bytes, 4, true);
     tables::put(&mut relations, bytes[2], Activity(bytes[3]), row);
     Graph { head, relations }
 }

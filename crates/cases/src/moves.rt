@@ -1,7 +1,10 @@
 // Cases of one step: a graph, a marking that is handed over beside it, and an activity.
 use crate::text;
+use bytes::edition;
+use bytes::edition::edition_for;
 use engine::Graph;
 use engine::Marking;
+use graphfile::marking;
 use sets::Activity;
 
 // Whether the marking is accepting, whether the step is enabled, and the marking that the step leaves.
@@ -18,12 +21,16 @@ pub fn say_step(g: Graph, m: Marking, a: Activity) {
     text::marking(stepped.marking);
 }
 
-// The second file has a marking and, after it, an activity. Of a graph file that is refused the graph is empty.
+// The second file has a marking, in the form that goes with the graph's A, and after it an activity. Of a graph file that is refused the
+// graph is empty.
 pub fn step<'a>(file: &'a [u8], at: &'a [u8]) {
     let r = graphfile::read(file);
-    if at.len() == graphfile::marking::LENGTH + 1 {
-        let m = graphfile::marking::read_marking(at);
-        say_step(r.graph, m, Activity(at[graphfile::marking::LENGTH]));
+    let head = r.graph.head;
+    let wide = edition_for(head.activities) == edition::WIDE;
+    let size = marking::length(wide);
+    if size < at.len() {
+        let m = marking::read_marking(at, wide);
+        say_step(r.graph, m, Activity(at[size]));
     }
     text::line(b"");
 }

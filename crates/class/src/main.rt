@@ -7,12 +7,14 @@ use engine::Marking;
 use engine::Relations;
 use engine::State;
 use engine::graph::CONDITIONS;
+use engine::graph::KINDS;
 use plain::enabled::marked;
 use plain::fill::fill;
 use plain::replay::replay;
 use plain::step::step;
 use sets::Activity;
 use sets::Set;
+use sets::rows::WORDS;
 use sets::tables;
 
 // The condition 1 to 2, and the exclusion 0 to 1.
@@ -131,13 +133,13 @@ fn the_openings<'a>(c: &'a [u16], x: &'a [u16]) {
     show_from(b"opens with 2 enabled, 0", m, c, x, b"\x00");
     let far = [65535u16];
     show_from(b"opens so, and 65535, 0", m, &far, x, b"\x00");
-    let many = [SURVEY_ASSIGN; 4097];
-    show_from(b"opens so, and 4097 times, 0", m, &many, x, b"\x00");
+    let many = [SURVEY_ASSIGN; 16385];
+    show_from(b"opens so, and 16385 times, 0", m, &many, x, b"\x00");
 }
 
 // The conditions of the graph on sets, into lent memory.
 fn a_fill(name: &[u8], memory: &mut [u16]) {
-    let mut relations: Relations = [0; 256];
+    let mut relations: Relations = [0; KINDS as usize * WORDS];
     tables::put(
         &mut relations,
         CONDITIONS,
@@ -162,12 +164,12 @@ fn no_room(memory: &mut [u16]) {
 
 // Lists that are long, or name what is no step.
 fn the_borders<'a>(excludes: &'a [u16]) {
-    let many = [SURVEY_ASSIGN; 4097];
-    show(b"4096 times, 2", &many[0..4096], excludes, b"\x02");
-    show(b"4097 times, 2", &many, excludes, b"\x02");
-    let far = [65535u16; 4097];
+    let many = [SURVEY_ASSIGN; 16385];
+    show(b"16384 times, 2", &many[0..16384], excludes, b"\x02");
+    show(b"16385 times, 2", &many, excludes, b"\x02");
+    let far = [65535u16; 16385];
     show(b"65535, 0", &far[0..1], excludes, b"\x00");
-    show(b"65535, 4097 times, 0", &far, excludes, b"\x00");
+    show(b"65535, 16385 times, 0", &far, excludes, b"\x00");
     let source = [770u16];
     show(b"3 to 2, 0", &source, excludes, b"\x00");
 }

@@ -18,20 +18,25 @@ use Rattle.engine.specs.Judged.{judged, judgedWith, judgedBeside}
 use Rattle.engine.specs.Replay.{enabledOf, enabledOn, nextMarking}
 use Rattle.engine.specs.declared.marking.Marking.{Marking}
 use Rattle.engine.specs.declared.graph.Graph.{Graph}
+use Rattle.graphfile.specs.Layout.{wideFor}
 use Rattle.desk.specs.declared.requests.Opened.{Opened}
 use Rattle.desk.specs.Places.{placeCount, tableLength, isOpen, markingAtPlace, withMarking, withPlace, lowestFree}
 
+-- a desk's table is in the form that the file of its graph has (02, 10/12)
+abbrev pub formOf : Graph → Bool
+formOf g = wideFor (g .head .activities)
+
 -- a table of too few bytes is none: 7, before everything else
-abbrev pub onTable : List ℕ → Answer → Answer
-onTable table answer = when ltb (length table) tableLength then BufferTooSmall else answer
+abbrev pub onTable : Bool → List ℕ → Answer → Answer
+onTable wide table answer = when ltb (length table) (tableLength wide) then BufferTooSmall else answer
 
 -- nor is there a call at a place above 31 or not open: 14, before all that is asked of a call
-abbrev pub atPlace : List ℕ → ℕ → Answer → Answer
-atPlace table p answer = onTable table (when non (isOpen table p) then NotOpen else answer)
+abbrev pub atPlace : Bool → List ℕ → ℕ → Answer → Answer
+atPlace wide table p answer = onTable wide table (when non (isOpen wide table p) then NotOpen else answer)
 
 -- these two alone
-unfoldable pub placeAnswer : List ℕ → ℕ → Answer
-placeAnswer table p = atPlace table p Done
+unfoldable pub placeAnswer : Bool → List ℕ → ℕ → Answer
+placeAnswer wide table p = atPlace wide table p Done
 
 -- ---- open
 
@@ -40,7 +45,7 @@ unfoldable pub opening : Graph → (ℕ → Bool) → Answer
 opening g taken = thenAsk (judged g) (when everyBelow placeCount taken then NoPlaceFree else Done)
 
 unfoldable pub openAnswer : Graph → List ℕ → Answer
-openAnswer g table = onTable table (opening g (isOpen table))
+openAnswer g table = onTable (formOf g) table (opening g (isOpen (formOf g) table))
 
 -- what stands in a place's stead where open is refused
 abbrev pub noPlace : ℕ
@@ -51,34 +56,34 @@ unfoldable pub openedOf : Graph → List ℕ → Opened
 openedOf g table =
     record {
       answer = openAnswer g table;
-      place = when isDone (openAnswer g table) then lowestFree (isOpen table) else noPlace;
+      place = when isDone (openAnswer g table) then lowestFree (isOpen (formOf g) table) else noPlace;
     }
 
 -- it is open, at the opening marking
 unfoldable pub tableOpened : Graph → List ℕ → List ℕ
 tableOpened g table =
-    when isDone (openAnswer g table) then withPlace table (lowestFree (isOpen table)) 1 (g .head .opening) else table
+    when isDone (openAnswer g table) then withPlace (formOf g) table (lowestFree (isOpen (formOf g) table)) 1 (g .head .opening) else table
 
 -- ---- step: 14, then as the engine's enabled has it at the place's own marking: 3, 5, 16, 8, 9, and 10 with the blocker
 
 unfoldable pub stepAnswer : Graph → List ℕ → ℕ → ℕ → Answer
-stepAnswer g table p a = atPlace table p (enabledOf g (markingAtPlace table p) a)
+stepAnswer g table p a = atPlace (formOf g) table p (enabledOf g (markingAtPlace (formOf g) table p) a)
 
 -- the place has the marking after the step
 unfoldable pub tableStepped : Graph → List ℕ → ℕ → ℕ → List ℕ
 tableStepped g table p a =
-    when isDone (stepAnswer g table p a) then withMarking table p (nextMarking g (markingAtPlace table p) a) else table
+    when isDone (stepAnswer g table p a) then withMarking (formOf g) table p (nextMarking g (markingAtPlace (formOf g) table p) a) else table
 
--- the same on a graph that was judged before
-unfoldable pub stepAnswerOn : Set → Relations → List ℕ → ℕ → ℕ → Answer
-stepAnswerOn events r table p a = atPlace table p (enabledOn events r (markingAtPlace table p) a)
+-- the same on a graph that was judged before, whose form is handed over
+unfoldable pub stepAnswerOn : Bool → Set → Relations → List ℕ → ℕ → ℕ → Answer
+stepAnswerOn wide events r table p a = atPlace wide table p (enabledOn events r (markingAtPlace wide table p) a)
 
 -- the marking after the step, at its place
-abbrev pub steppedAt : Set → Relations → List ℕ → ℕ → ℕ → List ℕ
-steppedAt events r table p a = withMarking table p (marked events r (after r (markingAtPlace table p .state) a))
+abbrev pub steppedAt : Bool → Set → Relations → List ℕ → ℕ → ℕ → List ℕ
+steppedAt wide events r table p a = withMarking wide table p (marked events r (after r (markingAtPlace wide table p .state) a))
 
-unfoldable pub tableSteppedOn : Set → Relations → List ℕ → ℕ → ℕ → List ℕ
-tableSteppedOn events r table p a = when isDone (stepAnswerOn events r table p a) then steppedAt events r table p a else table
+unfoldable pub tableSteppedOn : Bool → Set → Relations → List ℕ → ℕ → ℕ → List ℕ
+tableSteppedOn wide events r table p a = when isDone (stepAnswerOn wide events r table p a) then steppedAt wide events r table p a else table
 
 -- ---- close: 14, then at the place's own marking 3, 5, 16, and 15 where it is not accepting
 
@@ -89,15 +94,16 @@ unfoldable pub closing : Graph → Marking → Answer
 closing g m = closingAfter (judgedWith g m) m
 
 unfoldable pub closeAnswer : Graph → List ℕ → ℕ → Answer
-closeAnswer g table p = atPlace table p (closing g (markingAtPlace table p))
+closeAnswer g table p = atPlace (formOf g) table p (closing g (markingAtPlace (formOf g) table p))
 
 -- the place is free, and holds the empty marking
 unfoldable pub tableClosed : Graph → List ℕ → ℕ → List ℕ
-tableClosed g table p = when isDone (closeAnswer g table p) then withPlace table p 0 emptyMarking else table
+tableClosed g table p = when isDone (closeAnswer g table p) then withPlace (formOf g) table p 0 emptyMarking else table
 
 -- the same on a graph that was judged before
-unfoldable pub closeAnswerOn : Set → Relations → List ℕ → ℕ → Answer
-closeAnswerOn events r table p = atPlace table p (closingAfter (judgedBeside events r (markingAtPlace table p)) (markingAtPlace table p))
+unfoldable pub closeAnswerOn : Bool → Set → Relations → List ℕ → ℕ → Answer
+closeAnswerOn wide events r table p =
+    atPlace wide table p (closingAfter (judgedBeside events r (markingAtPlace wide table p)) (markingAtPlace wide table p))
 
-unfoldable pub tableClosedOn : Set → Relations → List ℕ → ℕ → List ℕ
-tableClosedOn events r table p = when isDone (closeAnswerOn events r table p) then withPlace table p 0 emptyMarking else table
+unfoldable pub tableClosedOn : Bool → Set → Relations → List ℕ → ℕ → List ℕ
+tableClosedOn wide events r table p = when isDone (closeAnswerOn wide events r table p) then withPlace wide table p 0 emptyMarking else table

@@ -32,10 +32,10 @@ unfoldable pub tableAfter : Graph → List ℕ → List Request → List ℕ
 tableAfter g table [] = table
 tableAfter g table (r ∷ history) = tableServed g (tableAfter g table history) r
 
--- a fresh desk: a table on which no place is open
-pub record Fresh (table : List ℕ) : Type 0 where
-  pub long : tableLength ≤ length table
-  pub free : (p : ℕ) → isOpen table p ≡ false
+-- a fresh desk: a table, in its graph's form, on which no place is open
+pub record Fresh (wide : Bool) (table : List ℕ) : Type 0 where
+  pub long : tableLength wide ≤ length table
+  pub free : (p : ℕ) → isOpen wide table p ≡ false
 
 -- a place has no call, or one with the steps taken there since its opening, the latest first
 pub data Call : Type 0 where

@@ -3,8 +3,9 @@ ghost use mathlib.Core.Path.{_≡_};
 ghost use Prim.Native.Nat.{_≤_, _<_};
 ghost use lib.ListN.{length};
 ghost use Rattle.engine.specs.Relations.{graphOf, inTables};
-ghost use Rattle.desk.specs.Places.{placeCount, tableLength};
-ghost use Rattle.desk.specs.Desk.{openAnswer, openedOf, tableOpened, placeAnswer, steppedAt, closingAfter};
+ghost use Rattle.engine.specs.Replay.{enabledOf};
+ghost use Rattle.desk.specs.Places.{placeCount, tableLength, isOpen, markingAtPlace};
+ghost use Rattle.desk.specs.Desk.{onTable, atPlace, opening, openedOf, tableOpened, placeAnswer, steppedAt, closingAfter, closing};
 ghost use Rattle.desk.specs.Desk.{stepAnswer, tableStepped, closeAnswer, tableClosed, stepAnswerOn, tableSteppedOn, closeAnswerOn, tableClosedOn};
 use crate::table;
 use engine::Head;
@@ -13,6 +14,7 @@ use engine::Relations;
 use engine::enabled;
 use engine::judge;
 use engine::step as rules;
+use graphfile::wide_for;
 use sets::Activity;
 use sets::Answer;
 use sets::Set;
@@ -27,17 +29,17 @@ pub struct Opened {
 }
 
 // 7 where the bytes are too few for a table, 3, 5 and 16 for the graph, then 13.
-fn judge_open<'a>(head: Head, relations: &'a Relations, table: &'a [u8]) -> Answer
-    ensures { λ r. ⌜ r ≡ openAnswer (graphOf head (now (relations .entry))) (now (table .entry)) ⌝ }
+fn judge_open<'a>(head: Head, relations: &'a Relations, table: &'a [u8], wide: bool) -> Answer
+    ensures { λ r. ⌜ r ≡ onTable wide (now (table .entry)) (opening (graphOf head (now (relations .entry))) (isOpen wide (now (table .entry)))) ⌝ }
 {
-    if table.len() < table::LENGTH {
+    if table.len() < table::length(wide) {
         return Answer::BufferTooSmall;
     }
     let answer = judge::judge_for(head, relations, 0);
     if !answer.is_done() {
         return answer;
     }
-    if table::lowest_free(table) < table::PLACES {
+    if table::lowest_free(table, wide) < table::PLACES {
         return Answer::Done;
     }
     Answer::NoPlaceFree
@@ -48,26 +50,27 @@ pub fn open(head: Head, relations: &Relations, table: &mut [u8]) -> Opened
     ensures { λ r. ⌜ r ≡ openedOf (graphOf head (now (relations .entry))) (now (table .entry)) ⌝ }
     ensures { λ _. ⌜ now (table .exit) ≡ tableOpened (graphOf head (now (relations .entry))) (now (table .entry)) ⌝ }
 {
-    let answer = judge_open(head, relations, table);
+    let wide = wide_for(head.activities);
+    let answer = judge_open(head, relations, table, wide);
     if !answer.is_done() {
         return Opened {
             answer,
             place: NO_PLACE,
         };
     }
-    let place = table::lowest_free(table);
-    table::put_place(table, place, table::TAKEN, head.opening);
+    let place = table::lowest_free(table, wide);
+    table::put_place(table, place, table::TAKEN, head.opening, wide);
     Opened { answer, place }
 }
 
 // What step, close and a way out ask of the table first: 7, then 14.
-pub fn judge_place(table: &[u8], place: usize) -> Answer
-    ensures { λ r. ⌜ r ≡ placeAnswer (now (table .entry)) place ⌝ }
+pub fn judge_place(table: &[u8], place: usize, wide: bool) -> Answer
+    ensures { λ r. ⌜ r ≡ placeAnswer wide (now (table .entry)) place ⌝ }
 {
-    if table.len() < table::LENGTH {
+    if table.len() < table::length(wide) {
         return Answer::BufferTooSmall;
     }
-    if !table::is_open(table, place) {
+    if !table::is_open(table, place, wide) {
         return Answer::NotOpen;
     }
     Answer::Done
@@ -80,14 +83,16 @@ fn judge_step<'a>(
     table: &'a [u8],
     place: usize,
     a: Activity,
+    wide: bool,
 ) -> Answer
-    ensures { λ r. ⌜ r ≡ stepAnswer (graphOf head (now (relations .entry))) (now (table .entry)) place (a .0) ⌝ }
+    ensures { λ r. ⌜ r ≡ atPlace wide (now (table .entry)) place
+        (enabledOf (graphOf head (now (relations .entry))) (markingAtPlace wide (now (table .entry)) place) (a .0)) ⌝ }
 {
-    let asked = judge_place(table, place);
+    let asked = judge_place(table, place, wide);
     if !asked.is_done() {
         return asked;
     }
-    let m = table::marking_at(table, place);
+    let m = table::marking_at(table, place, wide);
     rules::ask_judged(head, relations, m, a)
 }
 
@@ -98,25 +103,38 @@ fn judge_step_on<'a>(
     table: &'a [u8],
     place: usize,
     a: Activity,
+    wide: bool,
 ) -> Answer
-    ensures { λ r. ⌜ r ≡ stepAnswerOn events (inTables (now (relations .entry))) (now (table .entry)) place (a .0) ⌝ }
+    ensures { λ r. ⌜ r ≡ stepAnswerOn wide events (inTables (now (relations .entry))) (now (table .entry)) place (a .0) ⌝ }
 {
-    let asked = judge_place(table, place);
+    let asked = judge_place(table, place, wide);
     if !asked.is_done() {
         return asked;
     }
-    let m = table::marking_at(table, place);
+    let m = table::marking_at(table, place, wide);
     rules::ask_on(events, relations, m, a)
 }
 
 // The marking after a step, at its place.
-fn put_step(events: Set, relations: &Relations, table: &mut [u8], place: usize, a: Activity)
-    requires { ⌜ (tableLength ≤ length (now table)) × (place < placeCount) ⌝ }
-    ensures { λ _. ⌜ now (table .exit) ≡ steppedAt events (inTables (now (relations .entry))) (now (table .entry)) place (a .0) ⌝ }
+fn put_step(
+    events: Set,
+    relations: &Relations,
+    table: &mut [u8],
+    place: usize,
+    a: Activity,
+    wide: bool,
+)
+    requires { ⌜ (tableLength wide ≤ length (now table)) × (place < placeCount) ⌝ }
+    ensures { λ _. ⌜ now (table .exit) ≡ steppedAt wide events (inTables (now (relations .entry))) (now (table .entry)) place (a .0) ⌝ }
 {
-    let m = table::marking_at(table, place);
+    let m = table::marking_at(table, place, wide);
     let after = rules::next(relations, m.state, a);
-    table::put_marking(table, place, enabled::marked(events, relations, after));
+    table::put_marking(
+        table,
+        place,
+        enabled::marked(events, relations, after),
+        wide,
+    );
 }
 
 // One activity at one place. Beside 10 the answer has the blocker.
@@ -130,11 +148,12 @@ pub fn step(
     ensures { λ r. ⌜ r ≡ stepAnswer (graphOf head (now (relations .entry))) (now (table .entry)) place (a .0) ⌝ }
     ensures { λ _. ⌜ now (table .exit) ≡ tableStepped (graphOf head (now (relations .entry))) (now (table .entry)) place (a .0) ⌝ }
 {
-    let answer = judge_step(head, relations, table, place, a);
+    let wide = wide_for(head.activities);
+    let answer = judge_step(head, relations, table, place, a, wide);
     if !answer.is_done() {
         return answer;
     }
-    put_step(head.events, relations, table, place, a);
+    put_step(head.events, relations, table, place, a, wide);
     answer
 }
 
@@ -145,15 +164,16 @@ pub fn step_on(
     table: &mut [u8],
     place: usize,
     a: Activity,
+    wide: bool,
 ) -> Answer
-    ensures { λ r. ⌜ r ≡ stepAnswerOn events (inTables (now (relations .entry))) (now (table .entry)) place (a .0) ⌝ }
-    ensures { λ _. ⌜ now (table .exit) ≡ tableSteppedOn events (inTables (now (relations .entry))) (now (table .entry)) place (a .0) ⌝ }
+    ensures { λ r. ⌜ r ≡ stepAnswerOn wide events (inTables (now (relations .entry))) (now (table .entry)) place (a .0) ⌝ }
+    ensures { λ _. ⌜ now (table .exit) ≡ tableSteppedOn wide events (inTables (now (relations .entry))) (now (table .entry)) place (a .0) ⌝ }
 {
-    let answer = judge_step_on(events, relations, table, place, a);
+    let answer = judge_step_on(events, relations, table, place, a, wide);
     if !answer.is_done() {
         return answer;
     }
-    put_step(events, relations, table, place, a);
+    put_step(events, relations, table, place, a, wide);
     answer
 }
 
@@ -171,14 +191,21 @@ fn ask_closing(judged: Answer, m: Marking) -> Answer
 }
 
 // 7 and 14, then 3, 5, 16, 15 at the place's own marking.
-fn judge_close<'a>(head: Head, relations: &'a Relations, table: &'a [u8], place: usize) -> Answer
-    ensures { λ r. ⌜ r ≡ closeAnswer (graphOf head (now (relations .entry))) (now (table .entry)) place ⌝ }
+fn judge_close<'a>(
+    head: Head,
+    relations: &'a Relations,
+    table: &'a [u8],
+    place: usize,
+    wide: bool,
+) -> Answer
+    ensures { λ r. ⌜ r ≡ atPlace wide (now (table .entry)) place
+        (closing (graphOf head (now (relations .entry))) (markingAtPlace wide (now (table .entry)) place)) ⌝ }
 {
-    let asked = judge_place(table, place);
+    let asked = judge_place(table, place, wide);
     if !asked.is_done() {
         return asked;
     }
-    let m = table::marking_at(table, place);
+    let m = table::marking_at(table, place, wide);
     let judged = judge::judge_beside(head, relations, m);
     ask_closing(judged, m)
 }
@@ -189,14 +216,15 @@ fn judge_close_on<'a>(
     relations: &'a Relations,
     table: &'a [u8],
     place: usize,
+    wide: bool,
 ) -> Answer
-    ensures { λ r. ⌜ r ≡ closeAnswerOn events (inTables (now (relations .entry))) (now (table .entry)) place ⌝ }
+    ensures { λ r. ⌜ r ≡ closeAnswerOn wide events (inTables (now (relations .entry))) (now (table .entry)) place ⌝ }
 {
-    let asked = judge_place(table, place);
+    let asked = judge_place(table, place, wide);
     if !asked.is_done() {
         return asked;
     }
-    let m = table::marking_at(table, place);
+    let m = table::marking_at(table, place, wide);
     let judged = judge::judge_marking(events, relations, m);
     ask_closing(judged, m)
 }
@@ -206,23 +234,30 @@ pub fn close(head: Head, relations: &Relations, table: &mut [u8], place: usize) 
     ensures { λ r. ⌜ r ≡ closeAnswer (graphOf head (now (relations .entry))) (now (table .entry)) place ⌝ }
     ensures { λ _. ⌜ now (table .exit) ≡ tableClosed (graphOf head (now (relations .entry))) (now (table .entry)) place ⌝ }
 {
-    let answer = judge_close(head, relations, table, place);
+    let wide = wide_for(head.activities);
+    let answer = judge_close(head, relations, table, place, wide);
     if !answer.is_done() {
         return answer;
     }
-    table::put_place(table, place, table::FREE, Marking::EMPTY);
+    table::put_place(table, place, table::FREE, Marking::EMPTY, wide);
     answer
 }
 
 // The same on a graph that was judged before.
-pub fn close_on(events: Set, relations: &Relations, table: &mut [u8], place: usize) -> Answer
-    ensures { λ r. ⌜ r ≡ closeAnswerOn events (inTables (now (relations .entry))) (now (table .entry)) place ⌝ }
-    ensures { λ _. ⌜ now (table .exit) ≡ tableClosedOn events (inTables (now (relations .entry))) (now (table .entry)) place ⌝ }
+pub fn close_on(
+    events: Set,
+    relations: &Relations,
+    table: &mut [u8],
+    place: usize,
+    wide: bool,
+) -> Answer
+    ensures { λ r. ⌜ r ≡ closeAnswerOn wide events (inTables (now (relations .entry))) (now (table .entry)) place ⌝ }
+    ensures { λ _. ⌜ now (table .exit) ≡ tableClosedOn wide events (inTables (now (relations .entry))) (now (table .entry)) place ⌝ }
 {
-    let answer = judge_close_on(events, relations, table, place);
+    let answer = judge_close_on(events, relations, table, place, wide);
     if !answer.is_done() {
         return answer;
     }
-    table::put_place(table, place, table::FREE, Marking::EMPTY);
+    table::put_place(table, place, table::FREE, Marking::EMPTY, wide);
     answer
 }

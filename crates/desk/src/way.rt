@@ -9,6 +9,7 @@ use engine::Relations;
 use finish::Finished;
 use finish::Way;
 use finish::search;
+use graphfile::wide_for;
 use sets::Answer;
 use sets::Set;
 
@@ -16,38 +17,40 @@ use sets::Set;
 pub fn finish<'a>(head: Head, relations: &'a Relations, table: &'a [u8], place: usize) -> Finished
     ensures { λ r. ⌜ r ≡ finishedAt (graphOf head (now (relations .entry))) (now (table .entry)) place ⌝ }
 {
-    if table.len() < table::LENGTH {
+    let wide = wide_for(head.activities);
+    if table.len() < table::length(wide) {
         return Finished {
             answer: Answer::BufferTooSmall,
             way: Way::NONE,
         };
     }
-    if !table::is_open(table, place) {
+    if !table::is_open(table, place, wide) {
         return Finished {
             answer: Answer::NotOpen,
             way: Way::NONE,
         };
     }
-    let m = table::marking_at(table, place);
+    let m = table::marking_at(table, place, wide);
     search::way_out(head, relations, m)
 }
 
-// The same on a graph that was judged before, as one from a file is.
+// The same on a graph that was judged before, as one from a file is, whose form is handed over.
 pub fn finish_on<'a>(
     events: Set,
     relations: &'a Relations,
     table: &'a [u8],
     place: usize,
+    wide: bool,
 ) -> Finished
-    ensures { λ r. ⌜ r ≡ finishedOn events (inTables (now (relations .entry))) (now (table .entry)) place ⌝ }
+    ensures { λ r. ⌜ r ≡ finishedOn wide events (inTables (now (relations .entry))) (now (table .entry)) place ⌝ }
 {
-    let asked = judge_place(table, place);
+    let asked = judge_place(table, place, wide);
     if !asked.is_done() {
         return Finished {
             answer: asked,
             way: Way::NONE,
         };
     }
-    let m = table::marking_at(table, place);
+    let m = table::marking_at(table, place, wide);
     search::way_out_on(events, relations, m)
 }

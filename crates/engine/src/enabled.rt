@@ -1,6 +1,6 @@
 // The set of enabled activities that a marking keeps (02, 6/12): worked out here alone, and a marking handed over is held to it.
 ghost use mathlib.Core.Path.{_≡_};
-ghost use lib.Dec.{eqb};
+ghost use lib.Dec.{eqb, ltb};
 ghost use Rattle.sets.specs.Tests.{_and_, _or_, non};
 ghost use Rattle.sets.specs.Members.{mem, those};
 ghost use Rattle.engine.specs.Relations.{inTables};
@@ -12,6 +12,7 @@ use crate::marking::State;
 use crate::step;
 use sets::Activity;
 use sets::Set;
+use sets::activity::WORD;
 
 // The set with the activity, where that waits for nothing.
 fn with_free(relations: &Relations, s: State, a: Activity, out: Set) -> Set
@@ -21,25 +22,32 @@ fn with_free(relations: &Relations, s: State, a: Activity, out: Set) -> Set
     out.union(one)
 }
 
-// Those that wait for nothing. Every activity is asked, event or not: going from member to member costs more than the asking.
-fn free(relations: &Relations, s: State) -> Set
-    ensures { λ r. ⌜ r ≡ those (λ a. non (waits (inTables (now (relations .entry))) s a)) ⌝ }
+// Of the activities below an end, those that wait for nothing. Each is asked, event or not: going from member to member costs more than the asking.
+fn free(relations: &Relations, s: State, end: u8) -> Set
+    ensures { λ r. ⌜ r ≡ those (λ a. ltb a end and non (waits (inTables (now (relations .entry))) s a)) ⌝ }
 {
     let mut out = Set::EMPTY;
     let mut i: u8 = 0;
-    while i < Activity::LIMIT {
+    while i < end {
         out = with_free(relations, s, Activity(i), out);
         i += 1;
     }
     out
 }
 
-// The events that are included and wait for nothing.
+// The events that are included and wait for nothing. Where no more than the first 64 are included, nobody else is asked, and the second word of
+// what is included is cut off, so that the compiler drops it (02, 10/12).
 pub fn enabled_set(events: Set, relations: &Relations, s: State) -> Set
     ensures { λ r. ⌜ r ≡ rules.enabledSet events (inTables (now (relations .entry))) s ⌝ }
 {
-    let live = events.intersection(s.included);
-    live.intersection(free(relations, s))
+    let included = s.included;
+    let live = events.intersection(included);
+    let low = Set::below(WORD);
+    if included.is_within(low) {
+        let few = State::of(s.executed, s.pending, included.intersection(low));
+        return live.intersection(free(relations, few, WORD));
+    }
+    live.intersection(free(relations, s, Activity::LIMIT))
 }
 
 // The marking of a state.

@@ -1,5 +1,5 @@
 -- The reader's loop over the rows of a relation, and what it reads put together. Assumes nothing.
-use mathlib.Core.Path.{_≡_, refl, sym, ap, _∙_}
+use mathlib.Core.Path.{_≡_, refl, sym, ap, _∙_, subst}
 use mathlib.Core.Bool.{Bool, true, false, not}
 use mathlib.Core.List.{List}
 use Prim.Native.Nat.{ℕ, suc, _+_, _-_, _≤_, _<_}
@@ -21,10 +21,10 @@ use Rattle.engine.specs.Markings.{emptyState, emptyMarking}
 use Rattle.engine.specs.Relations.{relationCount, headOf, graphOf, emptyGraph}
 use Rattle.engine.specs.declared.graph.Head.{Head}
 use Rattle.engine.specs.declared.graph.Graph.{Graph}
-use Rattle.bytes.specs.Sets.{setLength}
+use Rattle.bytes.specs.Sets.{setAt}
 use Rattle.graphfile.specs.declared.reader.Reading.{Reading}
 use Rattle.graphfile.specs.declared.reader.Bare.{Bare}
-use Rattle.graphfile.specs.Layout.{headLength, eventsPlace, eventsIn, stateIn, headIn, countIn, earlierRows, keyIn, rowIn}
+use Rattle.graphfile.specs.Layout.{wideIn, eventsPlace, headLength, eventsIn, stateIn, headIn, countIn, earlierRows, keyIn, rowIn}
 use Rattle.graphfile.specs.Refusals.{rises, rowAnswer, judgedRow, judgedBeforeRows, judgedRelation, judgedFile}
 use Rattle.graphfile.specs.Held.{filled, withRelation, withRelations, relationsIn, graphIn, readOf, bareOf, bareTables}
 use Rattle.graphfile.proofs.Judging.{row-judged}
@@ -131,11 +131,8 @@ module _ (bytes : List ℕ) (a : Answer) (d : Bool) (e : a ≡ judgedFile bytes)
       let said : isDone (judgedFile bytes) ≡ b = ap isDone (sym e) ∙ sym t ∙ q in
       λ i. record { answer = e i; graph = (h ∙ ap (λ (y : Bool). when y then graphIn bytes else emptyGraph) (sym said)) i }
 
-  pub read-long : d ≡ true → headLength ≤ length bytes
+  pub read-long : d ≡ true → headLength (wideIn bytes) ≤ length bytes
   read-long y = accepted bytes (sym e ∙ done-is a (sym t ∙ y)) .long
-
-  pub events-there : d ≡ true → eventsPlace + setLength ≤ length bytes
-  events-there y = let long = read-long y in omega arith
 
   pub read-refused : (tables : List ℕ) → d ≡ false → tables ≡ noTables relationCount
       → _≡_ {A = Reading} (record { answer = a; graph = graphOf (headOf 0 noSet emptyMarking) tables }) (readOf bytes)
@@ -172,9 +169,13 @@ module _ (bytes : List ℕ) (a : Answer) (d : Bool) (e : a ≡ judgedFile bytes)
   pub bare-cleared : (tables tables′ : List ℕ) → d ≡ false → tables′ ≡ noTables relationCount → tables′ ≡ bareTables bytes tables
   bare-cleared tables tables′ n h = held false tables tables′ n h
 
-  pub bare-taken : (events : Set) (s : State) → d ≡ true → events ≡ eventsIn bytes → s ≡ stateIn bytes
-      → _≡_ {A = Bare} (record { answer = a; events = events; state = s }) (bareOf bytes)
-  bare-taken events s y he hs = bare true events s y he hs
-
   pub bare-filled : (tables tables′ : List ℕ) → d ≡ true → (a ≡ Done → tables′ ≡ withRelations bytes tables relationCount) → tables′ ≡ bareTables bytes tables
   bare-filled tables tables′ y h = held true tables tables′ y (h (done-is a (sym t ∙ y)))
+
+  -- as the code finds them, by the form
+  pub bare-found : (w : Bool) (events : Set) (s : State) → w ≡ wideIn bytes → d ≡ true → events ≡ setAt w bytes eventsPlace
+      → (w ≡ wideIn bytes → s ≡ stateIn bytes) → _≡_ {A = Bare} (record { answer = a; events = events; state = s }) (bareOf bytes)
+  bare-found w events s hw y he hs = bare true events s y (he ∙ ap (λ (b : Bool). setAt b bytes eventsPlace) hw) (hs hw)
+
+  pub read-room : (w : Bool) → w ≡ wideIn bytes → d ≡ true → headLength w ≤ length bytes
+  read-room w hw y = subst (λ (b : Bool). headLength b ≤ length bytes) (sym hw) (read-long y)

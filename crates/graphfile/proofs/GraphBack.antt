@@ -12,50 +12,52 @@ use lib.ListN.{length, getD, take, drop}
 use lib.Seq.{take-at, drop-at, drop-drop, getD-drop}
 use Rattle.sets.specs.Tests.{when_then_else_}
 use Rattle.sets.specs.Members.{width, mem, noSet, isEmpty, within}
-use Rattle.sets.specs.Rows.{rowAt, withRow}
+use Rattle.sets.specs.Rows.{rowWords, rowAt, withRow}
 use Rattle.sets.specs.declared.set.Set.{Set}
 use Rattle.sets.proofs.Tests.{and-l, and-r, or-e, split, either, false→F, eqb-of}
 use Rattle.sets.proofs.Members.{Whole, whole-empty}
 use Rattle.sets.proofs.RowLaws.{length-put, row-put-same, row-put-other}
 use Rattle.engine.specs.Judged.{rowWithin}
-use Rattle.graphfile.specs.Layout.{headLength, rowLength, keyIn, rowIn}
+use Rattle.graphfile.specs.Layout.{wideIn, rowLength, rowPlace, keyIn, rowIn}
 use Rattle.graphfile.specs.Writing.{rowOf, rowsFor, rowsFrom, countFrom}
-use Rattle.bytes.specs.Sets.{setLength, setBytes}
+use Rattle.bytes.specs.Sets.{setLength, Holds, setBytes}
 use Rattle.bytes.proofs.SetLaws.{length-set, set-read}
+use Rattle.graphfile.proofs.RowLengths.{rows-suc}
 use Rattle.graphfile.proofs.FileBack.{row-empty, row-some}
 use Rattle.graphfile.proofs.Legal.{LegalRow, Legal, rowsFilled}
 
 -- ---- what is read where a row was written
 
-module _ (bytes : List ℕ) (k a : ℕ) (s : Set) (rest : List ℕ) (whole : Whole s) (here : drop (headLength + rowLength * k) bytes
-    ≡ (a ∷ setBytes s) ++ rest) where
+module _ (bytes : List ℕ) (k a : ℕ) (s : Set) (rest : List ℕ) (whole : Whole s) (holds : Holds (wideIn bytes) s)
+    (here : drop (rowPlace bytes k) bytes ≡ (a ∷ setBytes (wideIn bytes) s) ++ rest) where
   key-read : keyIn bytes k ≡ a
   key-read =
-      ap (λ (n : ℕ). getD bytes n 0) (sym (add-zero (headLength + rowLength * k)))
-      ∙ sym (getD-drop (headLength + rowLength * k) bytes 0 0)
+      ap (λ (n : ℕ). getD bytes n 0) (sym (add-zero (rowPlace bytes k)))
+      ∙ sym (getD-drop (rowPlace bytes k) bytes 0 0)
       ∙ ap (λ (l : List ℕ). getD l 0 0) here
 
   row-read : rowIn bytes k ≡ s
   row-read =
-      set-read bytes (headLength + rowLength * k + 1) s
-      (ap (take setLength) (sym (drop-drop 1 (headLength + rowLength * k) bytes) ∙ ap (drop 1) here)
-      ∙ take-at (setBytes s) rest setLength (length-set s)) whole
+      set-read (wideIn bytes) bytes (rowPlace bytes k + 1) s
+      (ap (take (setLength (wideIn bytes))) (sym (drop-drop 1 (rowPlace bytes k) bytes) ∙ ap (drop 1) here)
+      ∙ take-at (setBytes (wideIn bytes) s) rest (setLength (wideIn bytes)) (length-set (wideIn bytes) s)) whole holds
 
-  rest-read : drop (headLength + rowLength * suc k) bytes ≡ rest
+  rest-read : drop (rowPlace bytes (suc k)) bytes ≡ rest
   rest-read =
-      let next : headLength + rowLength * suc k ≡ headLength + rowLength * k + rowLength = omega arith in
+      let next : rowPlace bytes (suc k) ≡ rowPlace bytes k + rowLength (wideIn bytes) = omega (arith, rows-suc (wideIn bytes) k) in
+      let after : rowLength (wideIn bytes) ≡ length (a ∷ setBytes (wideIn bytes) s) = omega (arith, length-set (wideIn bytes) s) in
       ap (λ (n : ℕ). drop n bytes) next
-      ∙ sym (drop-drop rowLength (headLength + rowLength * k) bytes)
-      ∙ ap (drop rowLength) here
-      ∙ drop-at (setBytes s) rest setLength (length-set s)
+      ∙ sym (drop-drop (rowLength (wideIn bytes)) (rowPlace bytes k) bytes)
+      ∙ ap (drop (rowLength (wideIn bytes))) here
+      ∙ drop-at (a ∷ setBytes (wideIn bytes) s) rest (rowLength (wideIn bytes)) (sym after)
 
 -- ---- row by row
 
-module _ (events : Set) (bytes rows tail : List ℕ) (whole : (b : ℕ) → Whole (rowAt rows b))
+module _ (events : Set) (bytes rows tail : List ℕ) (whole : (b : ℕ) → Whole (rowAt rows b)) (holds : (b : ℕ) → Holds (wideIn bytes) (rowAt rows b))
     (inside : (b : ℕ) → b < width → T (rowWithin events b (rowAt rows b))) where
   -- what is held has the first a rows, and empty ones from there on
   pub record Held (a : ℕ) (held : List ℕ) : Type 0 where
-    pub many : length held ≡ width
+    pub many : length held ≡ rowWords
     pub there : (b : ℕ) → b < a → rowAt held b ≡ rowAt rows b
     pub empty : (b : ℕ) → a ≤ b → rowAt held b ≡ noSet
 
@@ -103,14 +105,14 @@ module _ (events : Set) (bytes rows tail : List ℕ) (whole : (b : ℕ) → Whol
       → rowAt (rowsFilled bytes held (countFrom rows m a) k) b ≡ rowAt rows b) × Legal events bytes a (countFrom rows m a) k
 
   module _ (a m k : ℕ) (l : a < width) (held : List ℕ) (h : Held a held)
-      (here : drop (headLength + rowLength * k) bytes ≡ rowsFrom rows (suc m) a ++ tail) where
-    regrouped : (row : List ℕ) → rowOf a (rowAt rows a) ≡ row
-        → drop (headLength + rowLength * k) bytes ≡ row ++ (rowsFrom rows m (suc a) ++ tail)
+      (here : drop (rowPlace bytes k) bytes ≡ rowsFrom (wideIn bytes) rows (suc m) a ++ tail) where
+    regrouped : (row : List ℕ) → rowOf (wideIn bytes) a (rowAt rows a) ≡ row
+        → drop (rowPlace bytes k) bytes ≡ row ++ (rowsFrom (wideIn bytes) rows m (suc a) ++ tail)
     unfolding rowsFrom
     regrouped row r =
         here
-        ∙ append-assoc (rowOf a (rowAt rows a)) (rowsFrom rows m (suc a)) tail
-        ∙ ap (λ (x : List ℕ). x ++ (rowsFrom rows m (suc a) ++ tail)) r
+        ∙ append-assoc (rowOf (wideIn bytes) a (rowAt rows a)) (rowsFrom (wideIn bytes) rows m (suc a)) tail
+        ∙ ap (λ (x : List ℕ). x ++ (rowsFrom (wideIn bytes) rows m (suc a) ++ tail)) r
 
     -- how many rows, by whether the first is empty
     counted : (b : Bool) → isEmpty (rowAt rows a) ≡ b → countFrom rows (suc m) a ≡ (when b then 0 else 1) + countFrom rows m (suc a)
@@ -119,11 +121,11 @@ module _ (events : Set) (bytes rows tail : List ℕ) (whole : (b : ℕ) → Whol
 
     -- the row is empty: it is not in the file
     skip : isEmpty (rowAt rows a) ≡ true
-        → (Held (suc a) held → drop (headLength + rowLength * k) bytes ≡ rowsFrom rows m (suc a) ++ tail → Back m (suc a) k held)
+        → (Held (suc a) held → drop (rowPlace bytes k) bytes ≡ rowsFrom (wideIn bytes) rows m (suc a) ++ tail → Back m (suc a) k held)
         → Back (suc m) a k held
     skip t ih =
         let count = counted true t ∙ zero-add (countFrom rows m (suc a)) in
-        let next = ih (stays a l held h t) (regrouped [] (row-empty a (rowAt rows a) t)) in (
+        let next = ih (stays a l held h t) (regrouped [] (row-empty (wideIn bytes) a (rowAt rows a) t)) in (
           (λ b low. ap (λ (n : ℕ). rowAt (rowsFilled bytes held n k) b) count ∙ next .0 b low),
           subst (λ (n : ℕ). Legal events bytes a n k) (sym count) (lower (countFrom rows m (suc a)) (next .1)),
         )
@@ -134,15 +136,15 @@ module _ (events : Set) (bytes rows tail : List ℕ) (whole : (b : ℕ) → Whol
 
     -- the row is not empty: its key and its set are read
     take-row : isEmpty (rowAt rows a) ≡ false
-        → (Held (suc a) (withRow held a (rowAt rows a)) → drop (headLength + rowLength * suc k) bytes ≡ rowsFrom rows m (suc a) ++ tail
+        → (Held (suc a) (withRow held a (rowAt rows a)) → drop (rowPlace bytes (suc k)) bytes ≡ rowsFrom (wideIn bytes) rows m (suc a) ++ tail
         → Back m (suc a) (suc k) (withRow held a (rowAt rows a)))
         → Back (suc m) a k held
     unfolding rowsFilled
     take-row t ih =
-        let row = regrouped (a ∷ setBytes (rowAt rows a)) (row-some a (rowAt rows a) t) in
-        let key : keyIn bytes k ≡ a = key-read bytes k a (rowAt rows a) _ (whole a) row in
-        let set : rowIn bytes k ≡ rowAt rows a = row-read bytes k a (rowAt rows a) _ (whole a) row in
-        let next = ih (puts a l held h) (rest-read bytes k a (rowAt rows a) _ (whole a) row) in
+        let row = regrouped (a ∷ setBytes (wideIn bytes) (rowAt rows a)) (row-some (wideIn bytes) a (rowAt rows a) t) in
+        let key : keyIn bytes k ≡ a = key-read bytes k a (rowAt rows a) _ (whole a) (holds a) row in
+        let set : rowIn bytes k ≡ rowAt rows a = row-read bytes k a (rowAt rows a) _ (whole a) (holds a) row in
+        let next = ih (puts a l held h) (rest-read bytes k a (rowAt rows a) _ (whole a) (holds a) row) in
         let count : countFrom rows (suc m) a ≡ suc (countFrom rows m (suc a)) = counted false t ∙ one-add (countFrom rows m (suc a)) in
         let legal : LegalRow events bytes k =
         record {
@@ -160,7 +162,7 @@ module _ (events : Set) (bytes rows tail : List ℕ) (whole : (b : ℕ) → Whol
         )
 
   pub rows-forth : (m a k : ℕ) (held : List ℕ) → a + m ≡ width → Held a held
-      → drop (headLength + rowLength * k) bytes ≡ rowsFrom rows m a ++ tail → Back m a k held
+      → drop (rowPlace bytes k) bytes ≡ rowsFrom (wideIn bytes) rows m a ++ tail → Back m a k held
   unfolding countFrom rowsFilled
   rows-forth zero a k held e h here = ((λ b low. h .there b (omega arith)), tt)
   rows-forth (suc m) a k held e h here =
@@ -168,8 +170,8 @@ module _ (events : Set) (bytes rows tail : List ℕ) (whole : (b : ℕ) → Whol
       (λ h′ here′. rows-forth m (suc a) (suc k) (withRow held a (rowAt rows a)) (omega arith) h′ here′)
     where
       pick : (b : Bool) → isEmpty (rowAt rows a) ≡ b
-          → (Held (suc a) held → drop (headLength + rowLength * k) bytes ≡ rowsFrom rows m (suc a) ++ tail → Back m (suc a) k held)
-          → (Held (suc a) (withRow held a (rowAt rows a)) → drop (headLength + rowLength * suc k) bytes ≡ rowsFrom rows m (suc a) ++ tail
+          → (Held (suc a) held → drop (rowPlace bytes k) bytes ≡ rowsFrom (wideIn bytes) rows m (suc a) ++ tail → Back m (suc a) k held)
+          → (Held (suc a) (withRow held a (rowAt rows a)) → drop (rowPlace bytes (suc k)) bytes ≡ rowsFrom (wideIn bytes) rows m (suc a) ++ tail
           → Back m (suc a) (suc k) (withRow held a (rowAt rows a)))
           → Back (suc m) a k held
       pick true t ih ih′ = skip a m k (omega arith) held h here t ih

@@ -2,25 +2,28 @@
 use mathlib.Core.Path.{_≡_, refl, sym, ap, _∙_, subst}
 use mathlib.Core.Bool.{Bool, true, false}
 use mathlib.Core.List.{List, [], _++_, append-assoc, append-nil}
-use Prim.Native.Nat.{ℕ, zero, suc, _+_, _*_, _≤_, _<_}
+use Prim.Native.Nat.{ℕ, zero, suc, _+_, _-_, _*_, _≤_, _<_}
 use native.Mathlib.Nat.{zero-add, add-zero, not-suc-le-zero}
 use native.Mathlib.Omega.{arith}
 use borrow.Author.Tests.{ltb-true, ltb-false}
-use lib.Dec.{T, ltb}
+use lib.Dec.{T, eqb, ltb}
 use lib.ListN.{length, drop, length-append}
 use lib.Seq.{drop-at}
-use Rattle.sets.specs.Tests.{_and_, when_then_else_}
-use Rattle.sets.specs.Members.{width, those, isEmpty, within}
-use Rattle.sets.specs.Rows.{rowAt, noRows}
+use Rattle.sets.specs.Tests.{_and_, _or_, when_then_else_}
+use Rattle.sets.specs.Members.{width, word, mem, those, isEmpty, within}
+use Rattle.sets.specs.Rows.{rowWords, rowAt, noRows}
 use Rattle.sets.specs.Tables.{tableAt}
+use Rattle.sets.specs.Sizes.{mostActivities}
 use Rattle.bytes.specs.Numbers.{littleEndian, numberLength}
+use Rattle.bytes.specs.Editions.{narrowEdition, wideEdition, editionFor, editionIn, opensFile}
+use Rattle.graphfile.proofs.RowLengths.{rows-most}
 use Rattle.bytes.specs.Opens.{opensWith}
 use Rattle.sets.specs.declared.set.Set.{Set}
 use Rattle.sets.specs.declared.answer.Answer.the-variants.{Done}
-use Rattle.sets.proofs.Tests.{T→true, F→false, split, either}
+use Rattle.sets.proofs.Tests.{T→true, F→false, false→F, and-l, and-r, or-e, split, either}
 use Rattle.sets.proofs.Below.{every-e}
-use Rattle.sets.proofs.Members.{Whole}
-use Rattle.sets.proofs.RowLaws.{row-none, rows-ext}
+use Rattle.sets.proofs.Members.{Whole, whole-low, those-e, within-e, within-i, mem-none, empty-noSet}
+use Rattle.sets.proofs.RowLaws.{row-out, row-none, rows-ext}
 use Rattle.sets.proofs.TableLaws.{length-table, tables-ext}
 use Rattle.engine.specs.Markings.{stateOf}
 use Rattle.engine.specs.Relations.{relationCount, headOf, graphOf, inTables, relationsOf}
@@ -30,21 +33,22 @@ use Rattle.engine.specs.declared.marking.State.{State}
 use Rattle.engine.specs.declared.graph.Graph.{Graph}
 use Rattle.engine.specs.Judged.{stateWithin, rowWithin, rowsWithin, graphWithin, judged}
 use Rattle.engine.proofs.Acceptable.{judged-activities, judged-within, judged-true, events-inside, opening-inside, rows-inside}
-use Rattle.bytes.specs.Sets.{setLength, setBytes}
+use Rattle.bytes.specs.Sets.{setLength, Holds, setBytes}
 use Rattle.bytes.proofs.Parts.{part}
 use Rattle.bytes.proofs.NumberLaws.{number-read}
 use Rattle.bytes.proofs.SetLaws.{set-read}
-use Rattle.graphfile.specs.Layout.{eventsPlace, executedPlace, entriesPlace, entryLength}
-use Rattle.graphfile.specs.Layout.{headLength, rowLength, activitiesIn, eventsIn, stateIn, offsetIn, countIn, sumOf, earlierRows}
-use Rattle.graphfile.specs.Refusals.{judgedRow, judgedFile}
+use Rattle.graphfile.specs.Layout.{wideIn, wideFor, eventsPlace, executedPlace, entriesPlace, entryLength, rowsLength, rowPlace}
+use Rattle.graphfile.specs.Layout.{headLength, activitiesIn, eventsIn, stateIn, offsetIn, countIn, sumOf, earlierRows}
+use Rattle.graphfile.specs.Refusals.{mostRows, judgedRow, judgedFile}
 use Rattle.graphfile.specs.Held.{relationsIn, graphIn}
 use Rattle.graphfile.specs.Writing.{rowsFor, countFrom, rowCount, rowsBefore, entriesBytes, stateBytes, headBytes}
-use Rattle.graphfile.specs.Writing.{relationBytes, relationsBytes, bytesOf}
+use Rattle.graphfile.specs.Writing.{relationBytes, relationsBytes, bytesBy, bytesOf}
 use Rattle.graphfile.proofs.Accepted.{Accepted, Head, acceptable, done-head, done-entry}
 use Rattle.graphfile.proofs.Places.{sum-ext}
 use Rattle.graphfile.proofs.Stores.{length-head, length-entries, length-relations, length-file}
 use Rattle.graphfile.proofs.Legal.{Legal, rowsFilled, length-rowsFilled, relationIn, length-relationsIn, table-read, legal-done}
 use Rattle.graphfile.proofs.GraphBack.{Held, rows-forth}
+use Rattle.graphfile.proofs.WithinForm.{event-below, set-held}
 
 -- a graph as every `Graph` of the code is: whole sets, and four tables
 pub record Machine (g : Graph) : Type 0 where
@@ -53,10 +57,10 @@ pub record Machine (g : Graph) : Type 0 where
   pub pending : Whole (g .head .opening .state .pending)
   pub included : Whole (g .head .opening .state .included)
   pub enabled : Whole (g .head .opening .enabled)
-  pub many : length (g .relations) ≡ relationCount * width
+  pub many : length (g .relations) ≡ relationCount * rowWords
   pub rows : (r a : ℕ) → Whole (rowAt (tableAt (g .relations) r) a)
 
--- ---- a relation has at most 64 rows
+-- ---- a relation has at most as many rows as there are activities
 
 rows-for-le : (s : Set) → rowsFor s ≤ 1
 unfolding rowsFor
@@ -71,17 +75,28 @@ unfolding countFrom
 count-le rows zero a = omega arith
 count-le rows (suc n) a = omega (arith, rows-for-le (rowAt rows a), count-le rows n (suc a))
 
+-- nor more than a number from which on all rows are empty
+count-below : (rows : List ℕ) (n a b : ℕ) → ((x : ℕ) → b ≤ x → rowsFor (rowAt rows x) ≡ 0) → countFrom rows n a ≤ b - a
+unfolding countFrom
+count-below rows zero a b f = omega arith
+count-below rows (suc n) a b f =
+    let rest = count-below rows n (suc a) b f in
+    either (split (ltb a b))
+    (λ t. let l = ltb-true a b (T→true _ t) in omega (arith, rows-for-le (rowAt rows a)))
+    (λ g. let l = ltb-false a b (F→false _ g) in omega (arith, f a l))
+
 -- ---- a relation, from where its rows begin
 
-relation-read : (events : Set) (bytes rows tail : List ℕ) (r k : ℕ) → length rows ≡ width → ((b : ℕ) → Whole (rowAt rows b))
+relation-read : (events : Set) (bytes rows tail : List ℕ) (r k : ℕ) → length rows ≡ rowWords → ((b : ℕ) → Whole (rowAt rows b))
+    → ((b : ℕ) → Holds (wideIn bytes) (rowAt rows b))
     → T (rowsWithin events rows) → eventsIn bytes ≡ events → countIn bytes r ≡ rowCount rows → earlierRows bytes r ≡ k
-    → drop (headLength + rowLength * k) bytes ≡ relationBytes rows ++ tail
+    → drop (rowPlace bytes k) bytes ≡ relationBytes (wideIn bytes) rows ++ tail
     → (relationIn bytes r ≡ rows) × ((j : ℕ) → j < countIn bytes r → judgedRow bytes (earlierRows bytes r) j ≡ Done)
 unfolding rowsWithin relationIn
-relation-read events bytes rows tail r k many whole inside he hc hk here =
-    let none : Held events bytes rows tail whole (λ b l. every-e width (λ a. rowWithin events a (rowAt rows a)) inside b l) 0 noRows =
+relation-read events bytes rows tail r k many whole holds inside he hc hk here =
+    let none : Held events bytes rows tail whole holds (λ b l. every-e width (λ a. rowWithin events a (rowAt rows a)) inside b l) 0 noRows =
     record { many = refl; there = λ b l. absurd (not-suc-le-zero l); empty = λ b l. row-none b } in
-    let back = rows-forth events bytes rows tail whole
+    let back = rows-forth events bytes rows tail whole holds
     (λ b l. every-e width (λ a. rowWithin events a (rowAt rows a)) inside b l) width 0 k noRows refl none here in
     let legal : Legal (eventsIn bytes) bytes 0 (countIn bytes r) (earlierRows bytes r + 0) =
     subst (λ (x : ℕ). Legal (eventsIn bytes) bytes 0 (countIn bytes r) x) (sym (add-zero (earlierRows bytes r) ∙ hk))
@@ -94,28 +109,91 @@ relation-read events bytes rows tail r k many whole inside he hc hk here =
     )
 
 -- relation r among the relations' rows
-relation-within : (tables : List ℕ) (n r : ℕ) → r < n
-    → (tail : List ℕ) × (relationsBytes tables n ≡ relationsBytes tables r ++ (relationBytes (tableAt tables r) ++ tail))
+relation-within : (wide : Bool) (tables : List ℕ) (n r : ℕ) → r < n
+    → (tail : List ℕ) × (relationsBytes wide tables n ≡ relationsBytes wide tables r ++ (relationBytes wide (tableAt tables r) ++ tail))
 unfolding relationsBytes
-relation-within tables zero r l = absurd (not-suc-le-zero l)
-relation-within tables (suc n) r l =
+relation-within wide tables zero r l = absurd (not-suc-le-zero l)
+relation-within wide tables (suc n) r l =
     either (split (ltb r n))
     (λ t.
-    let before = relation-within tables n r (ltb-true r n (T→true _ t)) in (
-      before .0 ++ relationBytes (tableAt tables n),
-      ap (λ (x : List ℕ). x ++ relationBytes (tableAt tables n)) (before .1) ∙ simp append-assoc,
+    let before = relation-within wide tables n r (ltb-true r n (T→true _ t)) in (
+      before .0 ++ relationBytes wide (tableAt tables n),
+      ap (λ (x : List ℕ). x ++ relationBytes wide (tableAt tables n)) (before .1) ∙ simp append-assoc,
     ))
     (λ f.
     let high = ltb-false r n (F→false _ f) in
     let same : n ≡ r = omega arith in (
       [],
-      ap (λ (k : ℕ). relationsBytes tables k ++ relationBytes (tableAt tables k)) same
-          ∙ ap (λ (x : List ℕ). relationsBytes tables r ++ x) (sym (append-nil (relationBytes (tableAt tables r)))),
+      ap (λ (k : ℕ). relationsBytes wide tables k ++ relationBytes wide (tableAt tables k)) same
+          ∙ ap (λ (x : List ℕ). relationsBytes wide tables r ++ x) (sym (append-nil (relationBytes wide (tableAt tables r)))),
     ))
 
--- ---- the file of a graph
+-- ---- the file of a graph, in either form
+
+-- the entries stand where they are written
+count-part : (wide : Bool) (g : Graph) (r : ℕ) → r < relationCount
+    → part (bytesBy wide g) (entriesPlace wide + numberLength + entryLength * r) numberLength ≡ littleEndian numberLength (rowCount (tableAt (g .relations) r))
+unfolding bytesBy headBytes stateBytes entriesBytes setBytes littleEndian
+count-part true g zero l = refl
+count-part true g (suc zero) l = refl
+count-part true g (suc (suc zero)) l = refl
+count-part true g (suc (suc (suc zero))) l = refl
+count-part true g (suc (suc (suc (suc r)))) l = absurd (omega arith)
+count-part false g zero l = refl
+count-part false g (suc zero) l = refl
+count-part false g (suc (suc zero)) l = refl
+count-part false g (suc (suc (suc zero))) l = refl
+count-part false g (suc (suc (suc (suc r)))) l = absurd (omega arith)
+
+offset-part : (wide : Bool) (g : Graph) (r : ℕ) → r < relationCount
+    → part (bytesBy wide g) (entriesPlace wide + entryLength * r) numberLength ≡ littleEndian numberLength (rowsLength wide (rowsBefore (g .relations) r))
+unfolding bytesBy headBytes stateBytes entriesBytes setBytes littleEndian
+offset-part true g zero l = refl
+offset-part true g (suc zero) l = refl
+offset-part true g (suc (suc zero)) l = refl
+offset-part true g (suc (suc (suc zero))) l = refl
+offset-part true g (suc (suc (suc (suc r)))) l = absurd (omega arith)
+offset-part false g zero l = refl
+offset-part false g (suc zero) l = refl
+offset-part false g (suc (suc zero)) l = refl
+offset-part false g (suc (suc (suc zero))) l = refl
+offset-part false g (suc (suc (suc (suc r)))) l = absurd (omega arith)
+
+-- so do the sets
+head-part : (wide : Bool) (g : Graph) → part (bytesBy wide g) eventsPlace (setLength wide) ≡ setBytes wide (g .head .events)
+unfolding bytesBy headBytes setBytes littleEndian
+head-part true g = refl
+head-part false g = refl
+
+state-part : (wide : Bool) (g : Graph)
+    → (part (bytesBy wide g) (executedPlace wide) (setLength wide) ≡ setBytes wide (g .head .opening .state .executed))
+    × (part (bytesBy wide g) (executedPlace wide + setLength wide) (setLength wide) ≡ setBytes wide (g .head .opening .state .pending))
+    × (part (bytesBy wide g) (executedPlace wide + 2 * setLength wide) (setLength wide) ≡ setBytes wide (g .head .opening .state .included))
+unfolding bytesBy headBytes stateBytes setBytes littleEndian
+state-part true g = (refl, refl, refl)
+state-part false g = (refl, refl, refl)
+
+-- the form that goes with A has room for A rows
+form-room : (a : ℕ) → a ≤ mostActivities → a ≤ mostRows (wideFor a)
+unfolding editionFor
+form-room a l = by (ltb word a) refl
+  where
+    by : (b : Bool) → ltb word a ≡ b → a ≤ mostRows (eqb (when b then wideEdition else narrowEdition) wideEdition)
+    by true e = l
+    by false e = ltb-false word a e
+
+edition-known : (a : ℕ) → T (eqb (editionFor a) narrowEdition or eqb (editionFor a) wideEdition)
+unfolding editionFor _or_
+edition-known a = by (ltb word a)
+  where
+    by : (b : Bool) → T (eqb (when b then wideEdition else narrowEdition) narrowEdition or eqb (when b then wideEdition else narrowEdition) wideEdition)
+    by true = tt
+    by false = tt
 
 module _ (g : Graph) (machine : Machine g) (ok : judged g ≡ Done) where
+  abbrev form : Bool
+  form = wideFor (g .head .activities)
+
   abbrev file : List ℕ
   file = bytesOf g
 
@@ -126,31 +204,54 @@ module _ (g : Graph) (machine : Machine g) (ok : judged g ≡ Done) where
   abbrev before : ℕ → ℕ
   before r = rowsBefore (g .relations) r
 
-  events-read : eventsIn file ≡ g .head .events
-  unfolding bytesOf headBytes setBytes littleEndian
-  events-read = set-read file eventsPlace (g .head .events) refl (machine .events)
-
-  activities-read : activitiesIn file ≡ g .head .activities
-  unfolding bytesOf headBytes
-  activities-read = refl
-
-  state-read : stateIn file ≡ g .head .opening .state
-  unfolding bytesOf headBytes stateBytes setBytes littleEndian
-  state-read =
-      (λ i.
-      stateOf (set-read file executedPlace (g .head .opening .state .executed) refl (machine .executed) i)
-      (set-read file (executedPlace + setLength) (g .head .opening .state .pending) refl (machine .pending) i)
-      (set-read file (executedPlace + 2 * setLength) (g .head .opening .state .included) refl (machine .included) i))
-
   within-read : T (graphWithin g)
   within-read = judged-within g 0 ok
 
+  event-low : (x : ℕ) → T (mem (g .head .events) x) → x < g .head .activities
+  event-low x t = event-below g ok x (whole-low (g .head .events) (machine .events) x t) t
+
+  -- the file says its form
+  edition-read : editionIn file ≡ editionFor (g .head .activities)
+  unfolding bytesBy headBytes
+  edition-read = refl
+
+  form-read : wideIn file ≡ form
+  form-read = ap (λ (n : ℕ). eqb n wideEdition) edition-read
+
+  same-inside : (s : Set) → T (within s s)
+  same-inside s = within-i s s (λ a l t. t)
+
+  events-read : eventsIn file ≡ g .head .events
+  unfolding bytesBy headBytes
+  events-read =
+      set-read form file eventsPlace (g .head .events) (head-part form g) (machine .events) (set-held g ok (g .head .events) (machine .events) (same-inside (g .head .events)))
+
+  activities-read : activitiesIn file ≡ g .head .activities
+  unfolding bytesBy headBytes
+  activities-read = refl
+
+  state-read : stateIn file ≡ g .head .opening .state
+  unfolding bytesBy headBytes stateWithin
+  state-read =
+      let s = g .head .opening .state in
+      let inside = opening-inside g within-read in
+      let parts = state-part form g in
+      λ i.
+      stateOf
+      (set-read form file (executedPlace form) (s .executed) (parts .0) (machine .executed) (set-held g ok (s .executed) (machine .executed) (and-l _ _ (and-l _ _ inside))) i)
+      (set-read form file (executedPlace form + setLength form) (s .pending) (parts .1) (machine .pending)
+      (set-held g ok (s .pending) (machine .pending) (and-r _ _ (and-l _ _ inside))) i)
+      (set-read form file (executedPlace form + 2 * setLength form) (s .included) (parts .2) (machine .included)
+      (set-held g ok (s .included) (machine .included) (and-r _ _ inside)) i)
+
   head-read : Head file
-  unfolding bytesOf headBytes opensWith _and_
+  unfolding bytesBy headBytes opensFile opensWith _and_
   head-read =
       record {
-        opens = tt;
+        opens = edition-known (g .head .activities);
+        long = omega (arith, length-file form g);
         few = judged-activities g 0 ok;
+        edition = refl;
         events = subst (λ (s : Set). T (within s (those (λ a. ltb a (g .head .activities))))) (sym events-read)
             (events-inside g within-read);
         marking = subst (λ (s : Set). T (stateWithin s (stateIn file))) (sym events-read)
@@ -167,27 +268,15 @@ module _ (g : Graph) (machine : Machine g) (ok : judged g ≡ Done) where
   before-few zero = omega arith
   before-few (suc r) = omega (arith, few r, before-few r)
 
-  count-part : (r : ℕ) → r < relationCount → part file (entriesPlace + numberLength + entryLength * r) numberLength ≡ littleEndian numberLength (count r)
-  unfolding bytesOf headBytes stateBytes entriesBytes setBytes littleEndian
-  count-part zero l = refl
-  count-part (suc zero) l = refl
-  count-part (suc (suc zero)) l = refl
-  count-part (suc (suc (suc zero))) l = refl
-  count-part (suc (suc (suc (suc r)))) l = absurd (omega arith)
-
-  offset-part : (r : ℕ) → r < relationCount → part file (entriesPlace + entryLength * r) numberLength ≡ littleEndian numberLength (rowLength * before r)
-  unfolding bytesOf headBytes stateBytes entriesBytes setBytes littleEndian
-  offset-part zero l = refl
-  offset-part (suc zero) l = refl
-  offset-part (suc (suc zero)) l = refl
-  offset-part (suc (suc (suc zero))) l = refl
-  offset-part (suc (suc (suc (suc r)))) l = absurd (omega arith)
-
   count-read : (r : ℕ) → r < relationCount → countIn file r ≡ count r
-  count-read r l = number-read file numberLength (entriesPlace + numberLength + entryLength * r) (count r) (count-part r l) (omega (arith, few r))
+  unfolding bytesBy headBytes
+  count-read r l = number-read file numberLength (entriesPlace form + numberLength + entryLength * r) (count r) (count-part form g r l) (omega (arith, few r))
 
-  offset-read : (r : ℕ) → r < relationCount → offsetIn file r ≡ rowLength * before r
-  offset-read r l = number-read file numberLength (entriesPlace + entryLength * r) (rowLength * before r) (offset-part r l) (omega (arith, before-few r))
+  offset-read : (r : ℕ) → r < relationCount → offsetIn file r ≡ rowsLength form (before r)
+  unfolding bytesBy headBytes
+  offset-read r l =
+      number-read file numberLength (entriesPlace form + entryLength * r) (rowsLength form (before r)) (offset-part form g r l)
+      (omega (arith, before-few r, rows-most form (before r)))
 
   before-read : (r : ℕ) → r ≤ relationCount → earlierRows file r ≡ before r
   before-read r l = sum-ext (countIn file) count r (λ k h. count-read k (omega arith))
@@ -195,28 +284,40 @@ module _ (g : Graph) (machine : Machine g) (ok : judged g ≡ Done) where
   -- ---- the relations
 
   abbrev front : List ℕ
-  front = headBytes (g .head) ++ entriesBytes (g .relations) relationCount
+  front = headBytes form (g .head) ++ entriesBytes form (g .relations) relationCount
 
   begins : (r : ℕ) (tail : List ℕ)
-      → relationsBytes (g .relations) relationCount ≡ relationsBytes (g .relations) r ++ (relationBytes (tableAt (g .relations) r) ++ tail)
-      → drop (headLength + rowLength * before r) file ≡ relationBytes (tableAt (g .relations) r) ++ tail
-  unfolding bytesOf
+      → relationsBytes form (g .relations) relationCount ≡ relationsBytes form (g .relations) r ++ (relationBytes form (tableAt (g .relations) r) ++ tail)
+      → drop (headLength form + rowsLength form (before r)) file ≡ relationBytes form (tableAt (g .relations) r) ++ tail
+  unfolding bytesBy
   begins r tail e =
-      let earlier = relationsBytes (g .relations) r in
-      let rest = relationBytes (tableAt (g .relations) r) ++ tail in
-      ap (drop (headLength + rowLength * before r)) (ap (λ (x : List ℕ). front ++ x) e ∙ sym (append-assoc front earlier rest))
-      ∙ drop-at (front ++ earlier) rest (headLength + rowLength * before r)
+      let earlier = relationsBytes form (g .relations) r in
+      let rest = relationBytes form (tableAt (g .relations) r) ++ tail in
+      let at : ℕ = headLength form + rowsLength form (before r) in
+      ap (drop at) (ap (λ (x : List ℕ). front ++ x) e ∙ sym (append-assoc front earlier rest))
+      ∙ drop-at (front ++ earlier) rest at
       (simp length-append (omega
-      (arith, length-head (g .head), length-entries (g .relations) relationCount, length-relations (g .relations) r)))
+      (arith, length-head form (g .head), length-entries form (g .relations) relationCount, length-relations form (g .relations) r)))
 
-  table-length : (r : ℕ) → r < relationCount → length (tableAt (g .relations) r) ≡ width
+  table-length : (r : ℕ) → r < relationCount → length (tableAt (g .relations) r) ≡ rowWords
   table-length r l = length-table relationCount (g .relations) r (machine .many) l
+
+  -- the form holds every row
+  row-held : (r : ℕ) → r < relationCount → (b : ℕ) → Holds form (rowAt (tableAt (g .relations) r) b)
+  unfolding rowsWithin rowWithin
+  row-held r l b =
+      either (split (ltb b width))
+      (λ t.
+      set-held g ok (rowAt (tableAt (g .relations) r) b) (machine .rows r b)
+      (and-l _ _ (every-e width (λ a. rowWithin (g .head .events) a (rowAt (tableAt (g .relations) r) a)) (rows-inside g within-read r l) b (ltb-true b width (T→true _ t)))))
+      (λ f. subst (Holds form) (row-out (tableAt (g .relations) r) b (ltb-false b width (F→false _ f))) (λ x t. absurd (false→F (mem-none x) t)))
 
   table-back : (r : ℕ) → r < relationCount
       → (relationIn file r ≡ tableAt (g .relations) r) × ((j : ℕ) → j < countIn file r → judgedRow file (earlierRows file r) j ≡ Done)
+  unfolding bytesBy headBytes
   table-back r l =
-      let here = relation-within (g .relations) relationCount r l in
-      relation-read (g .head .events) file (tableAt (g .relations) r) (here .0) r (before r) (table-length r l) (machine .rows r)
+      let here = relation-within form (g .relations) relationCount r l in
+      relation-read (g .head .events) file (tableAt (g .relations) r) (here .0) r (before r) (table-length r l) (machine .rows r) (row-held r l)
       (rows-inside g within-read r l) events-read (count-read r l) (before-read r (omega arith)) (begins r (here .0) (here .1))
 
   relations-read : relationsIn file relationCount ≡ g .relations
@@ -224,16 +325,38 @@ module _ (g : Graph) (machine : Machine g) (ok : judged g ≡ Done) where
       tables-ext relationCount (relationsIn file relationCount) (g .relations) (length-relationsIn file relationCount) (machine .many)
       (λ r l. table-read file relationCount r l (omega arith) ∙ table-back r l .0)
 
+  -- a relation has no more rows than its form allows: one for each event, and those are below A
+  none-above : (r : ℕ) → r < relationCount → (x : ℕ) → g .head .activities ≤ x → rowsFor (rowAt (tableAt (g .relations) r) x) ≡ 0
+  unfolding rowsWithin rowWithin rowsFor
+  none-above r l x far =
+      ap (λ (b : Bool). when b then 0 else 1)
+      (either (split (ltb x width))
+      (λ t.
+      let inside = every-e width (λ a. rowWithin (g .head .events) a (rowAt (tableAt (g .relations) r) a)) (rows-inside g within-read r l) x (ltb-true x width (T→true _ t)) in
+      either (or-e (mem (g .head .events) x) (isEmpty (rowAt (tableAt (g .relations) r) x)) (and-r _ _ inside))
+      (λ m. let low = event-low x m in absurd (omega arith))
+      (λ e. T→true _ e))
+      (λ f. ap isEmpty (sym (row-out (tableAt (g .relations) r) x (ltb-false x width (F→false _ f)))) ∙ empty-noSet))
+
+  rows-few : (r : ℕ) → r < relationCount → countIn file r ≤ mostRows form
+  rows-few r l =
+      let count-is = count-read r l in
+      let low = count-below (tableAt (g .relations) r) width 0 (g .head .activities) (none-above r l) in
+      omega (arith, form-room (g .head .activities) (judged-activities g 0 ok))
+
   -- ---- the file is accepted, and holds the graph
 
   file-accepted : Accepted file
   file-accepted =
       record {
-        long = omega (arith, length-file g);
+        long = head-read .long;
         head = done-head file head-read;
         entry = λ r l.
-            done-entry file r (omega (arith, few r, count-read r l)) (omega (arith, offset-read r l, before-read r (omega arith)));
-        end = omega (arith, length-file g, before-read relationCount (omega arith));
+            done-entry file r (subst (λ (w : Bool). countIn file r ≤ mostRows w) (sym form-read) (rows-few r l))
+            (offset-read r l ∙ (λ i. rowsLength (sym form-read i) (sym (before-read r (omega arith)) i)));
+        end =
+            length-file form g
+            ∙ (λ i. headLength (sym form-read i) + rowsLength (sym form-read i) (sym (before-read relationCount (omega arith)) i));
         row = λ r l. table-back r l .1;
       }
 

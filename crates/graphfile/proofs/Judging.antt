@@ -13,63 +13,66 @@ use Rattle.sets.specs.declared.set.Set.{Set}
 use Rattle.sets.specs.declared.answer.Answer.{Answer}
 use Rattle.sets.specs.declared.answer.Answer.the-variants.{Done, TooShort, WrongLetters, AboveLimit, WrongOffset, Outside, BadRow}
 use Rattle.engine.specs.Judged.{stateWithin}
-use Rattle.sets.specs.Sizes.{mostActivities}
-use Rattle.bytes.specs.Opens.{opensWith}
+use Rattle.bytes.specs.Sets.{setAt}
+use Rattle.bytes.specs.Editions.{editionIn, opensFile, beyond}
 use Rattle.engine.specs.declared.marking.State.{State}
 use Rattle.engine.specs.Relations.{relationCount}
-use Rattle.graphfile.specs.Layout.{mark, headLength, rowLength, activitiesIn, eventsIn, stateIn, offsetIn, countIn}
+use Rattle.graphfile.specs.Layout.{letters, wideIn, eventsPlace, headLength, rowsLength, activitiesIn, eventsIn, stateIn, offsetIn, countIn}
 use Rattle.graphfile.specs.Layout.{earlierRows, keyIn, rowIn, endOf}
-use Rattle.graphfile.specs.Refusals.{mostRows, judgedHead, judgedEntry, judgedEnd, rises, rowAnswer, judgedRow}
+use Rattle.graphfile.specs.Refusals.{mostRows, judgedSets, judgedHead, judgedEntry, judgedEnd, rises, rowAnswer, judgedRow}
 
 -- ---- the end
 
-module _ (bytes : List ℕ) (rows : ℕ) (e : rows ≡ earlierRows bytes relationCount) where
-  end-is : headLength + rowLength * rows ≡ endOf bytes
-  end-is = ap (λ (n : ℕ). headLength + rowLength * n) e
+module _ (bytes : List ℕ) (wide : Bool) (hw : wide ≡ wideIn bytes) (head rows long : ℕ) (hh : head ≡ headLength wide)
+    (e : rows ≡ earlierRows bytes relationCount) (hl : long ≡ rowsLength wide rows) where
+  end-is : head + long ≡ endOf bytes
+  end-is = λ i. (hh ∙ ap headLength hw) i + (hl ∙ (λ j. rowsLength (hw j) (e j))) i
 
-  pub end-short : length bytes < headLength + rowLength * rows → TooShort ≡ judgedEnd bytes
+  pub end-short : length bytes < head + long → TooShort ≡ judgedEnd bytes
   unfolding judgedEnd
   end-short l = rw (lt-ltb (length bytes) (endOf bytes) (omega (arith, end-is)))
 
-  pub end-more : headLength + rowLength * rows ≤ length bytes → headLength + rowLength * rows < length bytes → WrongOffset ≡ judgedEnd bytes
+  pub end-more : head + long ≤ length bytes → head + long < length bytes → WrongOffset ≡ judgedEnd bytes
   unfolding judgedEnd
-  end-more m l = rw (
-    le-ltb (length bytes) (endOf bytes) (omega (arith, end-is)),
-    lt-ltb (endOf bytes) (length bytes)
-        (omega (arith, end-is)),
-  )
+  end-more m l = rw (le-ltb (length bytes) (endOf bytes) (omega (arith, end-is)), lt-ltb (endOf bytes) (length bytes) (omega (arith, end-is)))
 
-  pub end-right : headLength + rowLength * rows ≤ length bytes → length bytes ≤ headLength + rowLength * rows → Done ≡ judgedEnd bytes
+  pub end-right : head + long ≤ length bytes → length bytes ≤ head + long → Done ≡ judgedEnd bytes
   unfolding judgedEnd
-  end-right m l = rw (
-    le-ltb (length bytes) (endOf bytes) (omega (arith, end-is)),
-    le-ltb (endOf bytes) (length bytes)
-        (omega (arith, end-is)),
-  )
+  end-right m l = rw (le-ltb (length bytes) (endOf bytes) (omega (arith, end-is)), le-ltb (endOf bytes) (length bytes) (omega (arith, end-is)))
 
 pub ruleset ends = (end-short, end-more, end-right)
 
 -- ---- an entry
 
-module _ (bytes : List ℕ) (r count : ℕ) (e : count ≡ countIn bytes r) where
-  pub entry-many : mostRows < count → AboveLimit ≡ judgedEntry bytes r
-  unfolding judgedEntry
-  entry-many l = rw (lt-ltb mostRows (countIn bytes r) (omega arith))
+module _ (bytes : List ℕ) (r count most : ℕ) (wide : Bool) (hw : wide ≡ wideIn bytes) (e : count ≡ countIn bytes r) (hm : most ≡ mostRows wide) where
+  most-is : most ≡ mostRows (wideIn bytes)
+  most-is = hm ∙ ap mostRows hw
 
-  module _ (few : count ≤ mostRows) (offset rows : ℕ) (o : offset ≡ offsetIn bytes r) (f : rows ≡ earlierRows bytes r) where
-    pub entry-off : (offset ≡ rowLength * rows → ⊥) → WrongOffset ≡ judgedEntry bytes r
+  pub entry-many : most < count → AboveLimit ≡ judgedEntry bytes r
+  unfolding judgedEntry
+  entry-many l = rw (lt-ltb (mostRows (wideIn bytes)) (countIn bytes r) (omega (arith, most-is)))
+
+  module _ (few : count ≤ most) (offset rows long : ℕ) (o : offset ≡ offsetIn bytes r) (f : rows ≡ earlierRows bytes r) (g : long ≡ rowsLength wide rows) where
+    long-is : long ≡ rowsLength (wideIn bytes) (earlierRows bytes r)
+    long-is = g ∙ (λ i. rowsLength (hw i) (f i))
+
+    pub entry-off : (offset ≡ long → ⊥) → WrongOffset ≡ judgedEntry bytes r
     unfolding judgedEntry non
     entry-off n =
         rw (
-          le-ltb mostRows (countIn bytes r) (omega arith),
-          ne-eqb (offsetIn bytes r) (rowLength * earlierRows bytes r)
-              (λ q. n (omega arith)),
+          le-ltb (mostRows (wideIn bytes)) (countIn bytes r) (omega (arith, most-is)),
+          ne-eqb (offsetIn bytes r) (rowsLength (wideIn bytes) (earlierRows bytes r))
+              (λ q. n (o ∙ q ∙ sym long-is)),
         )
 
-    pub entry-right : offset ≡ rowLength * rows → Done ≡ judgedEntry bytes r
+    pub entry-right : offset ≡ long → Done ≡ judgedEntry bytes r
     unfolding judgedEntry non
     entry-right q =
-        rw (le-ltb mostRows (countIn bytes r) (omega arith), eq-eqb (offsetIn bytes r) (rowLength * earlierRows bytes r) (omega arith))
+        rw (
+          le-ltb (mostRows (wideIn bytes)) (countIn bytes r) (omega (arith, most-is)),
+          eq-eqb (offsetIn bytes r) (rowsLength (wideIn bytes) (earlierRows bytes r))
+              (sym o ∙ q ∙ long-is),
+        )
 
 pub ruleset entries = (entry-many, entry-off, entry-right)
 
@@ -121,51 +124,65 @@ pub row-judged : (bytes : List ℕ) (first j key : ℕ) (events row : Set) (abov
     → row ≡ rowIn bytes (first + j) → above ≡ rises bytes first j → a ≡ rowAnswer events key row above → a ≡ judgedRow bytes first j
 row-judged bytes first j key events row above a he hk hr ha h = h ∙ (λ i. rowAnswer (he i) (hk i) (hr i) (ha i))
 
+-- ---- the events and the marking
+
+-- the answer by what was found: the events below A, the marking within them
+abbrev setsAnswer : Bool → Bool → Answer
+setsAnswer low within = when non low then Outside else when non within then Outside else Done
+
+module _ (bytes : List ℕ) (wide : Bool) (hw : wide ≡ wideIn bytes) (events low : Set) (t : Bool) (he : events ≡ setAt wide bytes eventsPlace)
+    (hb : low ≡ those (λ x. ltb x (activitiesIn bytes))) (ht : t ≡ within events low) where
+  events-are : events ≡ eventsIn bytes
+  events-are = he ∙ ap (λ (b : Bool). setAt b bytes eventsPlace) hw
+
+  sets-are : (e m : Bool) → t ≡ e → stateWithin (eventsIn bytes) (stateIn bytes) ≡ m → setsAnswer e m ≡ judgedSets bytes
+  unfolding judgedSets
+  sets-are e m pe pm = λ i. setsAnswer ((sym pe ∙ ht ∙ ap₂ within events-are hb) i) (sym pm i)
+
+  pub sets-events : not t ≡ true → Outside ≡ judgedSets bytes
+  unfolding non
+  sets-events n = sets-are false _ (not-true t n) refl
+
+  module _ (nt : not t ≡ false) (state : State) (m : Bool) (hk : wide ≡ wideIn bytes → state ≡ stateIn bytes) (hm : m ≡ stateWithin events state) where
+    state-there : stateWithin (eventsIn bytes) (stateIn bytes) ≡ m
+    state-there = sym (hm ∙ ap₂ stateWithin events-are (hk hw))
+
+    pub sets-marking : not m ≡ true → Outside ≡ judgedSets bytes
+    unfolding non
+    sets-marking n = sets-are true false (not-false t nt) (state-there ∙ not-true m n)
+
+    pub sets-right : not m ≡ false → Done ≡ judgedSets bytes
+    unfolding non
+    sets-right n = sets-are true true (not-false t nt) (state-there ∙ not-false m n)
+
+pub ruleset both-sets = (sets-events, sets-marking, sets-right)
+
 -- ---- the head
 
--- the answer to a head by what was found: the letters right, A above its limit, the events below A, the marking within them
-abbrev headAnswer : Bool → Bool → Bool → Bool → Answer
-headAnswer right above low within = when non right then WrongLetters else when above then AboveLimit else when non low then Outside else when non within then Outside else Done
-
-module _ (bytes : List ℕ) (l : Bool) (hl : l ≡ opensWith mark bytes) where
-  head-is : (r a e m : Bool) → l ≡ r → ltb mostActivities (activitiesIn bytes) ≡ a
-      → within (eventsIn bytes) (those (λ x. ltb x (activitiesIn bytes))) ≡ e
-      → stateWithin (eventsIn bytes) (stateIn bytes) ≡ m → headAnswer r a e m ≡ judgedHead bytes
-  unfolding judgedHead
-  head-is r a e m pl pa pe pm = λ i. headAnswer ((sym pl ∙ hl) i) (sym pa i) (sym pe i) (sym pm i)
-
+module _ (bytes : List ℕ) (l : Bool) (hl : l ≡ opensFile letters bytes) where
   pub head-letters : not l ≡ true → WrongLetters ≡ judgedHead bytes
-  unfolding non
-  head-letters n = head-is false _ _ _ (not-true l n) refl refl refl
+  unfolding judgedHead non
+  head-letters n = rw (← hl, not-true l n)
 
-  module _ (nl : not l ≡ false) where
-    pub head-above : mostActivities < activitiesIn bytes → AboveLimit ≡ judgedHead bytes
-    unfolding non
-    head-above h = head-is true true _ _ (not-false l nl) (lt-ltb mostActivities (activitiesIn bytes) h) refl refl
+  module _ (nl : not l ≡ false) (wide : Bool) (hw : wide ≡ wideIn bytes) (n : ℕ) (hn : n ≡ headLength wide) where
+    head-is : n ≡ headLength (wideIn bytes)
+    head-is = hn ∙ ap headLength hw
 
-    module _ (na : activitiesIn bytes ≤ mostActivities) (events low : Set) (t : Bool) (he : events ≡ eventsIn bytes) (hb : low
-        ≡ those (λ x. ltb x (activitiesIn bytes))) (ht : t ≡ within events low) where
-      low-is : (b : Bool) → t ≡ b → within (eventsIn bytes) (those (λ x. ltb x (activitiesIn bytes))) ≡ b
-      low-is b e = sym (ap₂ within he hb) ∙ sym ht ∙ e
+    pub head-short : length bytes < n → TooShort ≡ judgedHead bytes
+    unfolding judgedHead non
+    head-short s = rw (← hl, not-false l nl, lt-ltb (length bytes) (headLength (wideIn bytes)) (omega (arith, head-is)))
 
-      pub head-events : not t ≡ true → Outside ≡ judgedHead bytes
-      unfolding non
-      head-events n = head-is true false false _ (not-false l nl) (le-ltb mostActivities (activitiesIn bytes) na)
-          (low-is false (not-true t n)) refl
+    module _ (long : n ≤ length bytes) (e : ℕ) (he : e ≡ editionIn bytes) (b : Bool) (hb : b ≡ beyond e (activitiesIn bytes)) where
+      is-beyond : beyond (editionIn bytes) (activitiesIn bytes) ≡ b
+      is-beyond = ap (λ (x : ℕ). beyond x (activitiesIn bytes)) (sym he) ∙ sym hb
 
-      module _ (nt : not t ≡ false) (marking : State) (m : Bool) (hk : marking ≡ stateIn bytes) (hm : m
-          ≡ stateWithin events marking) where
-        marked : (b : Bool) → m ≡ b → headAnswer true false true b ≡ judgedHead bytes
-        marked b e =
-            head-is true false true b (not-false l nl) (le-ltb mostActivities (activitiesIn bytes) na) (low-is true (not-false t nt))
-            (sym (ap₂ stateWithin he hk) ∙ sym hm ∙ e)
+      pub head-above : b ≡ true → AboveLimit ≡ judgedHead bytes
+      unfolding judgedHead non
+      head-above t = rw (← hl, not-false l nl, le-ltb (length bytes) (headLength (wideIn bytes)) (omega (arith, head-is)), is-beyond, t)
 
-        pub head-marking : not m ≡ true → Outside ≡ judgedHead bytes
-        unfolding non
-        head-marking n = marked false (not-true m n)
+      pub head-sets : (a : Answer) → b ≡ false → a ≡ judgedSets bytes → a ≡ judgedHead bytes
+      unfolding judgedHead non
+      head-sets a t h =
+          h ∙ rw (← hl, not-false l nl, le-ltb (length bytes) (headLength (wideIn bytes)) (omega (arith, head-is)), is-beyond, t)
 
-        pub head-right : not m ≡ false → Done ≡ judgedHead bytes
-        unfolding non
-        head-right n = marked true (not-false m n)
-
-pub ruleset heads = (head-letters, head-above, head-events, head-marking, head-right)
+pub ruleset heads = (head-letters, head-short, head-above, head-sets)

@@ -11,7 +11,7 @@ use lib.Dec.{T, eqb, ltb, eqb→eq}
 use lib.ListN.{length, length-replicate}
 use Rattle.sets.specs.Tests.{_or_, non}
 use Rattle.sets.specs.Members.{width, mem, isEmpty, within}
-use Rattle.sets.specs.Rows.{noRows, rowAt, withRow}
+use Rattle.sets.specs.Rows.{rowWords, noRows, rowAt, withRow}
 use Rattle.sets.specs.Tables.{tableAt, withRowIn}
 use Rattle.sets.specs.declared.set.Set.{Set}
 use Rattle.sets.specs.declared.answer.Answer.the-variants.{Done, Outside, BadRow}
@@ -66,7 +66,7 @@ module _ (events : Set) (bytes : List ℕ) where
       ∙ row-put-other rows (keyIn bytes k) (rowIn bytes k) b (λ e. omega arith)
 
   -- at the first key stands its set
-  pub filled-first : (rows : List ℕ) (a n k : ℕ) → length rows ≡ width → Legal events bytes a (suc n) k
+  pub filled-first : (rows : List ℕ) (a n k : ℕ) → length rows ≡ rowWords → Legal events bytes a (suc n) k
       → rowAt (rowsFilled bytes rows (suc n) k) (keyIn bytes k) ≡ rowIn bytes k
   unfolding rowsFilled
   filled-first rows a n k e l =
@@ -78,7 +78,7 @@ module _ (events : Set) (bytes : List ℕ) where
   unfolding rowWithin
   row-inside k l = and-i _ _ (l .inside) (or-l _ _ (l .event))
 
-  pub filled-inside : (rows : List ℕ) (a n k : ℕ) → length rows ≡ width → Legal events bytes a n k
+  pub filled-inside : (rows : List ℕ) (a n k : ℕ) → length rows ≡ rowWords → Legal events bytes a n k
       → ((b : ℕ) → b < width → T (rowWithin events b (rowAt rows b))) → (b : ℕ) → b < width
       → T (rowWithin events b (rowAt (rowsFilled bytes rows n k) b))
   unfolding rowsFilled
@@ -128,9 +128,9 @@ module _ (bytes : List ℕ) (r : ℕ) where
 unfoldable pub relationIn : List ℕ → ℕ → List ℕ
 relationIn bytes r = rowsFilled bytes noRows (countIn bytes r) (earlierRows bytes r)
 
-pub length-relationsIn : (bytes : List ℕ) (n : ℕ) → length (relationsIn bytes n) ≡ relationCount * width
+pub length-relationsIn : (bytes : List ℕ) (n : ℕ) → length (relationsIn bytes n) ≡ relationCount * rowWords
 unfolding withRelations
-length-relationsIn bytes zero = length-replicate {A = ℕ} (relationCount * width) 0
+length-relationsIn bytes zero = length-replicate {A = ℕ} (relationCount * rowWords) 0
 length-relationsIn bytes (suc n) =
     length-filled bytes n (countIn bytes n) (earlierRows bytes n) (relationsIn bytes n) ∙ length-relationsIn bytes n
 

@@ -1,4 +1,6 @@
 -- The modules of `proofs/` that belong to no one function.
+pub mod RowLengths
+pub mod Forms
 pub mod Places
 pub mod Asking
 pub mod Judging
@@ -10,6 +12,7 @@ pub mod Writes
 pub mod Legal
 pub mod FileBack
 pub mod GraphBack
+pub mod WithinForm
 pub mod GraphFile
 pub mod RoundTrips
 pub mod LoneMarkings

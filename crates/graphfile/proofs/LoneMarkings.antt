@@ -6,16 +6,15 @@ use mathlib.Core.Logic.{inl, inr}
 use mathlib.Core.List.{List, _++_}
 use Prim.Native.Nat.{ℕ, _+_, _*_, _≤_}
 use native.Mathlib.Omega.{arith}
-use borrow.Author.Tests.{le-ltb, not-true, not-false}
+use borrow.Author.Tests.{le-ltb, ltb-false, not-true, not-false}
 use lib.Dec.{ltb}
 use lib.ListN.{length, take, drop, length-append}
 use lib.Seq.{sets, length-sets, drop-drop}
 use Rattle.sets.specs.Tests.{when_then_else_}
 use Rattle.bytes.specs.Numbers.{littleEndian}
 use Rattle.sets.proofs.Members.{Whole}
-use Rattle.bytes.specs.Sets.{setLength, setBytes, setAt, setPut}
+use Rattle.bytes.specs.Sets.{setLength, Holds, setBytes, setAt, setPut}
 use Rattle.bytes.proofs.Parts.{part, follow, Apart, drop-stored}
-use Rattle.bytes.proofs.Rooms.{room, room-not}
 use Rattle.bytes.proofs.SetLaws.{length-set, set-stored, set-read, set-apart}
 use Rattle.engine.specs.Markings.{emptyMarking, stateOf, markingOf}
 use Rattle.engine.specs.declared.marking.Marking.{Marking}
@@ -26,58 +25,69 @@ use Rattle.graphfile.proofs.Stores.{length-state}
 
 -- ---- ways through the code
 
-module _ (bytes : List ℕ) (at : ℕ) (few : Bool) (e : few ≡ ltb (length bytes) (at + markingLength)) where
-  pub held-none : few ≡ true → emptyMarking ≡ markingHeld bytes at
-  unfolding markingHeld
-  held-none h = ap (λ (t : Bool). when t then emptyMarking else markingAt bytes at) (sym h ∙ e)
+module _ (wide : Bool) (bytes : List ℕ) (at : ℕ) (few : Bool) (n : ℕ) (hn : n ≡ markingLength wide) (e₀ : few ≡ ltb (length bytes) (at + n)) where
+  e : few ≡ ltb (length bytes) (at + markingLength wide)
+  e = e₀ ∙ ap (λ (k : ℕ). ltb (length bytes) (at + k)) hn
 
-  pub held-some : (m : Marking) → few ≡ false → m ≡ markingAt bytes at → m ≡ markingHeld bytes at
-  unfolding markingHeld
-  held-some m h k = k ∙ ap (λ (t : Bool). when t then emptyMarking else markingAt bytes at) (sym h ∙ e)
+  pub marking-room : few ≡ false → at + markingLength wide ≤ length bytes
+  marking-room h = ltb-false (length bytes) (at + markingLength wide) (sym e ∙ h)
 
-  pub put-nothing : (m : Marking) → not few ≡ false → bytes ≡ markingPut m bytes at
+  pub marking-room-not : not few ≡ true → at + markingLength wide ≤ length bytes
+  marking-room-not h = marking-room (not-true few h)
+
+  pub held-none : few ≡ true → emptyMarking ≡ markingHeld wide bytes at
+  unfolding markingHeld
+  held-none h = ap (λ (t : Bool). when t then emptyMarking else markingAt wide bytes at) (sym h ∙ e)
+
+  pub held-some : (m : Marking) → few ≡ false → m ≡ markingAt wide bytes at → m ≡ markingHeld wide bytes at
+  unfolding markingHeld
+  held-some m h k = k ∙ ap (λ (t : Bool). when t then emptyMarking else markingAt wide bytes at) (sym h ∙ e)
+
+  pub put-nothing : (m : Marking) → not few ≡ false → bytes ≡ markingPut wide m bytes at
   unfolding markingPut
   put-nothing m h =
-      ap (λ (t : Bool). when t then bytes else sets bytes at (markingBytes m)) (sym (not-false few h) ∙ e)
+      ap (λ (t : Bool). when t then bytes else sets bytes at (markingBytes wide m)) (sym (not-false few h) ∙ e)
 
-  pub put-some : (m : Marking) (bytes′ : List ℕ) → not few ≡ true → bytes′ ≡ sets bytes at (markingBytes m) → bytes′ ≡ markingPut m bytes at
+  pub put-some : (m : Marking) (bytes′ : List ℕ) → not few ≡ true → bytes′ ≡ sets bytes at (markingBytes wide m) → bytes′ ≡ markingPut wide m bytes at
   unfolding markingPut
-  put-some m bytes′ h k = k ∙ ap (λ (t : Bool). when t then bytes else sets bytes at (markingBytes m)) (sym (not-true few h) ∙ e)
+  put-some m bytes′ h k = k ∙ ap (λ (t : Bool). when t then bytes else sets bytes at (markingBytes wide m)) (sym (not-true few h) ∙ e)
 
-pub ruleset lone = (room, room-not, held-none, held-some, put-nothing, put-some)
+pub ruleset lone = (marking-room, marking-room-not, held-none, held-some, put-nothing, put-some)
 
-pub length-marking : (m : Marking) → length (markingBytes m) ≡ markingLength
+pub length-marking : (wide : Bool) (m : Marking) → length (markingBytes wide m) ≡ markingLength wide
 unfolding markingBytes
-length-marking m = simp length-append (omega (arith, length-state (m .state), length-set (m .enabled)))
+length-marking wide m = simp length-append (omega (arith, length-state wide (m .state), length-set wide (m .enabled)))
 
 -- what a file holds of a marking, then the set
-pub marking-stored : (o o₁ o₂ : List ℕ) (m : Marking) (at : ℕ) → at + markingLength ≤ length o → o₁ ≡ sets o at (stateBytes (m .state))
-    → o₂ ≡ setPut o₁ (at + stateLength) (m .enabled) → o₂ ≡ sets o at (markingBytes m)
+pub marking-stored : (wide : Bool) (o o₁ o₂ : List ℕ) (m : Marking) (at n : ℕ) → n ≡ setLength wide → at + markingLength wide ≤ length o
+    → o₁ ≡ sets o at (stateBytes wide (m .state)) → o₂ ≡ setPut wide o₁ (at + 3 * n) (m .enabled) → o₂ ≡ sets o at (markingBytes wide m)
 unfolding markingBytes
-marking-stored o o₁ o₂ m at room h₁ h₂ =
-    let kept = ap length h₁ ∙ length-sets o at (stateBytes (m .state)) in
-    follow o o₁ o₂ (stateBytes (m .state)) (setBytes (m .enabled)) at (at + stateLength) (omega (arith, length-state (m .state))) h₁
-    (set-stored o₁ o₂ (at + stateLength) (m .enabled) h₂ (omega arith))
+marking-stored wide o o₁ o₂ m at n hn room h₁ h₂ =
+    let kept = ap length h₁ ∙ length-sets o at (stateBytes wide (m .state)) in
+    follow o o₁ o₂ (stateBytes wide (m .state)) (setBytes wide (m .enabled)) at (at + 3 * n) (omega (arith, length-state wide (m .state))) h₁
+    (set-stored wide o₁ o₂ (at + 3 * n) (m .enabled) h₂ (omega arith))
 
 -- ---- where there is room, the marking is read and stored
 
-pub held-there : (bytes : List ℕ) (at : ℕ) → at + markingLength ≤ length bytes → markingHeld bytes at ≡ markingAt bytes at
-held-there bytes at h = sym (held-some bytes at false (sym (le-ltb (length bytes) (at + markingLength) h)) (markingAt bytes at) refl refl)
+pub held-there : (wide : Bool) (bytes : List ℕ) (at : ℕ) → at + markingLength wide ≤ length bytes → markingHeld wide bytes at ≡ markingAt wide bytes at
+held-there wide bytes at h =
+    sym (held-some wide bytes at false _ refl (sym (le-ltb (length bytes) (at + markingLength wide) h)) (markingAt wide bytes at) refl refl)
 
-pub put-there : (m : Marking) (bytes : List ℕ) (at : ℕ) → at + markingLength ≤ length bytes → markingPut m bytes at ≡ sets bytes at (markingBytes m)
-put-there m bytes at h = sym (put-some bytes at false (sym (le-ltb (length bytes) (at + markingLength) h)) m _ refl refl)
+pub put-there : (wide : Bool) (m : Marking) (bytes : List ℕ) (at : ℕ) → at + markingLength wide ≤ length bytes
+    → markingPut wide m bytes at ≡ sets bytes at (markingBytes wide m)
+put-there wide m bytes at h = sym (put-some wide bytes at false _ refl (sym (le-ltb (length bytes) (at + markingLength wide) h)) m _ refl refl)
 
 -- ---- what is stored does not show elsewhere
 
-pub marking-apart : (l : List ℕ) (at i : ℕ) (vs : List ℕ) → Apart at markingLength i (length vs)
-    → markingAt (sets l i vs) at ≡ markingAt l at
-marking-apart l at i vs h j =
-    markingOf (stateOf (kept at (omega arith) (omega arith) h j) (kept (at + setLength) (omega arith) (omega arith) h j)
-    (kept (at + 2 * setLength) (omega arith) (omega arith) h j)) (kept (at + stateLength) (omega arith) (omega arith) h j)
+pub marking-apart : (wide : Bool) (l : List ℕ) (at i : ℕ) (vs : List ℕ) → Apart at (markingLength wide) i (length vs)
+    → markingAt wide (sets l i vs) at ≡ markingAt wide l at
+marking-apart wide l at i vs h j =
+    markingOf (stateOf (kept at (omega arith) (omega arith) h j) (kept (at + setLength wide) (omega arith) (omega arith) h j)
+    (kept (at + 2 * setLength wide) (omega arith) (omega arith) h j)) (kept (at + stateLength wide) (omega arith) (omega arith) h j)
   where
-    kept : (k : ℕ) → at ≤ k → k + setLength ≤ at + markingLength → Apart at markingLength i (length vs) → setAt (sets l i vs) k ≡ setAt l k
-    kept k a b (inl c) = set-apart l k i vs (inl (omega arith))
-    kept k a b (inr c) = set-apart l k i vs (inr (omega arith))
+    kept : (k : ℕ) → at ≤ k → k + setLength wide ≤ at + markingLength wide → Apart at (markingLength wide) i (length vs) → setAt wide (sets l i vs) k ≡ setAt wide l k
+    kept k a b (inl c) = set-apart wide l k i vs (inl (omega arith))
+    kept k a b (inr c) = set-apart wide l k i vs (inr (omega arith))
 
 -- ---- what is stored is read again
 
@@ -88,22 +98,39 @@ pub record WholeMarking (m : Marking) : Type 0 where
   pub included : Whole (m .state .included)
   pub enabled : Whole (m .enabled)
 
-pub marking-back : (l : List ℕ) (at : ℕ) (m : Marking) → at + markingLength ≤ length l → WholeMarking m
-    → markingAt (sets l at (markingBytes m)) at ≡ m
+-- and whose sets the form can hold
+pub record HeldMarking (wide : Bool) (m : Marking) : Type 0 where
+  pub executed : Holds wide (m .state .executed)
+  pub pending : Holds wide (m .state .pending)
+  pub included : Holds wide (m .state .included)
+  pub enabled : Holds wide (m .enabled)
+
+-- the four sets stand one after the other in a marking's bytes
+marking-parts : (wide : Bool) (m : Marking) (rest : List ℕ)
+    → (take (setLength wide) (markingBytes wide m ++ rest) ≡ setBytes wide (m .state .executed))
+    × (take (setLength wide) (drop (setLength wide) (markingBytes wide m ++ rest)) ≡ setBytes wide (m .state .pending))
+    × (take (setLength wide) (drop (2 * setLength wide) (markingBytes wide m ++ rest)) ≡ setBytes wide (m .state .included))
+    × (take (setLength wide) (drop (stateLength wide) (markingBytes wide m ++ rest)) ≡ setBytes wide (m .enabled))
 unfolding markingBytes stateBytes setBytes littleEndian
-marking-back l at m h w j =
+marking-parts true m rest = (refl, refl, refl, refl)
+marking-parts false m rest = (refl, refl, refl, refl)
+
+pub marking-back : (wide : Bool) (l : List ℕ) (at : ℕ) (m : Marking) → at + markingLength wide ≤ length l → WholeMarking m → HeldMarking wide m
+    → markingAt wide (sets l at (markingBytes wide m)) at ≡ m
+marking-back wide l at m h w k j =
+    let parts = marking-parts wide m (drop (at + length (markingBytes wide m)) l) in
     markingOf
     (stateOf
-    (set-read stored at (m .state .executed) (ap (take setLength) begun) (w .executed) j)
-    (set-read stored (at + setLength) (m .state .pending) (further setLength ∙ refl) (w .pending) j)
-    (set-read stored (at + 2 * setLength) (m .state .included) (further (2 * setLength) ∙ refl) (w .included) j))
-    (set-read stored (at + stateLength) (m .enabled) (further stateLength ∙ refl) (w .enabled) j)
+    (set-read wide stored at (m .state .executed) (ap (take (setLength wide)) begun ∙ parts .0) (w .executed) (k .executed) j)
+    (set-read wide stored (at + setLength wide) (m .state .pending) (further (setLength wide) ∙ parts .1) (w .pending) (k .pending) j)
+    (set-read wide stored (at + 2 * setLength wide) (m .state .included) (further (2 * setLength wide) ∙ parts .2) (w .included) (k .included) j))
+    (set-read wide stored (at + stateLength wide) (m .enabled) (further (stateLength wide) ∙ parts .3) (w .enabled) (k .enabled) j)
   where
     stored : List ℕ
-    stored = sets l at (markingBytes m)
+    stored = sets l at (markingBytes wide m)
 
-    begun : drop at stored ≡ markingBytes m ++ drop (at + markingLength) l
-    begun = drop-stored l at (markingBytes m) h
+    begun : drop at stored ≡ markingBytes wide m ++ drop (at + length (markingBytes wide m)) l
+    begun = drop-stored l at (markingBytes wide m) (omega (arith, length-marking wide m))
 
-    further : (k : ℕ) → part stored (at + k) setLength ≡ take setLength (drop k (markingBytes m ++ drop (at + markingLength) l))
-    further k = ap (take setLength) (sym (drop-drop k at stored) ∙ ap (drop k) begun)
+    further : (n : ℕ) → part stored (at + n) (setLength wide) ≡ take (setLength wide) (drop n (markingBytes wide m ++ drop (at + length (markingBytes wide m)) l))
+    further n = ap (take (setLength wide)) (sym (drop-drop n at stored) ∙ ap (drop n) begun)

@@ -1,49 +1,26 @@
 -- What the reads at fixed places find. Assumes nothing.
 use mathlib.Core.Path.{_≡_, refl, sym, ap, ap₂, _∙_, subst}
+use mathlib.Core.Bool.{Bool}
 use mathlib.Core.List.{List}
 use Prim.Native.Nat.{ℕ, zero, suc, _+_, _-_, _*_, _≤_, _<_}
 use native.Mathlib.Nat.{zero-add, suc-add, le-refl, le-trans}
 use native.Mathlib.Numerals.{add-one}
 use native.Mathlib.Omega.{arith}
-use lib.ListN.{length, take, drop}
-use lib.Seq.{take-all}
+use lib.ListN.{length}
 use Rattle.sets.specs.declared.set.Set.{Set}
 use Rattle.engine.specs.declared.marking.State.{State}
 use Rattle.engine.specs.Markings.{stateOf}
 use Rattle.engine.specs.Relations.{relationCount}
-use Rattle.bytes.specs.Numbers.{valueOf, numberAt, numberLength}
 use Rattle.bytes.specs.Sets.{setLength, setAt}
-use Rattle.bytes.proofs.Parts.{part, length-part}
-use Rattle.bytes.proofs.SetLaws.{at-there}
-use Rattle.graphfile.specs.Layout.{headLength, rowLength, countIn, sumOf, earlierRows, stateAt, endOf}
-
--- ---- what the code cuts out for a number or a set, from its place to its end, is all that is read
-
-number-alone : (bytes : List ℕ) (at n : ℕ) → at + n ≤ length bytes → numberAt n (part bytes at n) 0 ≡ numberAt n bytes at
-unfolding numberAt
-number-alone bytes at n room = ap valueOf (take-all n (part bytes at n) (omega (arith, length-part bytes at n room)))
-
-pub number-cut : (bytes : List ℕ) (at x : ℕ) → at + numberLength ≤ length bytes
-    → x ≡ numberAt numberLength (take (at + numberLength - at) (drop at bytes)) 0 → x ≡ numberAt numberLength bytes at
-number-cut bytes at x room h =
-    let same : at + numberLength - at ≡ numberLength = omega arith in
-    h ∙ ap (λ (n : ℕ). numberAt numberLength (part bytes at n) 0) same ∙ number-alone bytes at numberLength room
-
-pub set-cut : (bytes : List ℕ) (at : ℕ) (s : Set) → at + setLength ≤ length bytes
-    → s ≡ setAt (take (at + setLength - at) (drop at bytes)) 0 → s ≡ setAt bytes at
-set-cut bytes at s room h =
-    let same : at + setLength - at ≡ setLength = omega arith in
-    let whole : 0 + setLength ≤ length (part bytes at setLength) = omega (arith, length-part bytes at setLength room) in
-    h
-    ∙ ap (λ (n : ℕ). setAt (part bytes at n) 0) same
-    ∙ rw (at-there (part bytes at setLength) 0 whole, at-there bytes at room, number-alone bytes at setLength room)
+use Rattle.graphfile.specs.Layout.{wideIn, countIn, sumOf, earlierRows, stateAt, rowPlace, endOf}
+use Rattle.graphfile.proofs.RowLengths.{rows-le}
 
 -- ---- a state
 
-pub state-is : (bytes : List ℕ) (at : ℕ) (x p i : Set) (m : State) → x ≡ setAt bytes at → p ≡ setAt bytes (at + setLength)
-    → i ≡ setAt bytes (at + 2 * setLength)
-    → m ≡ stateOf x p i → m ≡ stateAt bytes at
-state-is bytes at x p i m hx hp hi e = e ∙ λ k. stateOf (hx k) (hp k) (hi k)
+pub state-is : (wide : Bool) (bytes : List ℕ) (at n : ℕ) (x p i : Set) (m : State) → n ≡ setLength wide → x ≡ setAt wide bytes at
+    → p ≡ setAt wide bytes (at + n) → i ≡ setAt wide bytes (at + 2 * n) → m ≡ stateOf x p i → m ≡ stateAt wide bytes at
+state-is wide bytes at n x p i m hn hx hp hi e =
+    e ∙ (λ k. stateOf (hx k) ((hp ∙ ap (λ (j : ℕ). setAt wide bytes (at + j)) hn) k) ((hi ∙ ap (λ (j : ℕ). setAt wide bytes (at + 2 * j)) hn) k))
 
 -- ---- a sum: what a loop adds up, and that it only grows
 
@@ -82,5 +59,11 @@ sum-ext f g (suc n) e = ap₂ (λ (x y : ℕ). x + y) (sum-ext f g n (λ k l. e 
 
 -- a relation's rows end where the next one's begin, and that is at most where the last relation's end
 pub rows-end : (bytes : List ℕ) (r first count : ℕ) → r < relationCount → endOf bytes ≤ length bytes
-    → first ≡ earlierRows bytes r → count ≡ countIn bytes r → headLength + rowLength * (first + count) ≤ length bytes
-rows-end bytes r first count l h e f = omega (arith, sum-room (countIn bytes) r relationCount l)
+    → first ≡ earlierRows bytes r → count ≡ countIn bytes r → rowPlace bytes (first + count) ≤ length bytes
+rows-end bytes r first count l h e f =
+    let more : first + count ≤ earlierRows bytes relationCount = omega (arith, sum-room (countIn bytes) r relationCount l) in
+    omega (arith, rows-le (wideIn bytes) (first + count) (earlierRows bytes relationCount) more)
+
+-- no file says more rows than this
+pub rows-few : (r first count : ℕ) → r < relationCount → first ≤ 65536 * r → count < 65536 → first + count ≤ 65536 * relationCount
+rows-few r first count l h k = omega arith

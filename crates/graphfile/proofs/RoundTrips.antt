@@ -1,6 +1,6 @@
 -- Both round trips, of every result that the contracts of `write` and `read` allow; and the file of 01's graph G. Assumes nothing.
 use mathlib.Core.Path.{_≡_, refl, sym, ap, ap₂, _∙_, subst}
-use mathlib.Core.Bool.{Bool}
+use mathlib.Core.Bool.{Bool, false}
 use mathlib.Core.List.{List, [], _∷_, _++_}
 use Prim.Native.Nat.{ℕ, _+_, _*_, _≤_}
 use borrow.Author.Tests.{le-ltb}
@@ -22,13 +22,14 @@ use Rattle.engine.specs.Judged.{judged}
 use Rattle.graphfile.specs.declared.reader.Reading.{Reading}
 use Rattle.graphfile.specs.declared.writer.Written.{Written}
 use Rattle.bytes.specs.Numbers.{littleEndian}
+use Rattle.bytes.specs.Editions.{editionFor}
 use Rattle.bytes.specs.Sets.{setBytes}
-use Rattle.graphfile.specs.Layout.{headLength, rowLength, sumOf}
+use Rattle.graphfile.specs.Layout.{wideFor, headLength, rowsLength, sumOf}
 use Rattle.graphfile.specs.Refusals.{judgedFile}
 use Rattle.graphfile.specs.Held.{graphIn, readOf}
 use Rattle.graphfile.specs.Writing.{rowsBefore, rowOf, rowsFor, rowsFrom, countFrom, entriesBytes, stateBytes, headBytes}
-use Rattle.graphfile.specs.Writing.{relationsBytes}
-use Rattle.graphfile.specs.Writing.{bytesOf, judgedWrite, writtenOf, fileAfter}
+use Rattle.graphfile.specs.Writing.{rowCount, entryBytes, relationBytes, relationsBytes}
+use Rattle.graphfile.specs.Writing.{bytesBy, bytesOf, judgedWrite, writtenOf, fileAfter}
 use Rattle.bytes.proofs.Codec.{Bytes}
 use Rattle.graphfile.proofs.Accepted.{accepted, done-then}
 use Rattle.graphfile.proofs.Stores.{length-file}
@@ -49,9 +50,10 @@ file-round bytes small ok = file-back bytes small (accepted bytes ok)
 pub file-graph : (bytes : List ℕ) → Bytes bytes → judgedFile bytes ≡ Done → judged (graphIn bytes) ≡ Done
 file-graph bytes small ok = graph-back bytes small (accepted bytes ok)
 
--- the length of a file: 52, and 9 for each row that is not empty
-pub file-length : (g : Graph) → length (bytesOf g) ≡ headLength + rowLength * rowsBefore (g .relations) relationCount
-file-length g = length-file g
+-- the length of a file: 52, and 9 for each row that is not empty; 84 and 17 where A is above 64
+pub file-length : (g : Graph)
+    → length (bytesOf g) ≡ headLength (wideFor (g .head .activities)) + rowsLength (wideFor (g .head .activities)) (rowsBefore (g .relations) relationCount)
+file-length g = length-file (wideFor (g .head .activities)) g
 
 -- ---- a write that is done, and a read that is
 
@@ -142,7 +144,64 @@ fileOfG =
     ∷ 2 ∷ 6 ∷ 0 ∷ 0 ∷ 0 ∷ 0 ∷ 0 ∷ 0 ∷ 0
     ∷ []
 
+-- computed part by part: at 128 the whole is more than one declaration may take
+
+abbrev counted : ℕ → ℕ
+counted k = rowCount (tableAt tablesOfG k)
+
+count-0 : counted 0 ≡ 2
+unfolding countFrom rowsFor rowAt tableAt tablesOf rowsOf listFrom isEmpty everyBelow bit bitsOf mem those non _and_ _or_
+count-0 = refl
+
+count-1 : counted 1 ≡ 2
+unfolding countFrom rowsFor rowAt tableAt tablesOf rowsOf listFrom isEmpty everyBelow bit bitsOf mem those non _and_ _or_
+count-1 = refl
+
+count-2 : counted 2 ≡ 1
+unfolding countFrom rowsFor rowAt tableAt tablesOf rowsOf listFrom isEmpty everyBelow bit bitsOf mem those non _and_ _or_
+count-2 = refl
+
+count-3 : counted 3 ≡ 3
+unfolding countFrom rowsFor rowAt tableAt tablesOf rowsOf listFrom isEmpty everyBelow bit bitsOf mem those non _and_ _or_
+count-3 = refl
+
+rows-0 : relationBytes false (tableAt tablesOfG 0) ≡ 1 ∷ 1 ∷ 0 ∷ 0 ∷ 0 ∷ 0 ∷ 0 ∷ 0 ∷ 0 ∷ 2 ∷ 1 ∷ 0 ∷ 0 ∷ 0 ∷ 0 ∷ 0 ∷ 0 ∷ 0 ∷ []
+unfolding rowsFrom rowOf setBytes littleEndian rowAt tableAt tablesOf rowsOf listFrom isEmpty everyBelow bit bitsOf mem those non _and_ _or_
+rows-0 = refl
+
+rows-1 : relationBytes false (tableAt tablesOfG 1) ≡ 0 ∷ 4 ∷ 0 ∷ 0 ∷ 0 ∷ 0 ∷ 0 ∷ 0 ∷ 0 ∷ 1 ∷ 4 ∷ 0 ∷ 0 ∷ 0 ∷ 0 ∷ 0 ∷ 0 ∷ 0 ∷ []
+unfolding rowsFrom rowOf setBytes littleEndian rowAt tableAt tablesOf rowsOf listFrom isEmpty everyBelow bit bitsOf mem those non _and_ _or_
+rows-1 = refl
+
+rows-2 : relationBytes false (tableAt tablesOfG 2) ≡ 0 ∷ 2 ∷ 0 ∷ 0 ∷ 0 ∷ 0 ∷ 0 ∷ 0 ∷ 0 ∷ []
+unfolding rowsFrom rowOf setBytes littleEndian rowAt tableAt tablesOf rowsOf listFrom isEmpty everyBelow bit bitsOf mem those non _and_ _or_
+rows-2 = refl
+
+rows-3 : relationBytes false (tableAt tablesOfG 3)
+    ≡ 0 ∷ 1 ∷ 0 ∷ 0 ∷ 0 ∷ 0 ∷ 0 ∷ 0 ∷ 0 ∷ 1 ∷ 2 ∷ 0 ∷ 0 ∷ 0 ∷ 0 ∷ 0 ∷ 0 ∷ 0 ∷ 2 ∷ 6 ∷ 0 ∷ 0 ∷ 0 ∷ 0 ∷ 0 ∷ 0 ∷ 0 ∷ []
+unfolding rowsFrom rowOf setBytes littleEndian rowAt tableAt tablesOf rowsOf listFrom isEmpty everyBelow bit bitsOf mem those non _and_ _or_
+rows-3 = refl
+
+head-of-G : headBytes false (exampleG .head)
+    ≡ 66 ∷ 71 ∷ 1 ∷ 3
+    ∷ 7 ∷ 0 ∷ 0 ∷ 0 ∷ 0 ∷ 0 ∷ 0 ∷ 0
+    ∷ 0 ∷ 0 ∷ 0 ∷ 0 ∷ 0 ∷ 0 ∷ 0 ∷ 0
+    ∷ 0 ∷ 0 ∷ 0 ∷ 0 ∷ 0 ∷ 0 ∷ 0 ∷ 0
+    ∷ 7 ∷ 0 ∷ 0 ∷ 0 ∷ 0 ∷ 0 ∷ 0 ∷ 0 ∷ []
+unfolding headBytes stateBytes setBytes littleEndian editionFor bitsOf those
+head-of-G = refl
+
+entries-of-G : entriesBytes false tablesOfG relationCount ≡ 0 ∷ 0 ∷ 2 ∷ 0 ∷ 18 ∷ 0 ∷ 2 ∷ 0 ∷ 36 ∷ 0 ∷ 1 ∷ 0 ∷ 45 ∷ 0 ∷ 3 ∷ 0 ∷ []
+unfolding entriesBytes sumOf rowsLength littleEndian
+entries-of-G =
+    λ i.
+    [] ++ entryBytes false 0 (count-0 i) ++ entryBytes false (0 + count-0 i) (count-1 i) ++ entryBytes false (0 + count-0 i + count-1 i) (count-2 i)
+    ++ entryBytes false (0 + count-0 i + count-1 i + count-2 i) (count-3 i)
+
+relations-of-G : relationsBytes false tablesOfG relationCount ≡ drop 52 fileOfG
+unfolding relationsBytes
+relations-of-G = λ i. [] ++ rows-0 i ++ rows-1 i ++ rows-2 i ++ rows-3 i
+
 pub file-of-G : (bytesOf exampleG ≡ fileOfG) × (length fileOfG ≡ 124)
-unfolding bytesOf headBytes stateBytes entriesBytes relationsBytes sumOf rowsFrom countFrom rowOf rowsFor setBytes littleEndian
-    rowAt tableAt tablesOf rowsOf listFrom isEmpty everyBelow bit bitsOf mem those non _and_ _or_
-file-of-G = (refl, refl)
+unfolding bytesBy editionFor
+file-of-G = (λ i. head-of-G i ++ entries-of-G i ++ relations-of-G i, refl)

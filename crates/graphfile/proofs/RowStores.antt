@@ -2,7 +2,7 @@
 use mathlib.Core.Path.{_≡_, refl, sym, ap, _∙_}
 use mathlib.Core.Bool.{Bool, true, false}
 use mathlib.Core.List.{List, [], _∷_, _++_}
-use Prim.Native.Nat.{ℕ, suc, _+_, _-_, _*_, _≤_, _<_}
+use Prim.Native.Nat.{ℕ, suc, _+_, _-_, _*_, _^_, _≤_, _<_}
 use native.Mathlib.Nat.{add-zero, zero-add}
 use native.Mathlib.Numerals.{add-one}
 use native.Mathlib.Omega.{arith}
@@ -12,9 +12,10 @@ use Rattle.sets.specs.Tests.{when_then_else_}
 use Rattle.sets.specs.Members.{width, isEmpty}
 use Rattle.sets.specs.Rows.{rowAt}
 use Rattle.sets.specs.declared.set.Set.{Set}
-use Rattle.bytes.specs.Sets.{setBytes, setPut}
+use Rattle.bytes.specs.Sets.{setLength, setBytes, setPut}
 use Rattle.bytes.proofs.SetLaws.{set-stored, set-kept}
-use Rattle.graphfile.specs.Layout.{rowLength}
+use Rattle.graphfile.specs.Layout.{rowLength, rowsLength}
+use Rattle.graphfile.proofs.RowLengths.{rows-none, rows-one, rows-add}
 use Rattle.graphfile.specs.Writing.{rowOf, rowsFor, rowsFrom, countFrom, rowCount}
 use Rattle.graphfile.proofs.Stores.{length-row}
 use Rattle.bytes.proofs.Parts.{follow}
@@ -30,27 +31,37 @@ module _ (s : Set) (e : Bool) (h : e ≡ isEmpty s) where
   unfolding rowsFor
   for-one t = ap (λ (b : Bool). when b then 0 else 1) (sym t ∙ h)
 
-  pub row-none : (out : List ℕ) (at a : ℕ) → e ≡ true → out ≡ sets out at (rowOf a s)
-  unfolding rowOf
-  row-none out at a t = ap (λ (b : Bool). sets out at (when b then [] else a ∷ setBytes s)) (sym t ∙ h)
+module _ (wide : Bool) (s : Set) (e : Bool) (h : e ≡ isEmpty s) where
+  length-one : e ≡ false → rowsLength wide (rowsFor s) ≡ rowLength wide
+  length-one t = ap (rowsLength wide) (sym (for-one s e h t)) ∙ rows-one wide
 
-  pub row-one : (out out′ : List ℕ) (at a : ℕ) → e ≡ false → at + rowLength * rowsFor s ≤ length out
-      → out′ ≡ setPut (set out at a) (at + 1) s → out′ ≡ sets out at (rowOf a s)
+  length-none : e ≡ true → rowsLength wide (rowsFor s) ≡ 0
+  length-none t = ap (rowsLength wide) (sym (for-none s e h t)) ∙ rows-none wide
+
+  pub row-none : (out : List ℕ) (at a : ℕ) → e ≡ true → out ≡ sets out at (rowOf wide a s)
+  unfolding rowOf
+  row-none out at a t = ap (λ (b : Bool). sets out at (when b then [] else a ∷ setBytes wide s)) (sym t ∙ h)
+
+  pub row-one : (out out′ : List ℕ) (at a : ℕ) → e ≡ false → at + rowsLength wide (rowsFor s) ≤ length out
+      → out′ ≡ setPut wide (set out at a) (at + 1) s → out′ ≡ sets out at (rowOf wide a s)
   unfolding rowOf
   row-one out out′ at a t room f =
-      set-stored (set out at a) out′ (at + 1) s f (omega (arith, for-one t, length-set out at a))
-      ∙ ap (λ (k : ℕ). sets (set out at a) k (setBytes s)) (add-one at)
-      ∙ ap (λ (b : Bool). sets out at (when b then [] else a ∷ setBytes s)) (sym t ∙ h)
+      set-stored wide (set out at a) out′ (at + 1) s f (omega (arith, length-one t, length-set out at a))
+      ∙ ap (λ (k : ℕ). sets (set out at a) k (setBytes wide s)) (add-one at)
+      ∙ ap (λ (b : Bool). sets out at (when b then [] else a ∷ setBytes wide s)) (sym t ∙ h)
 
-  pub place-none : (at : ℕ) → e ≡ true → at ≡ at + rowLength * rowsFor s
-  place-none at t = omega (arith, for-none t)
+  pub place-none : (at : ℕ) → e ≡ true → at ≡ at + rowsLength wide (rowsFor s)
+  place-none at t = omega (arith, length-none t)
 
-  pub place-one : (at : ℕ) → e ≡ false → at + rowLength ≡ at + rowLength * rowsFor s
-  place-one at t = omega (arith, for-one t)
+  pub place-one : (at n : ℕ) → n ≡ setLength wide → e ≡ false → at + 1 + n ≡ at + rowsLength wide (rowsFor s)
+  place-one at n hn t = omega (arith, length-one t)
 
-  module _ (t : e ≡ false) (at : ℕ) (out : List ℕ) (room : at + rowLength * rowsFor s ≤ length out) where
+  module _ (t : e ≡ false) (at : ℕ) (out : List ℕ) (room : at + rowsLength wide (rowsFor s) ≤ length out) where
+    pub row-fits : (n : ℕ) → n ≡ setLength wide → length out < 2 ^ 64 → at + 1 + n < 2 ^ 64
+    row-fits n hn l = omega (arith, length-one t)
+
     pub room-key : at < length out
-    room-key = omega (arith, for-one t)
+    room-key = omega (arith, length-one t)
 
 -- ---- one activity after the other
 
@@ -63,35 +74,43 @@ module _ (rows : List ℕ) (a : ℕ) (l : a < width) where
   count-step = ap (λ (n : ℕ). countFrom rows n a) left
       ∙ ap (λ (b : ℕ). rowsFor (rowAt rows a) + countFrom rows (width - (a + 1)) b) (sym (add-one a))
 
-  rows-step : rowsFrom rows (width - a) a ≡ rowOf a (rowAt rows a) ++ rowsFrom rows (width - (a + 1)) (a + 1)
-  unfolding rowsFrom
-  rows-step = ap (λ (n : ℕ). rowsFrom rows n a) left
-      ∙ ap (λ (b : ℕ). rowOf a (rowAt rows a) ++ rowsFrom rows (width - (a + 1)) b) (sym (add-one a))
+  pub count-turn : (s : Set) → s ≡ rowAt rows a → (n k whole : ℕ) → n + countFrom rows (width - a) a ≡ whole → k ≡ rowsFor s
+      → n + k + countFrom rows (width - (a + 1)) (a + 1) ≡ whole
+  count-turn s h n k whole e f = let g : k ≡ rowsFor (rowAt rows a) = f ∙ ap rowsFor h in omega (arith, count-step)
 
-  module _ (s : Set) (h : s ≡ rowAt rows a) where
-    pub count-turn : (n k whole : ℕ) → n + countFrom rows (width - a) a ≡ whole → k ≡ rowsFor s
-        → n + k + countFrom rows (width - (a + 1)) (a + 1) ≡ whole
-    count-turn n k whole e f = let g : k ≡ rowsFor (rowAt rows a) = f ∙ ap rowsFor h in omega (arith, count-step)
+  module _ (wide : Bool) where
+    rows-step : rowsFrom wide rows (width - a) a ≡ rowOf wide a (rowAt rows a) ++ rowsFrom wide rows (width - (a + 1)) (a + 1)
+    unfolding rowsFrom
+    rows-step = ap (λ (n : ℕ). rowsFrom wide rows n a) left
+        ∙ ap (λ (b : ℕ). rowOf wide a (rowAt rows a) ++ rowsFrom wide rows (width - (a + 1)) b) (sym (add-one a))
 
-    -- the place after the row, and what room the rows from here on need
-    pub place-turn : (next next′ end : ℕ) → next + rowLength * countFrom rows (width - a) a ≡ end → next′ ≡ next + rowLength * rowsFor s
-        → next′ + rowLength * countFrom rows (width - (a + 1)) (a + 1) ≡ end
-    place-turn next next′ end e f = omega (arith, count-step, ap rowsFor h)
+    module _ (s : Set) (h : s ≡ rowAt rows a) where
+      -- the bytes of this row and of those after it
+      length-step : rowsLength wide (countFrom rows (width - a) a) ≡ rowsLength wide (rowsFor s) + rowsLength wide (countFrom rows (width - (a + 1)) (a + 1))
+      length-step =
+          ap (rowsLength wide) count-step
+          ∙ rows-add wide (rowsFor (rowAt rows a)) (countFrom rows (width - (a + 1)) (a + 1))
+          ∙ ap (λ (v : Set). rowsLength wide (rowsFor v) + rowsLength wide (countFrom rows (width - (a + 1)) (a + 1))) (sym h)
 
-    pub place-room : (next end : ℕ) (out out₀ : List ℕ) → next + rowLength * countFrom rows (width - a) a ≡ end → end ≤ length out₀
-        → length out ≡ length out₀
-        → next + rowLength * rowsFor s ≤ length out
-    place-room next end out out₀ e f g = omega (arith, count-step, ap rowsFor h)
+      -- the place after the row, and what room the rows from here on need
+      pub place-turn : (next next′ end : ℕ) → next + rowsLength wide (countFrom rows (width - a) a) ≡ end → next′ ≡ next + rowsLength wide (rowsFor s)
+          → next′ + rowsLength wide (countFrom rows (width - (a + 1)) (a + 1)) ≡ end
+      place-turn next next′ end e f = omega (arith, length-step)
 
-    pub rows-turn : (out out′ whole : List ℕ) (next next′ : ℕ) → sets out next (rowsFrom rows (width - a) a) ≡ whole
-        → next′ ≡ next + rowLength * rowsFor s → out′ ≡ sets out next (rowOf a s)
-        → sets out′ next′ (rowsFrom rows (width - (a + 1)) (a + 1)) ≡ whole
-    rows-turn out out′ whole next next′ e f g =
-        let p : next′ ≡ next + length (rowOf a s) = omega (arith, length-row a s) in
-        follow out out′ _ (rowOf a s) (rowsFrom rows (width - (a + 1)) (a + 1)) next next′ p g refl
-        ∙ ap (λ (v : Set). sets out next (rowOf a v ++ rowsFrom rows (width - (a + 1)) (a + 1))) h
-        ∙ ap (sets out next) (sym rows-step)
-        ∙ e
+      pub place-room : (next end : ℕ) (out out₀ : List ℕ) → next + rowsLength wide (countFrom rows (width - a) a) ≡ end → end ≤ length out₀
+          → length out ≡ length out₀
+          → next + rowsLength wide (rowsFor s) ≤ length out
+      place-room next end out out₀ e f g = omega (arith, length-step)
+
+      pub rows-turn : (out out′ whole : List ℕ) (next next′ : ℕ) → sets out next (rowsFrom wide rows (width - a) a) ≡ whole
+          → next′ ≡ next + rowsLength wide (rowsFor s) → out′ ≡ sets out next (rowOf wide a s)
+          → sets out′ next′ (rowsFrom wide rows (width - (a + 1)) (a + 1)) ≡ whole
+      rows-turn out out′ whole next next′ e f g =
+          let p : next′ ≡ next + length (rowOf wide a s) = omega (arith, length-row wide a s) in
+          follow out out′ _ (rowOf wide a s) (rowsFrom wide rows (width - (a + 1)) (a + 1)) next next′ p g refl
+          ∙ ap (λ (v : Set). sets out next (rowOf wide a v ++ rowsFrom wide rows (width - (a + 1)) (a + 1))) h
+          ∙ ap (sets out next) (sym rows-step)
+          ∙ e
 
 pub count-begin : (rows : List ℕ) → 0 + countFrom rows (width - 0) 0 ≡ rowCount rows
 count-begin rows = zero-add (rowCount rows)
@@ -102,23 +121,25 @@ count-end rows a n whole l e =
     let none : width - a ≡ 0 = omega arith in
     sym (add-zero n) ∙ ap (λ (k : ℕ). n + countFrom rows k a) (sym none) ∙ e
 
-pub place-end : (rows : List ℕ) (a next end : ℕ) → width ≤ a → next + rowLength * countFrom rows (width - a) a ≡ end → next ≡ end
+pub place-end : (wide : Bool) (rows : List ℕ) (a next end : ℕ) → width ≤ a → next + rowsLength wide (countFrom rows (width - a) a) ≡ end → next ≡ end
 unfolding countFrom
-place-end rows a next end l e =
+place-end wide rows a next end l e =
     let none : width - a ≡ 0 = omega arith in
-    sym (add-zero next) ∙ ap (λ (k : ℕ). next + rowLength * countFrom rows k a) (sym none) ∙ e
+    let zero-long = rows-none wide in
+    let same = ap (λ (k : ℕ). next + rowsLength wide (countFrom rows k a)) none in
+    omega (arith, e)
 
-pub rows-end : (rows out whole : List ℕ) (a next : ℕ) → width ≤ a → sets out next (rowsFrom rows (width - a) a) ≡ whole → out ≡ whole
+pub rows-end : (wide : Bool) (rows out whole : List ℕ) (a next : ℕ) → width ≤ a → sets out next (rowsFrom wide rows (width - a) a) ≡ whole → out ≡ whole
 unfolding rowsFrom
-rows-end rows out whole a next l e =
+rows-end wide rows out whole a next l e =
     let none : width - a ≡ 0 = omega arith in
-    ap (λ (n : ℕ). sets out next (rowsFrom rows n a)) (sym none) ∙ e
+    ap (λ (n : ℕ). sets out next (rowsFrom wide rows n a)) (sym none) ∙ e
 
 pub kept-length : (out out′ out₀ vs : List ℕ) (at : ℕ) → length out ≡ length out₀ → out′ ≡ sets out at vs → length out′ ≡ length out₀
 kept-length out out′ out₀ vs at e f = ap length f ∙ length-sets out at vs ∙ e
 
-pub row-length : (out out′ : List ℕ) (at a next : ℕ) (s : Set) → out′ ≡ setPut (set out at a) next s → length out′ ≡ length out
-row-length out out′ at a next s f = set-kept (set out at a) out′ next s f ∙ length-set out at a
+pub row-length : (wide : Bool) (out out′ : List ℕ) (at a next : ℕ) (s : Set) → out′ ≡ setPut wide (set out at a) next s → length out′ ≡ length out
+row-length wide out out′ at a next s f = set-kept wide (set out at a) out′ next s f ∙ length-set out at a
 
 pub ruleset one-row = (for-none, for-one, row-none, row-one, place-none, place-one, room-key)
 

@@ -5,7 +5,7 @@ use mathlib.Core.List.{List, [], _∷_, _++_}
 use Prim.Native.Nat.{ℕ, zero, suc, _+_, _*_, _≤_, _<_}
 use native.Mathlib.Numerals.{add-one}
 use native.Mathlib.Omega.{arith}
-use lib.ListN.{length, length-append}
+use lib.ListN.{length, set, length-append}
 use lib.Seq.{sets, length-sets}
 use Rattle.sets.specs.Tests.{when_then_else_}
 use Rattle.sets.specs.Members.{width, isEmpty}
@@ -22,69 +22,87 @@ use Rattle.bytes.proofs.Codec.{length-number}
 use Rattle.bytes.proofs.Parts.{follow}
 use Rattle.bytes.proofs.NumberLaws.{number-stored, number-kept}
 use Rattle.bytes.proofs.SetLaws.{length-set, set-stored, set-kept}
-use Rattle.graphfile.specs.Layout.{mark, eventsPlace, executedPlace, stateLength, entriesPlace, entryLength, headLength, rowLength, sumOf}
+use Rattle.graphfile.specs.Layout.{letters, eventsPlace, executedPlace, stateLength, entriesPlace, entryLength, headLength, rowLength, rowsLength, sumOf}
 use Rattle.graphfile.specs.Writing.{rowOf, rowsFor, rowsFrom, countFrom, rowCount, rowsBefore, entryBytes, entriesBytes}
-use Rattle.graphfile.specs.Writing.{stateBytes, headBytes, relationBytes, relationsBytes, bytesOf}
+use Rattle.graphfile.specs.Writing.{stateBytes, headBytes, relationBytes, relationsBytes, bytesBy}
+use Rattle.bytes.specs.Editions.{editionFor}
+use Rattle.graphfile.proofs.RowLengths.{rows-none, rows-one, rows-add, rows-le}
 use Rattle.graphfile.proofs.Places.{sum-room}
 
 -- ---- how long each part is
 
-pub length-state : (m : State) → length (stateBytes m) ≡ stateLength
+pub length-state : (wide : Bool) (m : State) → length (stateBytes wide m) ≡ stateLength wide
 unfolding stateBytes
-length-state m = simp length-append (omega (arith, length-set (m .executed), length-set (m .pending), length-set (m .included)))
+length-state wide m = simp length-append (omega (arith, length-set wide (m .executed), length-set wide (m .pending), length-set wide (m .included)))
 
-pub length-head : (h : Head) → length (headBytes h) ≡ entriesPlace
+pub length-head : (wide : Bool) (h : Head) → length (headBytes wide h) ≡ entriesPlace wide
 unfolding headBytes
-length-head h = simp length-append (omega (arith, length-set (h .events), length-state (h .opening .state)))
+length-head wide h = simp length-append (omega (arith, length-set wide (h .events), length-state wide (h .opening .state)))
 
-length-entry : (earlier count : ℕ) → length (entryBytes earlier count) ≡ entryLength
+length-entry : (wide : Bool) (earlier count : ℕ) → length (entryBytes wide earlier count) ≡ entryLength
 unfolding littleEndian
-length-entry earlier count = refl
+length-entry wide earlier count = refl
 
-pub length-entries : (tables : List ℕ) (r : ℕ) → length (entriesBytes tables r) ≡ entryLength * r
+pub length-entries : (wide : Bool) (tables : List ℕ) (r : ℕ) → length (entriesBytes wide tables r) ≡ entryLength * r
 unfolding entriesBytes
-length-entries tables zero = refl
-length-entries tables (suc r) =
-    length-append (entriesBytes tables r) (entryBytes (rowsBefore tables r) (rowCount (tableAt tables r)))
-    ∙ omega (arith, length-entries tables r, length-entry (rowsBefore tables r) (rowCount (tableAt tables r)))
+length-entries wide tables zero = refl
+length-entries wide tables (suc r) =
+    length-append (entriesBytes wide tables r) (entryBytes wide (rowsBefore tables r) (rowCount (tableAt tables r)))
+    ∙ omega (arith, length-entries wide tables r, length-entry wide (rowsBefore tables r) (rowCount (tableAt tables r)))
 
-pub length-row : (a : ℕ) (s : Set) → length (rowOf a s) ≡ rowLength * rowsFor s
+pub length-row : (wide : Bool) (a : ℕ) (s : Set) → length (rowOf wide a s) ≡ rowsLength wide (rowsFor s)
 unfolding rowOf rowsFor
-length-row a s = by (isEmpty s)
+length-row wide a s = by (isEmpty s)
   where
-    by : (b : Bool) → length (when b then [] else a ∷ setBytes s) ≡ rowLength * (when b then 0 else 1)
-    by true = refl
-    by false = ap suc (length-set s)
+    by : (b : Bool) → length (when b then [] else a ∷ setBytes wide s) ≡ rowsLength wide (when b then 0 else 1)
+    by true = sym (rows-none wide)
+    by false = omega (arith, length-set wide s, rows-one wide)
 
-pub length-rows : (rows : List ℕ) (n a : ℕ) → length (rowsFrom rows n a) ≡ rowLength * countFrom rows n a
+pub length-rows : (wide : Bool) (rows : List ℕ) (n a : ℕ) → length (rowsFrom wide rows n a) ≡ rowsLength wide (countFrom rows n a)
 unfolding rowsFrom countFrom
-length-rows rows zero a = refl
-length-rows rows (suc n) a =
-    length-append (rowOf a (rowAt rows a)) (rowsFrom rows n (suc a))
-    ∙ omega (arith, length-row a (rowAt rows a), length-rows rows n (suc a))
+length-rows wide rows zero a = sym (rows-none wide)
+length-rows wide rows (suc n) a =
+    length-append (rowOf wide a (rowAt rows a)) (rowsFrom wide rows n (suc a))
+    ∙ omega (arith, length-row wide a (rowAt rows a), length-rows wide rows n (suc a), rows-add wide (rowsFor (rowAt rows a)) (countFrom rows n (suc a)))
 
-pub length-relations : (tables : List ℕ) (r : ℕ) → length (relationsBytes tables r) ≡ rowLength * rowsBefore tables r
+pub length-relations : (wide : Bool) (tables : List ℕ) (r : ℕ) → length (relationsBytes wide tables r) ≡ rowsLength wide (rowsBefore tables r)
 unfolding relationsBytes sumOf
-length-relations tables zero = refl
-length-relations tables (suc r) =
-    length-append (relationsBytes tables r) (relationBytes (tableAt tables r))
-    ∙ omega (arith, length-relations tables r, length-rows (tableAt tables r) width 0)
+length-relations wide tables zero = sym (rows-none wide)
+length-relations wide tables (suc r) =
+    length-append (relationsBytes wide tables r) (relationBytes wide (tableAt tables r))
+    ∙ omega (
+      arith,
+      length-relations wide tables r,
+      length-rows wide (tableAt tables r) width 0,
+      rows-add wide (rowsBefore tables r) (rowCount (tableAt tables r)),
+    )
 
-pub length-file : (g : Graph) → length (bytesOf g) ≡ headLength + rowLength * rowsBefore (g .relations) relationCount
-unfolding bytesOf
-length-file g =
+pub length-file : (wide : Bool) (g : Graph) → length (bytesBy wide g) ≡ headLength wide + rowsLength wide (rowsBefore (g .relations) relationCount)
+unfolding bytesBy
+length-file wide g =
     simp length-append
-    (omega (arith, length-head (g .head), length-entries (g .relations) relationCount, length-relations (g .relations) relationCount))
+    (omega (
+      arith,
+      length-head wide (g .head),
+      length-entries wide (g .relations) relationCount,
+      length-relations wide (g .relations) relationCount,
+    ))
 
 -- ---- part after part
 
-pub entry-stored : (out mid end : List ℕ) (at earlier count : ℕ) → at + entryLength ≤ length out
-    → mid ≡ numberPut out at (rowLength * earlier) → end ≡ numberPut mid (at + numberLength) count → end ≡ sets out at (entryBytes earlier count)
-entry-stored out mid end at earlier count room e f =
-    let kept = number-kept out mid at (rowLength * earlier) e in
-    follow out mid end (littleEndian numberLength (rowLength * earlier)) _ at (at + numberLength)
-    (ap (λ (n : ℕ). at + n) (sym (length-number numberLength (rowLength * earlier))))
-    (number-stored out mid at (rowLength * earlier) e (omega arith)) (number-stored mid end (at + numberLength) count f (omega arith))
+pub entry-stored : (wide : Bool) (out mid end : List ℕ) (at earlier count long : ℕ) → at + entryLength ≤ length out → long ≡ rowsLength wide earlier
+    → mid ≡ numberPut out at long → end ≡ numberPut mid (at + numberLength) count → end ≡ sets out at (entryBytes wide earlier count)
+entry-stored wide out mid end at earlier count long room hl e f =
+    let kept = number-kept out mid at long e in
+    follow out mid end (littleEndian numberLength long) _ at (at + numberLength)
+    (ap (λ (n : ℕ). at + n) (sym (length-number numberLength long)))
+    (number-stored out mid at long e (omega arith)) (number-stored mid end (at + numberLength) count f (omega arith))
+    ∙ ap (λ (n : ℕ). sets out at (littleEndian numberLength n ++ littleEndian numberLength count)) hl
+
+-- the letters, the edition and A, byte by byte
+pub letters-stored : (out : List ℕ) (a e : ℕ) → e ≡ editionFor a
+    → set (set (set (set out 0 66) 1 71) 2 e) 3 a ≡ sets out 0 (letters ++ (editionFor a ∷ a ∷ []))
+letters-stored out a e h = ap (λ (n : ℕ). sets out 0 (letters ++ (n ∷ a ∷ []))) h
 
 -- three parts, each from the place where the one before it ends
 module _ (o o₁ o₂ o₃ a b c : List ℕ) (p p₁ p₂ : ℕ) (e₁ : p₁ ≡ p + length a) (e₂ : p₂ ≡ p₁ + length b)
@@ -92,86 +110,99 @@ module _ (o o₁ o₂ o₃ a b c : List ℕ) (p p₁ p₂ : ℕ) (e₁ : p₁ �
   three : o₃ ≡ sets o p (a ++ b ++ c)
   three = follow o o₂ o₃ (a ++ b) c p p₂ (simp length-append (omega arith)) (follow o o₁ o₂ a b p p₁ e₁ h₁ h₂) h₃
 
-module _ (o o₁ o₂ o₃ : List ℕ) where
-  pub state-stored : (m : State) (at : ℕ) → at + stateLength ≤ length o → o₁ ≡ setPut o at (m .executed)
-      → o₂ ≡ setPut o₁ (at + setLength) (m .pending) → o₃ ≡ setPut o₂ (at + 2 * setLength) (m .included) → o₃ ≡ sets o at (stateBytes m)
+module _ (wide : Bool) (o o₁ o₂ o₃ : List ℕ) where
+  pub state-stored : (m : State) (at n : ℕ) → n ≡ setLength wide → at + stateLength wide ≤ length o → o₁ ≡ setPut wide o at (m .executed)
+      → o₂ ≡ setPut wide o₁ (at + n) (m .pending) → o₃ ≡ setPut wide o₂ (at + 2 * n) (m .included) → o₃ ≡ sets o at (stateBytes wide m)
   unfolding stateBytes
-  state-stored m at room h₁ h₂ h₃ =
-      let kept = set-kept o o₁ at (m .executed) h₁ in
-      let kept₂ = set-kept o₁ o₂ (at + setLength) (m .pending) h₂ in
-      three o o₁ o₂ o₃ (setBytes (m .executed)) (setBytes (m .pending)) (setBytes (m .included)) at (at + setLength) (at + 2 * setLength)
-      (omega (arith, length-set (m .executed))) (omega (arith, length-set (m .pending)))
-      (set-stored o o₁ at (m .executed) h₁ (omega arith)) (set-stored o₁ o₂ (at + setLength) (m .pending) h₂ (omega arith))
-      (set-stored o₂ o₃ (at + 2 * setLength) (m .included) h₃ (omega arith))
+  state-stored m at n hn room h₁ h₂ h₃ =
+      let kept = set-kept wide o o₁ at (m .executed) h₁ in
+      let kept₂ = set-kept wide o₁ o₂ (at + n) (m .pending) h₂ in
+      three o o₁ o₂ o₃ (setBytes wide (m .executed)) (setBytes wide (m .pending)) (setBytes wide (m .included)) at (at + n) (at + 2 * n)
+      (omega (arith, length-set wide (m .executed))) (omega (arith, length-set wide (m .pending)))
+      (set-stored wide o o₁ at (m .executed) h₁ (omega arith)) (set-stored wide o₁ o₂ (at + n) (m .pending) h₂ (omega arith))
+      (set-stored wide o₂ o₃ (at + 2 * n) (m .included) h₃ (omega arith))
 
-  pub head-stored : (h : Head) → headLength ≤ length o → o₁ ≡ sets o 0 (mark ++ (h .activities ∷ []))
-      → o₂ ≡ setPut o₁ eventsPlace (h .events) → o₃ ≡ sets o₂ executedPlace (stateBytes (h .opening .state)) → o₃ ≡ sets o 0 (headBytes h)
+  pub head-stored : (h : Head) (n : ℕ) → n ≡ setLength wide → headLength wide ≤ length o
+      → o₁ ≡ sets o 0 (letters ++ (editionFor (h .activities) ∷ h .activities ∷ [])) → o₂ ≡ setPut wide o₁ eventsPlace (h .events)
+      → o₃ ≡ sets o₂ (eventsPlace + n) (stateBytes wide (h .opening .state)) → o₃ ≡ sets o 0 (headBytes wide h)
   unfolding headBytes
-  head-stored h room h₁ h₂ h₃ =
-      let kept = ap length h₁ ∙ length-sets o 0 (mark ++ (h .activities ∷ [])) in
-      three o o₁ o₂ o₃ (mark ++ (h .activities ∷ [])) (setBytes (h .events)) (stateBytes (h .opening .state)) 0 eventsPlace executedPlace
-      refl (omega (arith, length-set (h .events))) h₁ (set-stored o₁ o₂ eventsPlace (h .events) h₂ (omega arith)) h₃
+  head-stored h n hn room h₁ h₂ h₃ =
+      let kept = ap length h₁ ∙ length-sets o 0 (letters ++ (editionFor (h .activities) ∷ h .activities ∷ [])) in
+      three o o₁ o₂ o₃ (letters ++ (editionFor (h .activities) ∷ h .activities ∷ [])) (setBytes wide (h .events)) (stateBytes wide (h .opening .state))
+      0 eventsPlace (eventsPlace + n)
+      refl (omega (arith, length-set wide (h .events))) h₁ (set-stored wide o₁ o₂ eventsPlace (h .events) h₂ (omega arith)) h₃
 
-  pub file-stored : (g : Graph) → o₁ ≡ sets o 0 (headBytes (g .head)) → o₂ ≡ sets o₁ entriesPlace (entriesBytes (g .relations) relationCount)
-      → o₃ ≡ sets o₂ headLength (relationsBytes (g .relations) relationCount) → o₃ ≡ sets o 0 (bytesOf g)
-  unfolding bytesOf
+  pub file-stored : (g : Graph) → o₁ ≡ sets o 0 (headBytes wide (g .head))
+      → o₂ ≡ sets o₁ (entriesPlace wide) (entriesBytes wide (g .relations) relationCount)
+      → o₃ ≡ sets o₂ (headLength wide) (relationsBytes wide (g .relations) relationCount) → o₃ ≡ sets o 0 (bytesBy wide g)
+  unfolding bytesBy
   file-stored g h₁ h₂ h₃ =
-      three o o₁ o₂ o₃ (headBytes (g .head)) (entriesBytes (g .relations) relationCount) (relationsBytes (g .relations) relationCount)
-      0 entriesPlace headLength (omega (arith, length-head (g .head))) (omega (arith, length-entries (g .relations) relationCount)) h₁ h₂ h₃
+      three o o₁ o₂ o₃ (headBytes wide (g .head)) (entriesBytes wide (g .relations) relationCount) (relationsBytes wide (g .relations) relationCount)
+      0 (entriesPlace wide) (headLength wide) (omega (arith, length-head wide (g .head))) (omega (arith, length-entries wide (g .relations) relationCount))
+      h₁ h₂ h₃
 
 -- ---- relation after relation
 
-module _ (tables : List ℕ) (out₀ : List ℕ) where
-  pub entries-none : out₀ ≡ sets out₀ entriesPlace (entriesBytes tables 0)
+module _ (wide : Bool) (tables : List ℕ) (out₀ : List ℕ) where
+  pub entries-none : out₀ ≡ sets out₀ (entriesPlace wide) (entriesBytes wide tables 0)
   unfolding entriesBytes
   entries-none = refl
 
-  pub relations-none : out₀ ≡ sets out₀ headLength (relationsBytes tables 0)
+  pub relations-none : out₀ ≡ sets out₀ (headLength wide) (relationsBytes wide tables 0)
   unfolding relationsBytes
   relations-none = refl
 
   module _ (out : List ℕ) (r : ℕ) where
-    pub entries-turn : (out′ : List ℕ) (earlier count : ℕ) → out ≡ sets out₀ entriesPlace (entriesBytes tables r) → earlier ≡ rowsBefore tables r
-        → count ≡ rowCount (tableAt tables r) → out′ ≡ sets out (entriesPlace + entryLength * r) (entryBytes earlier count)
-        → out′ ≡ sets out₀ entriesPlace (entriesBytes tables (r + 1))
+    pub entries-turn : (out′ : List ℕ) (earlier count p : ℕ) → p ≡ entriesPlace wide → out ≡ sets out₀ (entriesPlace wide) (entriesBytes wide tables r)
+        → earlier ≡ rowsBefore tables r
+        → count ≡ rowCount (tableAt tables r) → out′ ≡ sets out (p + entryLength * r) (entryBytes wide earlier count)
+        → out′ ≡ sets out₀ (entriesPlace wide) (entriesBytes wide tables (r + 1))
     unfolding entriesBytes
-    entries-turn out′ earlier count h e c s =
-        follow out₀ out out′ (entriesBytes tables r) _ entriesPlace (entriesPlace + entryLength * r) (ap (λ (n : ℕ). entriesPlace + n) (sym (length-entries tables r))) h
-        (s ∙ (λ i. sets out (entriesPlace + entryLength * r) (entryBytes (e i) (c i))))
-        ∙ ap (λ (n : ℕ). sets out₀ entriesPlace (entriesBytes tables n)) (sym (add-one r))
+    entries-turn out′ earlier count p hp h e c s =
+        follow out₀ out out′ (entriesBytes wide tables r) _ (entriesPlace wide) (p + entryLength * r)
+        (omega (arith, length-entries wide tables r)) h
+        (s ∙ (λ i. sets out (p + entryLength * r) (entryBytes wide (e i) (c i))))
+        ∙ ap (λ (n : ℕ). sets out₀ (entriesPlace wide) (entriesBytes wide tables n)) (sym (add-one r))
 
-    pub entries-all : r ≤ relationCount → relationCount ≤ r → out ≡ sets out₀ entriesPlace (entriesBytes tables r)
-        → out ≡ sets out₀ entriesPlace (entriesBytes tables relationCount)
-    entries-all a b h = let same : r ≡ relationCount = omega arith in h ∙ ap (λ (n : ℕ). sets out₀ entriesPlace (entriesBytes tables n)) same
+    pub entries-all : r ≤ relationCount → relationCount ≤ r → out ≡ sets out₀ (entriesPlace wide) (entriesBytes wide tables r)
+        → out ≡ sets out₀ (entriesPlace wide) (entriesBytes wide tables relationCount)
+    entries-all a b h = let same : r ≡ relationCount = omega arith in h ∙ ap (λ (n : ℕ). sets out₀ (entriesPlace wide) (entriesBytes wide tables n)) same
 
-    module _ (next : ℕ) (place : next ≡ headLength + rowLength * rowsBefore tables r) where
-      pub relation-room : r < relationCount → headLength + rowLength * rowsBefore tables relationCount ≤ length out₀
-          → length out ≡ length out₀ → next + rowLength * rowCount (tableAt tables r) ≤ length out
-      relation-room l room same = omega (arith, sum-room (λ k. rowCount (tableAt tables k)) r relationCount l)
+    module _ (next : ℕ) (place : next ≡ headLength wide + rowsLength wide (rowsBefore tables r)) where
+      pub relation-room : r < relationCount → headLength wide + rowsLength wide (rowsBefore tables relationCount) ≤ length out₀
+          → length out ≡ length out₀ → next + rowsLength wide (rowCount (tableAt tables r)) ≤ length out
+      relation-room l room same =
+          let all = sum-room (λ k. rowCount (tableAt tables k)) r relationCount l in
+          omega (
+            arith,
+            rows-add wide (rowsBefore tables r) (rowCount (tableAt tables r)),
+            rows-le wide (rowsBefore tables r + rowCount (tableAt tables r)) (rowsBefore tables relationCount) all,
+          )
 
-      pub place-turn : (next′ : ℕ) → next′ ≡ next + rowLength * rowCount (tableAt tables r)
-          → next′ ≡ headLength + rowLength * rowsBefore tables (r + 1)
+      pub place-turn : (next′ : ℕ) → next′ ≡ next + rowsLength wide (rowCount (tableAt tables r))
+          → next′ ≡ headLength wide + rowsLength wide (rowsBefore tables (r + 1))
       unfolding sumOf
       place-turn next′ e =
-          let more : next′ ≡ headLength + rowLength * rowsBefore tables (suc r) = omega arith in
-          more ∙ ap (λ (n : ℕ). headLength + rowLength * rowsBefore tables n) (sym (add-one r))
+          let more : next′ ≡ headLength wide + rowsLength wide (rowsBefore tables (suc r)) =
+          omega (arith, rows-add wide (rowsBefore tables r) (rowCount (tableAt tables r))) in
+          more ∙ ap (λ (n : ℕ). headLength wide + rowsLength wide (rowsBefore tables n)) (sym (add-one r))
 
-      pub relations-turn : (out′ : List ℕ) → out ≡ sets out₀ headLength (relationsBytes tables r)
-          → out′ ≡ sets out next (relationBytes (tableAt tables r)) → out′ ≡ sets out₀ headLength (relationsBytes tables (r + 1))
+      pub relations-turn : (out′ : List ℕ) → out ≡ sets out₀ (headLength wide) (relationsBytes wide tables r)
+          → out′ ≡ sets out next (relationBytes wide (tableAt tables r)) → out′ ≡ sets out₀ (headLength wide) (relationsBytes wide tables (r + 1))
       unfolding relationsBytes
       relations-turn out′ h s =
-          follow out₀ out out′ (relationsBytes tables r) _ headLength next
-          (place ∙ ap (λ (n : ℕ). headLength + n) (sym (length-relations tables r))) h s
-          ∙ ap (λ (n : ℕ). sets out₀ headLength (relationsBytes tables n)) (sym (add-one r))
+          follow out₀ out out′ (relationsBytes wide tables r) _ (headLength wide) next
+          (place ∙ ap (λ (n : ℕ). headLength wide + n) (sym (length-relations wide tables r))) h s
+          ∙ ap (λ (n : ℕ). sets out₀ (headLength wide) (relationsBytes wide tables n)) (sym (add-one r))
 
-    pub relations-all : r ≤ relationCount → relationCount ≤ r → out ≡ sets out₀ headLength (relationsBytes tables r)
-        → out ≡ sets out₀ headLength (relationsBytes tables relationCount)
+    pub relations-all : r ≤ relationCount → relationCount ≤ r → out ≡ sets out₀ (headLength wide) (relationsBytes wide tables r)
+        → out ≡ sets out₀ (headLength wide) (relationsBytes wide tables relationCount)
     relations-all a b h =
-        let same : r ≡ relationCount = omega arith in h ∙ ap (λ (n : ℕ). sets out₀ headLength (relationsBytes tables n)) same
+        let same : r ≡ relationCount = omega arith in h ∙ ap (λ (n : ℕ). sets out₀ (headLength wide) (relationsBytes wide tables n)) same
 
-pub first-place : (tables : List ℕ) → headLength ≡ headLength + rowLength * rowsBefore tables 0
+pub first-place : (wide : Bool) (tables : List ℕ) (n : ℕ) → n ≡ headLength wide → n ≡ headLength wide + rowsLength wide (rowsBefore tables 0)
 unfolding sumOf
-first-place tables = refl
+first-place wide tables n e = omega (arith, rows-none wide)
 
 pub ruleset each-entry = (entries-none, entries-turn, entries-all)
 

@@ -17,8 +17,8 @@ use Rattle.engine.specs.Judged.{judged}
 use Rattle.engine.specs.Relations.{relationCount}
 use Rattle.engine.specs.declared.graph.Graph.{Graph}
 use Rattle.graphfile.specs.declared.writer.Written.{Written}
-use Rattle.graphfile.specs.Layout.{headLength, rowLength}
-use Rattle.graphfile.specs.Writing.{rowsBefore, bytesOf, judgedRoom, judgedWrite, writtenFor, bufferFor}
+use Rattle.graphfile.specs.Layout.{wideFor, headLength, rowsLength}
+use Rattle.graphfile.specs.Writing.{rowsBefore, bytesBy, bytesOf, judgedRoom, judgedWrite, writtenFor, bufferFor}
 use Rattle.graphfile.specs.Writing.{writtenOf, fileAfter, unjudgedOf, unjudgedAfter}
 use Rattle.sets.proofs.Asking.{refused, passed}
 use Rattle.graphfile.proofs.Stores.{length-file}
@@ -33,12 +33,13 @@ module _ (g : Graph) (a : Answer) (b : Bool) (h : isDone a ≡ b) where
 
 -- ---- room or none
 
-module _ (g : Graph) (out : List ℕ) (rows : ℕ) (hl : rows ≡ rowsBefore (g .relations) relationCount) where
+module _ (g : Graph) (out : List ℕ) (rows head long : ℕ) (wide : Bool) (hw : wide ≡ wideFor (g .head .activities))
+    (hl : rows ≡ rowsBefore (g .relations) relationCount) (hh : head ≡ headLength wide) (hr : long ≡ rowsLength wide rows) where
   abbrev len : ℕ
-  len = headLength + rowLength * rows
+  len = head + long
 
   file-len : len ≡ length (bytesOf g)
-  file-len = ap (λ (n : ℕ). headLength + rowLength * n) hl ∙ sym (length-file g)
+  file-len = (λ i. hh i + (hr ∙ ap (rowsLength wide) hl) i) ∙ sym (length-file wide g) ∙ ap (λ (w : Bool). length (bytesBy w g)) hw
 
   small : length out < len → judgedRoom g (length out) ≡ BufferTooSmall
   small l = ap (λ (x : Bool). when x then BufferTooSmall else Done) (lt-ltb (length out) (length (bytesOf g)) (omega (arith, file-len)))
@@ -54,16 +55,21 @@ module _ (g : Graph) (out : List ℕ) (rows : ℕ) (hl : rows ≡ rowsBefore (g 
   unfolding unjudgedAfter
   small-keeps l = sym (buffer-is g (judgedRoom g (length out)) false (ap isDone (small l)) out)
 
-  pub room-whole : (out′ : List ℕ) → len ≤ length out → out′ ≡ sets out 0 (bytesOf g)
+  pub room-whole : (out′ : List ℕ) → len ≤ length out → out′ ≡ sets out 0 (bytesBy wide g)
       → (_≡_ {A = Written} (record { answer = Done; length = len }) (unjudgedOf g (length out))) × (out′ ≡ unjudgedAfter g out)
   unfolding unjudgedOf unjudgedAfter
   room-whole out′ l f = (
     (λ i. record { answer = sym (enough l) i; length = file-len i }) ∙ sym (written-is g _ true (ap isDone (enough l))),
     f
+        ∙ ap (λ (w : Bool). sets out 0 (bytesBy w g)) hw
         ∙ sets-eq (bytesOf g) out 0 (omega (arith, file-len))
         ∙ ap (λ (k : ℕ). bytesOf g ++ drop k out) (zero-add (length (bytesOf g)))
         ∙ sym (buffer-is g (judgedRoom g (length out)) true (ap isDone (enough l)) out),
   )
+
+pub file-room : (tables out : List ℕ) (rows head long : ℕ) (wide : Bool) → rows ≡ rowsBefore tables relationCount → head ≡ headLength wide
+    → long ≡ rowsLength wide rows → head + long ≤ length out → headLength wide + rowsLength wide (rowsBefore tables relationCount) ≤ length out
+file-room tables out rows head long wide hl hh hr l = omega (arith, hr ∙ ap (rowsLength wide) hl)
 
 -- ---- judged first
 

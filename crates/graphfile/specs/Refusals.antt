@@ -1,40 +1,45 @@
--- When bytes are no graph file, and which number they get (01, "Numbers given back", the order for a graph file).
-use mathlib.Core.Bool.{Bool, true}
+-- When bytes are no graph file, and which number they get (01, "Numbers given back", the order for a graph file; 02, 10/12).
+use mathlib.Core.Bool.{Bool, true, false}
 use mathlib.Core.List.{List}
 use Prim.Native.Nat.{ℕ, zero, suc, _+_, _*_}
 use lib.Dec.{eqb, ltb}
 use lib.ListN.{length}
 use Rattle.sets.specs.Tests.{_or_, non, when_then_else_}
-use Rattle.sets.specs.Members.{width, mem, those, isEmpty, within}
+use Rattle.sets.specs.Members.{mem, those, isEmpty, within}
 use Rattle.sets.specs.declared.set.Set.{Set}
 use Rattle.sets.specs.declared.answer.Answer.{Answer}
 use Rattle.sets.specs.declared.answer.Answer.the-variants.{Done, TooShort, WrongLetters, AboveLimit, WrongOffset, Outside, BadRow}
 use Rattle.engine.specs.Judged.{stateWithin}
 use Rattle.engine.specs.Relations.{relationCount}
 use Rattle.sets.specs.Answers.{thenAsk, firstRefusal}
-use Rattle.sets.specs.Sizes.{mostActivities}
-use Rattle.bytes.specs.Opens.{opensWith}
-use Rattle.graphfile.specs.Layout.{mark, headLength, rowLength, activitiesIn, eventsIn, stateIn, offsetIn, countIn, earlierRows, keyIn, rowIn, endOf}
+use Rattle.bytes.specs.Sets.{setLength}
+use Rattle.bytes.specs.Editions.{editionIn, opensFile, beyond}
+use Rattle.graphfile.specs.Layout.{letters, wideIn, headLength, rowsLength, activitiesIn, eventsIn, stateIn, offsetIn, countIn, earlierRows, keyIn, rowIn, endOf}
 
--- the limit on a relation's rows, whatever A is: 64
-abbrev pub mostRows : ℕ
-mostRows = width
+-- the limit on a relation's rows, whatever A is: 64 in edition 1, 128 in edition 2
+abbrev pub mostRows : Bool → ℕ
+mostRows wide = 8 * setLength wide
 
--- 2; 3 for A; 5 for an event not below A, then for the marking, of which a file holds executed, pending
--- and included
-unfoldable pub judgedHead : List ℕ → Answer
-judgedHead bytes =
-    when non (opensWith mark bytes) then WrongLetters
-    else when ltb mostActivities (activitiesIn bytes) then AboveLimit
-    else when non (within (eventsIn bytes) (those (λ a. ltb a (activitiesIn bytes)))) then Outside
+-- 5 for an event not below A, then for the marking, of which a file holds executed, pending and included
+unfoldable pub judgedSets : List ℕ → Answer
+judgedSets bytes =
+    when non (within (eventsIn bytes) (those (λ a. ltb a (activitiesIn bytes)))) then Outside
     else when non (stateWithin (eventsIn bytes) (stateIn bytes)) then Outside
     else Done
+
+-- 2; 1 again under the length of the head in edition 2; 3 for A with the edition; then 5
+unfoldable pub judgedHead : List ℕ → Answer
+judgedHead bytes =
+    when non (opensFile letters bytes) then WrongLetters
+    else when ltb (length bytes) (headLength (wideIn bytes)) then TooShort
+    else when beyond (editionIn bytes) (activitiesIn bytes) then AboveLimit
+    else judgedSets bytes
 
 -- an entry: 3 for its number of rows, then 4 for its offset, which is in bytes from the first row on
 unfoldable pub judgedEntry : List ℕ → ℕ → Answer
 judgedEntry bytes r =
-    when ltb mostRows (countIn bytes r) then AboveLimit
-    else when non (eqb (offsetIn bytes r) (rowLength * earlierRows bytes r)) then WrongOffset
+    when ltb (mostRows (wideIn bytes)) (countIn bytes r) then AboveLimit
+    else when non (eqb (offsetIn bytes r) (rowsLength (wideIn bytes) (earlierRows bytes r))) then WrongOffset
     else Done
 
 -- the end: 1 where bytes are missing, 4 where there are more
@@ -44,10 +49,10 @@ judgedEnd bytes =
     else when ltb (endOf bytes) (length bytes) then WrongOffset
     else Done
 
--- all that stands before the rows: 1 under the length of the head; the head; entry by entry; the end
+-- all that stands before the rows: 1 under the length of the head in edition 1; the head; entry by entry; the end
 unfoldable pub judgedBeforeRows : List ℕ → Answer
 judgedBeforeRows bytes =
-    when ltb (length bytes) headLength then TooShort
+    when ltb (length bytes) (headLength false) then TooShort
     else thenAsk (judgedHead bytes) (thenAsk (firstRefusal relationCount (judgedEntry bytes)) (judgedEnd bytes))
 
 -- the key of a relation's row j is above the one before; a relation's first row has none before it

@@ -1,4 +1,5 @@
 -- The file of a graph, and what a write gives and leaves in the buffer.
+use mathlib.Core.Bool.{Bool}
 use mathlib.Core.List.{List, [], _∷_, _++_}
 use Prim.Native.Nat.{ℕ, zero, suc, _+_, _*_}
 use lib.Dec.{ltb}
@@ -19,27 +20,28 @@ use Rattle.engine.specs.Judged.{judged}
 use Rattle.graphfile.specs.declared.writer.Written.{Written}
 use Rattle.bytes.specs.Numbers.{littleEndian, numberLength}
 use Rattle.bytes.specs.Sets.{setBytes}
-use Rattle.graphfile.specs.Layout.{mark, rowLength, sumOf}
+use Rattle.bytes.specs.Editions.{editionFor}
+use Rattle.graphfile.specs.Layout.{letters, wideFor, rowsLength, sumOf}
 
 -- the row of an activity: a key and a set; nothing where the set is empty
-unfoldable pub rowOf : ℕ → Set → List ℕ
-rowOf a s = when isEmpty s then [] else a ∷ setBytes s
+unfoldable pub rowOf : Bool → ℕ → Set → List ℕ
+rowOf wide a s = when isEmpty s then [] else a ∷ setBytes wide s
 
 unfoldable pub rowsFor : Set → ℕ
 rowsFor s = when isEmpty s then 0 else 1
 
 -- the rows of n activities from a on, so that keys rise; and how many there are
-unfoldable pub rowsFrom : List ℕ → ℕ → ℕ → List ℕ
-rowsFrom rows zero a = []
-rowsFrom rows (suc n) a = rowOf a (rowAt rows a) ++ rowsFrom rows n (suc a)
+unfoldable pub rowsFrom : Bool → List ℕ → ℕ → ℕ → List ℕ
+rowsFrom wide rows zero a = []
+rowsFrom wide rows (suc n) a = rowOf wide a (rowAt rows a) ++ rowsFrom wide rows n (suc a)
 
 unfoldable pub countFrom : List ℕ → ℕ → ℕ → ℕ
 countFrom rows zero a = 0
 countFrom rows (suc n) a = rowsFor (rowAt rows a) + countFrom rows n (suc a)
 
 -- a relation's rows in the file, and how many there are
-abbrev pub relationBytes : List ℕ → List ℕ
-relationBytes rows = rowsFrom rows width 0
+abbrev pub relationBytes : Bool → List ℕ → List ℕ
+relationBytes wide rows = rowsFrom wide rows width 0
 
 abbrev pub rowCount : List ℕ → ℕ
 rowCount rows = countFrom rows width 0
@@ -49,30 +51,34 @@ abbrev pub rowsBefore : List ℕ → ℕ → ℕ
 rowsBefore tables r = sumOf (λ k. rowCount (tableAt tables k)) r
 
 -- an entry: the bytes of the earlier rows, and the number of rows
-abbrev pub entryBytes : ℕ → ℕ → List ℕ
-entryBytes earlier count = littleEndian numberLength (rowLength * earlier) ++ littleEndian numberLength count
+abbrev pub entryBytes : Bool → ℕ → ℕ → List ℕ
+entryBytes wide earlier count = littleEndian numberLength (rowsLength wide earlier) ++ littleEndian numberLength count
 
 -- the entries of the relations before r
-unfoldable pub entriesBytes : List ℕ → ℕ → List ℕ
-entriesBytes tables zero = []
-entriesBytes tables (suc r) = entriesBytes tables r ++ entryBytes (rowsBefore tables r) (rowCount (tableAt tables r))
+unfoldable pub entriesBytes : Bool → List ℕ → ℕ → List ℕ
+entriesBytes wide tables zero = []
+entriesBytes wide tables (suc r) = entriesBytes wide tables r ++ entryBytes wide (rowsBefore tables r) (rowCount (tableAt tables r))
 
 -- the rows of the relations before r
-unfoldable pub relationsBytes : List ℕ → ℕ → List ℕ
-relationsBytes tables zero = []
-relationsBytes tables (suc r) = relationsBytes tables r ++ relationBytes (tableAt tables r)
+unfoldable pub relationsBytes : Bool → List ℕ → ℕ → List ℕ
+relationsBytes wide tables zero = []
+relationsBytes wide tables (suc r) = relationsBytes wide tables r ++ relationBytes wide (tableAt tables r)
 
 -- executed, pending, included
-unfoldable pub stateBytes : State → List ℕ
-stateBytes s = setBytes (s .executed) ++ setBytes (s .pending) ++ setBytes (s .included)
+unfoldable pub stateBytes : Bool → State → List ℕ
+stateBytes wide s = setBytes wide (s .executed) ++ setBytes wide (s .pending) ++ setBytes wide (s .included)
 
 -- the letters, the edition, A and the four sets
-unfoldable pub headBytes : Head → List ℕ
-headBytes h = mark ++ (h .activities ∷ []) ++ setBytes (h .events) ++ stateBytes (h .opening .state)
+unfoldable pub headBytes : Bool → Head → List ℕ
+headBytes wide h = letters ++ (editionFor (h .activities) ∷ h .activities ∷ []) ++ setBytes wide (h .events) ++ stateBytes wide (h .opening .state)
 
--- the whole file
-unfoldable pub bytesOf : Graph → List ℕ
-bytesOf g = headBytes (g .head) ++ entriesBytes (g .relations) relationCount ++ relationsBytes (g .relations) relationCount
+-- the whole file, in either form
+unfoldable pub bytesBy : Bool → Graph → List ℕ
+bytesBy wide g = headBytes wide (g .head) ++ entriesBytes wide (g .relations) relationCount ++ relationsBytes wide (g .relations) relationCount
+
+-- in the form that goes with A
+abbrev pub bytesOf : Graph → List ℕ
+bytesOf g = bytesBy (wideFor (g .head .activities)) g
 
 -- so many bytes for the file: 7 where they are too few
 abbrev pub judgedRoom : Graph → ℕ → Answer

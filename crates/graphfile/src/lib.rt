@@ -6,6 +6,8 @@ pub mod reader;
 mod refusal;
 pub mod writer;
 
+pub use layout::is_wide;
+pub use layout::wide_for;
 pub use reader::Bare;
 pub use reader::Reading;
 pub use reader::read;

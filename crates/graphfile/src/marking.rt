@@ -8,49 +8,53 @@ use crate::layout;
 use crate::writer;
 use bytes::put_set;
 use bytes::room::too_few;
-use bytes::set::LENGTH as SET;
+use bytes::set;
 use engine::Marking;
 
-// How many bytes a marking has.
-pub const LENGTH: usize = 4 * SET;
-
-// The marking in the bytes from a place on; the empty one where there are too few.
-pub fn read_marking_at(bytes: &[u8], at: usize) -> Marking
-    ensures { λ r. ⌜ r ≡ markingHeld (now (bytes .entry)) at ⌝ }
+// How many bytes a marking has: 32, and 64 where the file of its graph has wide sets (02, 10/12).
+pub fn length(wide: bool) -> usize
+    ensures { λ r. ⌜ r ≡ markingLength wide ⌝ }
 {
-    if too_few(bytes.len(), at, LENGTH) {
-        return Marking::EMPTY;
-    }
-    layout::marking_at(bytes, at)
+    4 * set::length(wide)
 }
 
-fn put_marking(out: &mut [u8], at: usize, m: Marking)
-    requires { ⌜ at + markingLength ≤ length (now out) ⌝ }
-    ensures { λ _. ⌜ now (out .exit) ≡ sets (now (out .entry)) at (markingBytes m) ⌝ }
+// The marking in the bytes from a place on; the empty one where there are too few.
+pub fn read_marking_at(bytes: &[u8], at: usize, wide: bool) -> Marking
+    ensures { λ r. ⌜ r ≡ markingHeld wide (now (bytes .entry)) at ⌝ }
 {
-    writer::put_state(out, at, m.state);
-    put_set(out, at + layout::STATE, m.enabled);
+    if too_few(bytes.len(), at, length(wide)) {
+        return Marking::EMPTY;
+    }
+    layout::marking_at(bytes, at, wide)
+}
+
+fn put_marking(out: &mut [u8], at: usize, m: Marking, wide: bool)
+    requires { ⌜ at + markingLength wide ≤ length (now out) ⌝ }
+    ensures { λ _. ⌜ now (out .exit) ≡ sets (now (out .entry)) at (markingBytes wide m) ⌝ }
+{
+    writer::put_state(out, at, m.state, wide);
+    put_set(out, at + 3 * set::length(wide), m.enabled, wide);
 }
 
 // Puts a marking into the bytes from a place on; where there are too few, nothing changes.
-pub fn write_marking_at(m: Marking, out: &mut [u8], at: usize)
-    ensures { λ _. ⌜ now (out .exit) ≡ markingPut m (now (out .entry)) at ⌝ }
+pub fn write_marking_at(m: Marking, out: &mut [u8], at: usize, wide: bool)
+    ensures { λ _. ⌜ now (out .exit) ≡ markingPut wide m (now (out .entry)) at ⌝ }
 {
-    if !too_few(out.len(), at, LENGTH) {
-        put_marking(out, at, m);
+    if !too_few(out.len(), at, length(wide)) {
+        put_marking(out, at, m, wide);
     }
 }
 
 // The marking in the first bytes.
-pub fn read_marking(bytes: &[u8]) -> Marking
-    ensures { λ r. ⌜ r ≡ markingFrom (now (bytes .entry)) ⌝ }
+pub fn read_marking(bytes: &[u8], wide: bool) -> Marking
+    ensures { λ r. ⌜ r ≡ markingFrom wide (now (bytes .entry)) ⌝ }
 {
-    read_marking_at(bytes, 0)
+    read_marking_at(bytes, 0, wide)
 }
 
 // Puts a marking into the first bytes.
-pub fn write_marking(m: Marking, out: &mut [u8])
-    ensures { λ _. ⌜ now (out .exit) ≡ markingInto m (now (out .entry)) ⌝ }
+pub fn write_marking(m: Marking, out: &mut [u8], wide: bool)
+    ensures { λ _. ⌜ now (out .exit) ≡ markingInto wide m (now (out .entry)) ⌝ }
 {
-    write_marking_at(m, out, 0);
+    write_marking_at(m, out, 0, wide);
 }

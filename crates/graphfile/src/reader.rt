@@ -5,11 +5,12 @@ ghost use lib.ListN.{length};
 ghost use Rattle.sets.specs.Answers.{firstRefusal};
 ghost use Rattle.sets.specs.declared.answer.Answer.the-variants.{Done};
 ghost use Rattle.engine.specs.Relations.{relationCount};
-ghost use Rattle.graphfile.specs.Layout.{headLength, rowLength, endOf};
+ghost use Rattle.graphfile.specs.Layout.{rowPlace, endOf};
 ghost use Rattle.graphfile.specs.Refusals.{judgedRow, judgedRelation, judgedFile};
 ghost use Rattle.graphfile.specs.Held.{filled, withRelation, withRelations, bareOf, bareTables, readOf};
 use crate::layout;
 use crate::refusal;
+use bytes::set_at;
 use engine::Graph;
 use engine::Head;
 use engine::Relations;
@@ -18,7 +19,7 @@ use engine::graph::KINDS;
 use sets::Activity;
 use sets::Answer;
 use sets::Set;
-use sets::activity::WIDTH;
+use sets::rows::WORDS;
 use sets::tables;
 
 // What a read gives: the answer, and the graph; the empty graph where the file is refused.
@@ -29,16 +30,17 @@ pub struct Reading {
 
 // So many rows of the file, each put at its key into table r, up to the first that is refused.
 fn take_rows(bytes: &[u8], r: u8, count: usize, first: usize, held: &mut Relations) -> Answer
-    requires { ⌜ headLength + rowLength * (first + count) ≤ length (now bytes) ⌝ }
+    requires { ⌜ (first + count ≤ 65536 * relationCount) × (rowPlace (now bytes) (first + count) ≤ length (now bytes)) ⌝ }
     ensures { λ a. ⌜ a ≡ firstRefusal count (judgedRow (now (bytes .entry)) first) ⌝ }
     ensures { λ a. ⌜ (a ≡ Done → now (held .exit) ≡ filled (now (bytes .entry)) (now (held .entry)) r count first) ⌝ }
 {
-    let events = layout::set_in(bytes, layout::EVENTS);
+    let wide = layout::is_wide(bytes);
+    let events = set_at(bytes, layout::EVENTS, wide);
     let mut j = 0;
     while j < count {
-        let key = Activity(layout::key_in(bytes, first + j));
-        let row = layout::row_in(bytes, first + j);
-        let above = refusal::key_rises(bytes, first, j);
+        let key = Activity(layout::key_in(bytes, first + j, wide));
+        let row = layout::row_in(bytes, first + j, wide);
+        let above = refusal::key_rises(bytes, first, j, wide);
         let answer = refusal::judge_row(events, key, row, above);
         if !answer.is_done() {
             return answer;
@@ -106,10 +108,11 @@ pub fn read_bare(bytes: &[u8], relations: &mut Relations) -> Bare
     let mut state = State::EMPTY;
     let answer = take(bytes, relations);
     if answer.is_done() {
-        events = layout::set_in(bytes, layout::EVENTS);
-        state = layout::state_in(bytes);
+        let wide = layout::is_wide(bytes);
+        events = set_at(bytes, layout::EVENTS, wide);
+        state = layout::state_in(bytes, wide);
     } else {
-        *relations = [0; KINDS as usize * WIDTH];
+        *relations = [0; KINDS as usize * WORDS];
     }
     Bare {
         answer,
@@ -122,13 +125,13 @@ pub fn read_bare(bytes: &[u8], relations: &mut Relations) -> Bare
 pub fn read(bytes: &[u8]) -> Reading
     ensures { λ r. ⌜ r ≡ readOf (now (bytes .entry)) ⌝ }
 {
-    let mut relations: Relations = [0; KINDS as usize * WIDTH];
+    let mut relations: Relations = [0; KINDS as usize * WORDS];
     let mut head = Head::EMPTY;
     let answer = take(bytes, &mut relations);
     if answer.is_done() {
         head = layout::head_in(bytes, &relations);
     } else {
-        relations = [0; KINDS as usize * WIDTH];
+        relations = [0; KINDS as usize * WORDS];
     }
     Reading {
         answer,

@@ -2,57 +2,75 @@
 ghost use mathlib.Core.Path.{_≡_};
 ghost use Prim.Native.Nat.{_+_, _*_, _≤_, _<_};
 ghost use lib.ListN.{length};
-ghost use Rattle.graphfile.specs.Layout.{headLength, rowLength};
+ghost use mathlib.Core.Bool.{false};
+ghost use Rattle.graphfile.specs.Layout.{wideIn, headLength, rowPlace};
 ghost use Rattle.engine.specs.Relations.{relationCount};
 ghost use Rattle.sets.specs.Answers.{firstRefusal};
-ghost use Rattle.graphfile.specs.Refusals.{judgedHead, judgedEntry, judgedEnd, judgedBeforeRows, rises, rowAnswer};
+ghost use Rattle.graphfile.specs.Refusals.{mostRows, judgedSets, judgedHead, judgedEntry, judgedEnd, judgedBeforeRows, rises, rowAnswer};
 use crate::layout;
-use bytes::opens_with;
+use bytes::edition;
+use bytes::set::length;
+use bytes::set_at;
 use engine::judge::state_within;
 use sets::Activity;
 use sets::Answer;
 use sets::Set;
-use sets::activity::WIDTH;
 
 // The greatest number of rows of a relation, whatever A is.
-const MOST_ROWS: usize = WIDTH;
-
-fn judge_head(bytes: &[u8]) -> Answer
-    requires { ⌜ headLength ≤ length (now bytes) ⌝ }
-    ensures { λ r. ⌜ r ≡ judgedHead (now (bytes .entry)) ⌝ }
+fn most_rows(wide: bool) -> usize
+    ensures { λ r. ⌜ r ≡ mostRows wide ⌝ }
 {
-    if !opens_with(&layout::MARK, bytes) {
-        return Answer::WrongLetters;
-    }
-    let activities = bytes[layout::ACTIVITIES];
-    if Activity::LIMIT < activities {
-        return Answer::AboveLimit;
-    }
-    let events = layout::set_in(bytes, layout::EVENTS);
-    if !events.is_within(Set::below(activities)) {
+    8 * length(wide)
+}
+
+// The events and the marking of a file that has them.
+fn judge_sets(bytes: &[u8]) -> Answer
+    requires { ⌜ headLength (wideIn (now bytes)) ≤ length (now bytes) ⌝ }
+    ensures { λ r. ⌜ r ≡ judgedSets (now (bytes .entry)) ⌝ }
+{
+    let wide = layout::is_wide(bytes);
+    let events = set_at(bytes, layout::EVENTS, wide);
+    if !events.is_within(Set::below(bytes[layout::ACTIVITIES])) {
         return Answer::Outside;
     }
-    if !state_within(events, layout::state_in(bytes)) {
+    if !state_within(events, layout::state_in(bytes, wide)) {
         return Answer::Outside;
     }
     Answer::Done
 }
 
-fn judge_entry(bytes: &[u8], r: usize) -> Answer
-    requires { ⌜ (r < relationCount) × (headLength ≤ length (now bytes)) ⌝ }
-    ensures { λ a. ⌜ a ≡ judgedEntry (now (bytes .entry)) r ⌝ }
+fn judge_head(bytes: &[u8]) -> Answer
+    requires { ⌜ headLength false ≤ length (now bytes) ⌝ }
+    ensures { λ r. ⌜ r ≡ judgedHead (now (bytes .entry)) ⌝ }
 {
-    if MOST_ROWS < layout::count_in(bytes, r) {
+    if !edition::opens_file(&layout::LETTERS, bytes) {
+        return Answer::WrongLetters;
+    }
+    if bytes.len() < layout::head_length(layout::is_wide(bytes)) {
+        return Answer::TooShort;
+    }
+    if edition::is_beyond(edition::edition_in(bytes), bytes[layout::ACTIVITIES]) {
         return Answer::AboveLimit;
     }
-    if layout::offset_in(bytes, r) != layout::ROW * layout::earlier_rows(bytes, r) {
+    judge_sets(bytes)
+}
+
+fn judge_entry(bytes: &[u8], r: usize) -> Answer
+    requires { ⌜ (r < relationCount) × (headLength (wideIn (now bytes)) ≤ length (now bytes)) ⌝ }
+    ensures { λ a. ⌜ a ≡ judgedEntry (now (bytes .entry)) r ⌝ }
+{
+    let wide = layout::is_wide(bytes);
+    if most_rows(wide) < layout::count_in(bytes, r) {
+        return Answer::AboveLimit;
+    }
+    if layout::offset_in(bytes, r) != layout::rows_length(wide, layout::earlier_rows(bytes, r)) {
         return Answer::WrongOffset;
     }
     Answer::Done
 }
 
 fn judge_entries(bytes: &[u8]) -> Answer
-    requires { ⌜ headLength ≤ length (now bytes) ⌝ }
+    requires { ⌜ headLength (wideIn (now bytes)) ≤ length (now bytes) ⌝ }
     ensures { λ a. ⌜ a ≡ firstRefusal relationCount (judgedEntry (now (bytes .entry))) ⌝ }
 {
     let mut r = 0;
@@ -67,10 +85,12 @@ fn judge_entries(bytes: &[u8]) -> Answer
 }
 
 fn judge_end(bytes: &[u8]) -> Answer
-    requires { ⌜ headLength ≤ length (now bytes) ⌝ }
+    requires { ⌜ headLength (wideIn (now bytes)) ≤ length (now bytes) ⌝ }
     ensures { λ a. ⌜ a ≡ judgedEnd (now (bytes .entry)) ⌝ }
 {
-    let end = layout::HEAD + layout::ROW * layout::earlier_rows(bytes, layout::RELATIONS);
+    let wide = layout::is_wide(bytes);
+    let rows = layout::earlier_rows(bytes, layout::RELATIONS);
+    let end = layout::head_length(wide) + layout::rows_length(wide, rows);
     if bytes.len() < end {
         return Answer::TooShort;
     }
@@ -81,15 +101,16 @@ fn judge_end(bytes: &[u8]) -> Answer
 }
 
 // Whether a relation's row j has a key above the one before; the first row has none before it.
-pub(crate) fn key_rises(bytes: &[u8], first: usize, j: usize) -> bool
-    requires { ⌜ headLength + rowLength * (first + j) < length (now bytes) ⌝ }
+pub(crate) fn key_rises(bytes: &[u8], first: usize, j: usize, wide: bool) -> bool
+    requires { ⌜ wide ≡ wideIn (now bytes) ⌝ }
+    requires { ⌜ (first + j ≤ 65536 * relationCount) × (rowPlace (now bytes) (first + j) < length (now bytes)) ⌝ }
     ensures { λ r. ⌜ r ≡ rises (now (bytes .entry)) first j ⌝ }
 {
     if j == 0 {
         return true;
     }
-    let before = layout::key_in(bytes, first + j - 1);
-    before < layout::key_in(bytes, first + j)
+    let before = layout::key_in(bytes, first + j - 1, wide);
+    before < layout::key_in(bytes, first + j, wide)
 }
 
 // A row, by its key and its set: 5, then 6.
@@ -115,7 +136,7 @@ pub(crate) fn judge_row(events: Set, key: Activity, row: Set, above: bool) -> An
 pub(crate) fn judge_before_rows(bytes: &[u8]) -> Answer
     ensures { λ a. ⌜ a ≡ judgedBeforeRows (now (bytes .entry)) ⌝ }
 {
-    if bytes.len() < layout::HEAD {
+    if bytes.len() < layout::head_length(false) {
         return Answer::TooShort;
     }
     let head = judge_head(bytes);

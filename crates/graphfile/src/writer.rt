@@ -7,13 +7,16 @@ ghost use lib.Seq.{sets};
 ghost use Rattle.sets.specs.Members.{width};
 ghost use Rattle.sets.specs.Tables.{tableAt};
 ghost use Rattle.engine.specs.Relations.{relationCount, graphOf};
-ghost use Rattle.graphfile.specs.Layout.{mark, eventsPlace, entriesPlace, stateLength, entryLength, headLength, rowLength};
+ghost use Rattle.bytes.specs.Editions.{editionFor};
+ghost use Rattle.graphfile.specs.Layout.{letters, wideFor, eventsPlace, entriesPlace, stateLength, entryLength, headLength, rowsLength};
 ghost use Rattle.graphfile.specs.Writing.{rowsFor, rowOf, rowCount, rowsBefore, relationBytes};
-ghost use Rattle.graphfile.specs.Writing.{entryBytes, entriesBytes, stateBytes, headBytes, relationsBytes, bytesOf, writtenOf, fileAfter, unjudgedOf, unjudgedAfter};
+ghost use Rattle.graphfile.specs.Writing.{entryBytes, entriesBytes, stateBytes, headBytes, relationsBytes, bytesBy, writtenOf, fileAfter, unjudgedOf, unjudgedAfter};
 use crate::layout;
+use bytes::edition::edition_for;
 use bytes::number::LENGTH as NUMBER;
 use bytes::put_number;
 use bytes::put_set;
+use bytes::set;
 use engine::Graph;
 use engine::Head;
 use engine::Relations;
@@ -71,30 +74,30 @@ fn row_total(relations: &Relations) -> usize
 }
 
 // Stores the row of an activity, if it is not empty, and gives the place after it.
-fn put_row(out: &mut [u8], at: usize, key: Activity, s: Set) -> usize
-    requires { ⌜ at + rowLength * rowsFor s ≤ length (now out) ⌝ }
-    ensures { λ n. ⌜ n ≡ at + rowLength * rowsFor s ⌝ }
-    ensures { λ _. ⌜ now (out .exit) ≡ sets (now (out .entry)) at (rowOf (key .0) s) ⌝ }
+fn put_row(out: &mut [u8], at: usize, key: Activity, s: Set, wide: bool) -> usize
+    requires { ⌜ at + rowsLength wide (rowsFor s) ≤ length (now out) ⌝ }
+    ensures { λ n. ⌜ n ≡ at + rowsLength wide (rowsFor s) ⌝ }
+    ensures { λ _. ⌜ now (out .exit) ≡ sets (now (out .entry)) at (rowOf wide (key .0) s) ⌝ }
 {
     if s.is_empty() {
         return at;
     }
     out[at] = key.0;
-    put_set(out, at + 1, s);
-    at + layout::ROW
+    put_set(out, at + 1, s, wide);
+    at + 1 + set::length(wide)
 }
 
 // Stores the rows of relation r, and gives the place after them.
-fn put_rows(out: &mut [u8], at: usize, relations: &Relations, r: u8) -> usize
-    requires { ⌜ at + rowLength * rowCount (tableAt (now relations) r) ≤ length (now out) ⌝ }
-    ensures { λ n. ⌜ n ≡ at + rowLength * rowCount (tableAt (now (relations .entry)) r) ⌝ }
-    ensures { λ _. ⌜ now (out .exit) ≡ sets (now (out .entry)) at (relationBytes (tableAt (now (relations .entry)) r)) ⌝ }
+fn put_rows(out: &mut [u8], at: usize, relations: &Relations, r: u8, wide: bool) -> usize
+    requires { ⌜ at + rowsLength wide (rowCount (tableAt (now relations) r)) ≤ length (now out) ⌝ }
+    ensures { λ n. ⌜ n ≡ at + rowsLength wide (rowCount (tableAt (now (relations .entry)) r)) ⌝ }
+    ensures { λ _. ⌜ now (out .exit) ≡ sets (now (out .entry)) at (relationBytes wide (tableAt (now (relations .entry)) r)) ⌝ }
 {
     let mut next = at;
     let mut a: u8 = 0;
     while a < Activity::LIMIT {
         let key = Activity(a);
-        next = put_row(out, next, key, tables::row(relations, r, key));
+        next = put_row(out, next, key, tables::row(relations, r, key), wide);
         a += 1;
     }
     next
@@ -103,58 +106,66 @@ fn put_rows(out: &mut [u8], at: usize, relations: &Relations, r: u8) -> usize
 // Stores the letters, the edition and A.
 fn put_letters(out: &mut [u8], activities: u8)
     requires { ⌜ eventsPlace ≤ length (now out) ⌝ }
-    ensures { λ _. ⌜ now (out .exit) ≡ sets (now (out .entry)) 0 (mark ++ (activities ∷ [])) ⌝ }
+    ensures { λ _. ⌜ now (out .exit) ≡ sets (now (out .entry)) 0 (letters ++ (editionFor activities ∷ activities ∷ [])) ⌝ }
 {
-    let wanted = layout::MARK;
-    out[0] = wanted[0];
-    out[1] = wanted[1];
-    out[2] = wanted[2];
+    let letters = layout::LETTERS;
+    out[0] = letters[0];
+    out[1] = letters[1];
+    out[2] = edition_for(activities);
     out[layout::ACTIVITIES] = activities;
 }
 
 // Stores what a file holds of a marking: executed, pending, included.
-pub(crate) fn put_state(out: &mut [u8], at: usize, s: State)
-    requires { ⌜ at + stateLength ≤ length (now out) ⌝ }
-    ensures { λ _. ⌜ now (out .exit) ≡ sets (now (out .entry)) at (stateBytes s) ⌝ }
+pub(crate) fn put_state(out: &mut [u8], at: usize, s: State, wide: bool)
+    requires { ⌜ at + stateLength wide ≤ length (now out) ⌝ }
+    ensures { λ _. ⌜ now (out .exit) ≡ sets (now (out .entry)) at (stateBytes wide s) ⌝ }
 {
-    put_set(out, at, s.executed);
-    put_set(out, at + layout::PENDING, s.pending);
-    put_set(out, at + layout::INCLUDED, s.included);
+    let set = set::length(wide);
+    put_set(out, at, s.executed, wide);
+    put_set(out, at + set, s.pending, wide);
+    put_set(out, at + 2 * set, s.included, wide);
 }
 
 // Stores the letters, the edition, A and the four sets.
-fn put_head(out: &mut [u8], head: Head)
-    requires { ⌜ headLength ≤ length (now out) ⌝ }
-    ensures { λ _. ⌜ now (out .exit) ≡ sets (now (out .entry)) 0 (headBytes head) ⌝ }
+fn put_head(out: &mut [u8], head: Head, wide: bool)
+    requires { ⌜ headLength wide ≤ length (now out) ⌝ }
+    ensures { λ _. ⌜ now (out .exit) ≡ sets (now (out .entry)) 0 (headBytes wide head) ⌝ }
 {
     put_letters(out, head.activities);
-    put_set(out, layout::EVENTS, head.events);
-    put_state(out, layout::EXECUTED, head.opening.state);
+    put_set(out, layout::EVENTS, head.events, wide);
+    put_state(
+        out,
+        layout::EVENTS + set::length(wide),
+        head.opening.state,
+        wide,
+    );
 }
 
 // Stores an entry: where the relation's rows begin, counted in bytes from the first row, and how many there are.
-fn put_entry(out: &mut [u8], at: usize, earlier: usize, count: usize)
+fn put_entry(out: &mut [u8], at: usize, earlier: usize, count: usize, wide: bool)
     requires { ⌜ (at + entryLength ≤ length (now out)) × (earlier ≤ width * relationCount) × (count ≤ width) ⌝ }
-    ensures { λ _. ⌜ now (out .exit) ≡ sets (now (out .entry)) at (entryBytes earlier count) ⌝ }
+    ensures { λ _. ⌜ now (out .exit) ≡ sets (now (out .entry)) at (entryBytes wide earlier count) ⌝ }
 {
-    put_number(out, at, (layout::ROW * earlier) as u16);
+    put_number(out, at, layout::rows_length(wide, earlier) as u16);
     put_number(out, at + NUMBER, count as u16);
 }
 
 // Stores the four entries.
-fn put_entries(out: &mut [u8], relations: &Relations)
-    requires { ⌜ headLength ≤ length (now out) ⌝ }
-    ensures { λ _. ⌜ now (out .exit) ≡ sets (now (out .entry)) entriesPlace (entriesBytes (now (relations .entry)) relationCount) ⌝ }
+fn put_entries(out: &mut [u8], relations: &Relations, wide: bool)
+    requires { ⌜ headLength wide ≤ length (now out) ⌝ }
+    ensures { λ _. ⌜ now (out .exit) ≡ sets (now (out .entry)) (entriesPlace wide) (entriesBytes wide (now (relations .entry)) relationCount) ⌝ }
 {
+    let entries = layout::entries_place(wide);
     let mut earlier = 0;
     let mut r: u8 = 0;
     while r < KINDS {
         let count = row_count(relations, r);
         put_entry(
             out,
-            layout::OFFSETS + layout::ENTRY * r as usize,
+            entries + layout::ENTRY * r as usize,
             earlier,
             count,
+            wide,
         );
         earlier += count;
         r += 1;
@@ -162,26 +173,26 @@ fn put_entries(out: &mut [u8], relations: &Relations)
 }
 
 // Stores the rows of the four relations.
-fn put_relations(out: &mut [u8], relations: &Relations)
-    requires { ⌜ headLength + rowLength * rowsBefore (now relations) relationCount ≤ length (now out) ⌝ }
-    ensures { λ _. ⌜ now (out .exit) ≡ sets (now (out .entry)) headLength (relationsBytes (now (relations .entry)) relationCount) ⌝ }
+fn put_relations(out: &mut [u8], relations: &Relations, wide: bool)
+    requires { ⌜ headLength wide + rowsLength wide (rowsBefore (now relations) relationCount) ≤ length (now out) ⌝ }
+    ensures { λ _. ⌜ now (out .exit) ≡ sets (now (out .entry)) (headLength wide) (relationsBytes wide (now (relations .entry)) relationCount) ⌝ }
 {
-    let mut next = layout::HEAD;
+    let mut next = layout::head_length(wide);
     let mut r: u8 = 0;
     while r < KINDS {
-        next = put_rows(out, next, relations, r);
+        next = put_rows(out, next, relations, r, wide);
         r += 1;
     }
 }
 
-// Stores the file of a graph.
-fn put_file(out: &mut [u8], head: Head, relations: &Relations)
-    requires { ⌜ headLength + rowLength * rowsBefore (now relations) relationCount ≤ length (now out) ⌝ }
-    ensures { λ _. ⌜ now (out .exit) ≡ sets (now (out .entry)) 0 (bytesOf (graphOf head (now (relations .entry)))) ⌝ }
+// Stores the file of a graph, in either form.
+fn put_file(out: &mut [u8], head: Head, relations: &Relations, wide: bool)
+    requires { ⌜ headLength wide + rowsLength wide (rowsBefore (now relations) relationCount) ≤ length (now out) ⌝ }
+    ensures { λ _. ⌜ now (out .exit) ≡ sets (now (out .entry)) 0 (bytesBy wide (graphOf head (now (relations .entry)))) ⌝ }
 {
-    put_head(out, head);
-    put_entries(out, relations);
-    put_relations(out, relations);
+    put_head(out, head, wide);
+    put_entries(out, relations, wide);
+    put_relations(out, relations, wide);
 }
 
 // Writes the file of a graph that nobody judges here, for callers that have it from a reader or a miner. Of a graph that is refused when it is
@@ -190,14 +201,15 @@ pub fn write_unjudged(head: Head, relations: &Relations, out: &mut [u8]) -> Writ
     ensures { λ r. ⌜ r ≡ unjudgedOf (graphOf head (now (relations .entry))) (length (now (out .entry))) ⌝ }
     ensures { λ _. ⌜ now (out .exit) ≡ unjudgedAfter (graphOf head (now (relations .entry))) (now (out .entry)) ⌝ }
 {
-    let length = layout::HEAD + layout::ROW * row_total(relations);
+    let wide = layout::wide_for(head.activities);
+    let length = layout::head_length(wide) + layout::rows_length(wide, row_total(relations));
     if out.len() < length {
         return Written {
             answer: Answer::BufferTooSmall,
             length: 0,
         };
     }
-    put_file(out, head, relations);
+    put_file(out, head, relations, wide);
     Written {
         answer: Answer::Done,
         length,

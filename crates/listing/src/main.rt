@@ -21,7 +21,7 @@ fn list(profile: Profile) {
     let mut log = [0u8; 36871];
     let n = io::read_full(STDIN_FILENO, &mut log);
     // No listing is longer.
-    let mut out = [0u8; 147506];
+    let mut out = [0u8; 671799];
     let listed = report::write_listing(&log[..n], profile, &mut out);
     write_first(&out, listed.length);
 }

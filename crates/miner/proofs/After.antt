@@ -13,7 +13,7 @@ use lib.Seq.{drop-append-le, getD-at, getD-set-same, getD-set-other}
 use Rattle.sets.specs.Tests.{_and_, _or_, non}
 use Rattle.sets.specs.Members.{width, mem, those}
 use Rattle.sets.specs.declared.set.Set.{Set}
-use Rattle.sets.proofs.Tests.{T→true, F→false, split, either, and-true, and-false, or-assoc, or-true, or-false, false-and, non-non}
+use Rattle.sets.proofs.Tests.{T→true, F→false, split, either, and-comm, and-true, or-assoc, or-true, or-false, false-and, non-non}
 use Rattle.sets.proofs.Members.{those-ext, those-of, those-mem, Fits}
 use Rattle.rules.specs.Traces.{_has_}
 use Rattle.tally.proofs.Turns.{rest-next, seenIn}
@@ -140,22 +140,16 @@ module _ (after : Set) (last : List ℕ) (e i : ℕ) where
   abbrev leaving : ℕ → Bool
   leaving x = mem after x and non (eqb x e and eqb (getD last e 0) i)
 
-  pub left-last : (one r : Set) → getD last e 0 ≡ i → one ≡ those (λ b. eqb b e) → r ≡ those (λ x. mem after x and non (mem one x)) → r
-      ≡ those leaving
-  left-last one r t ho hr =
-      hr ∙ those-of one (λ b. eqb b e) (λ x c. mem after x and non c) ho
-      ∙ those-ext (λ x. mem after x and non (eqb x e)) leaving
-      (λ x l. ap (λ (c : Bool). mem after x and non c)
-      (sym (and-true (eqb x e)) ∙ ap (λ (c : Bool). eqb x e and c) (sym (eq-eqb (getD last e 0) i t))))
+  pub left-last : (gone r : Set) → gone ≡ those (λ b. eqb (getD last e 0) i and eqb b e) → r ≡ those (λ x. mem after x and non (mem gone x))
+      → r ≡ those leaving
+  left-last gone r hg hr =
+      hr ∙ those-of gone (λ b. eqb (getD last e 0) i and eqb b e) (λ x c. mem after x and non c) hg
+      ∙ those-ext (λ x. mem after x and non (eqb (getD last e 0) i and eqb x e)) leaving
+      (λ x l. ap (λ (c : Bool). mem after x and non c) (and-comm (eqb (getD last e 0) i) (eqb x e)))
 
   stays : (x : ℕ) → (eqb x e and eqb (getD last e 0) i) ≡ false → mem after x ≡ leaving x
   unfolding non
   stays x f = sym (and-true (mem after x)) ∙ ap (λ (c : Bool). mem after x and non c) (sym f)
-
-  pub left-not : Fits after → (getD last e 0 ≡ i → ⊥) → after ≡ those leaving
-  left-not s f =
-      sym (those-mem after s)
-      ∙ those-ext (mem after) leaving (λ x l. stays x (ap (λ (c : Bool). eqb x e and c) (ne-eqb (getD last e 0) i f) ∙ and-false (eqb x e)))
 
   pub left-out : Fits after → width ≤ e → after ≡ those leaving
   left-out s g =

@@ -7,7 +7,7 @@ use native.Mathlib.Omega.{arith}
 use lib.ListN.{length, length-replicate}
 use Rattle.sets.specs.Tests.{_and_, non}
 use Rattle.sets.specs.Members.{width, mem, those, someBelow}
-use Rattle.sets.specs.Rows.{Relation, inRow, noRows, rowsOf, rowsFor, turned}
+use Rattle.sets.specs.Rows.{Relation, rowWords, inRow, noRows, rowsOf, rowsFor, turned}
 use Rattle.sets.specs.Tables.{noTables, tableAt, withTable}
 use Rattle.sets.specs.declared.set.Set.{Set}
 use Rattle.sets.proofs.RowLaws.{in-rowsOf, rowsOf-ext, length-rowsOf}
@@ -22,34 +22,33 @@ use Rattle.rules.specs.declared.Profile.the-variants.{Full, Light}
 use Rattle.rules.specs.Traces.{Traces, _has_, someTrace}
 use Rattle.rules.specs.Mining.{event}
 use Rattle.steps.specs.Rowwise.{excluders, inEither, reducedOf, waited}
-use Rattle.tally.specs.Passes.{gains, forward, through}
-use Rattle.tally.specs.Tallies.{tableCount, noted, tallied, beforeTable, laterTable}
+use Rattle.tally.specs.Passes.{gains, forward, through, cut}
+use Rattle.tally.specs.Tallies.{tableCount, notedFor, talliedFor, beforeTable, laterTable}
 use Rattle.tally.proofs.Folds.{forward-rowsOf, through-rowsOf}
 use Rattle.miner.specs.Facts.{Less, letIn, beforeFirst, missed}
-use Rattle.miner.specs.Stages.{conditionsOf, chainsOf, responsesOf, neverOf, fiveOf, followersOf, redundantBy, sevenFrom, includesSix, excludesSix}
-use Rattle.miner.specs.Stages.{waitedOf, fourTables, tablesRead, graphFound}
+use Rattle.miner.specs.Stages.{conditionsOf, chainsOf, responsesOf, neverOf, fiveOf, followersOf, redundantBy, sevenFrom, includesIn, excludesSix}
+use Rattle.miner.specs.Stages.{letInOf}
+use Rattle.miner.specs.Stages.{waitedIn, aheadOf, missedOf, fourTables, tablesIn, graphFoundIn}
 use Rattle.miner.proofs.Holding.{Held, held-any, length-held, held-c, held-r, held-i, held-x, held-four, held-is, taken-from, put-long}
 
 -- step 6, of the includes
-pub let-in-by : (L : Traces) (t t′ never never′ held held′ includes : List ℕ) → t′ ≡ withTable t 2 includes
-    → includes ≡ through (λ r σ. forward (gains (letIn never)) r [] σ) held L → never ≡ never′ → held ≡ held′
-    → t′ ≡ withTable t 2 (through (λ r σ. forward (gains (letIn never′)) r [] σ) held′ L)
-let-in-by L t t′ never never′ held held′ includes h hi hn hh =
-    h ∙ ap (withTable t 2) (hi ∙ (λ i. through (λ r σ. forward (gains (letIn (hn i))) r [] σ) (hh i) L))
+pub let-in-by : (wide : Bool) (L : Traces) (t t′ never never′ held held′ includes : List ℕ) → t′ ≡ withTable t 2 includes
+    → includes ≡ letInOf wide never held L → never ≡ never′ → held ≡ held′
+    → t′ ≡ withTable t 2 (letInOf wide never′ held′ L)
+let-in-by wide L t t′ never never′ held held′ includes h hi hn hh =
+    h ∙ ap (withTable t 2) (hi ∙ (λ i. letInOf wide (hn i) (hh i) L))
 
 -- step 9: what is waited for
-pub nine-by : (L : Traces) (events : Set) (eight includes excludes t t′ first₀ unmet₀ first unmet : List ℕ)
+pub nine-by : (wide : Bool) (L : Traces) (events : Set) (eight includes excludes t t′ first₀ unmet₀ first unmet : List ℕ)
     → t′ ≡ withTable t 0 (rowsFor events (waited events eight first unmet))
-    → first ≡ through (λ r σ. forward (gains beforeFirst) r [] σ) first₀ L
-    → unmet ≡ through (λ r σ. forward (gains (missed events includes excludes)) r [] σ) unmet₀ L → first₀ ≡ noRows → unmet₀ ≡ noRows
+    → first ≡ aheadOf wide first₀ L → unmet ≡ missedOf wide events includes excludes unmet₀ L → first₀ ≡ noRows → unmet₀ ≡ noRows
     → t′ ≡ withTable t 0
-    (rowsFor events (waited events eight (through (λ r σ. forward (gains beforeFirst) r [] σ) noRows L)
-    (through (λ r σ. forward (gains (missed events includes excludes)) r [] σ) noRows L)))
-nine-by L events eight includes excludes t t′ first₀ unmet₀ first unmet h hf hu h₀ k₀ =
+    (rowsFor events (waited events eight (aheadOf wide noRows L) (missedOf wide events includes excludes noRows L)))
+nine-by wide L events eight includes excludes t t′ first₀ unmet₀ first unmet h hf hu h₀ k₀ =
     h
     ∙ ap₂ (λ (x y : List ℕ). withTable t 0 (rowsFor events (waited events eight x y)))
-    (hf ∙ ap (λ (x : List ℕ). through (λ r σ. forward (gains beforeFirst) r [] σ) x L) h₀)
-    (hu ∙ ap (λ (x : List ℕ). through (λ r σ. forward (gains (missed events includes excludes)) r [] σ) x L) k₀)
+    (hf ∙ ap (λ (x : List ℕ). aheadOf wide x L) h₀)
+    (hu ∙ ap (λ (x : List ℕ). missedOf wide events includes excludes x L) k₀)
 
 -- step 7: what is left of the excludes
 pub seven-by : (L : Traces) (events : Set) (tally t left₀ left t′ : List ℕ) → left₀ ≡ withTable noRows 0 (tableAt t 3)
@@ -67,18 +66,18 @@ seven-by L events tally t left₀ left t′ h₀ l h r hr =
 
 -- ---- the rows of a stage are rows of the width
 
-length-for : (events : Set) (r : ℕ → ℕ → Bool) → length (rowsFor events r) ≡ width
+length-for : (events : Set) (r : ℕ → ℕ → Bool) → length (rowsFor events r) ≡ rowWords
 unfolding rowsFor
 length-for events r = length-rowsOf _
 
-module _ (L : Traces) (events : Set) (tally : List ℕ) where
-  length-includes : (p : Profile) → length (includesSix p events tally L) ≡ width
+module _ (wide : Bool) (L : Traces) (events : Set) (tally : List ℕ) where
+  length-includes : (p : Profile) → length (includesIn wide p events tally L) ≡ rowWords
   length-includes Full =
-      ap length (through-rowsOf (letIn (neverOf events tally)) _ (λ r σ. forward-rowsOf (letIn (neverOf events tally)) r [] σ)
+      ap length (through-rowsOf (cut wide (letIn (neverOf events tally))) _ (λ r σ. forward-rowsOf (cut wide (letIn (neverOf events tally))) r [] σ)
       (turned (chainsOf events tally)) L) ∙ length-rowsOf _
   length-includes Light = length-rowsOf _
 
-  length-excludes : (p : Profile) → length (excludesSix p events tally) ≡ width
+  length-excludes : (p : Profile) → length (excludesSix p events tally) ≡ rowWords
   length-excludes Full = length-for events _
   length-excludes Light = length-rowsOf _
 
@@ -90,22 +89,21 @@ module _ (L : Traces) (events : Set) (tally : List ℕ) where
 
   -- ---- step 6
   module _ (t t₁ t₂ t₃ : List ℕ) (h₁ : t₁ ≡ withTable t 1 (neverOf events tally))
-      (h₂ : t₂ ≡ withTable t₁ 2 (through (λ r σ. forward (gains (letIn (withTable noRows 0 (tableAt t₁ 1)))) r [] σ)
-      (withTable noRows 0 (tableAt t₁ 2)) L))
+      (h₂ : t₂ ≡ withTable t₁ 2 (letInOf wide (withTable noRows 0 (tableAt t₁ 1)) (withTable noRows 0 (tableAt t₁ 2)) L))
       (h₃ : t₃ ≡ withTable t₂ 3 (rowsFor events (inEither (withTable noRows 0 (tableAt t₂ 3)) (withTable noRows 0 (tableAt t₂ 1))))) where
     abbrev never : List ℕ
     never = neverOf events tally
 
     abbrev let-in : List ℕ → List ℕ
-    let-in rows = through (λ r σ. forward (gains (letIn never)) r [] σ) rows L
+    let-in rows = letInOf wide never rows L
 
-    six-held : length t ≡ relationCount * width → length (let-in (tableAt t 2)) ≡ width
+    six-held : length t ≡ relationCount * rowWords → length (let-in (tableAt t 2)) ≡ rowWords
         → Held t₃ (tableAt t 0) never (let-in (tableAt t 2)) (rowsFor events (inEither (tableAt t 3) never))
     six-held long li =
         let one = held-r _ _ _ _ _ t₁ never (held-any t long) (length-for events _) h₁ in
         let two = held-i _ _ _ _ _ t₂ (let-in (tableAt t 2)) one li
         (h₂
-        ∙ (λ i. withTable t₁ 2 (through (λ r σ. forward (gains (letIn (taken-from t₁ 1 never (one .responses) (length-for events _) i))) r [] σ)
+        ∙ (λ i. withTable t₁ 2 (letInOf wide (taken-from t₁ 1 never (one .responses) (length-for events _) i)
         (taken-from t₁ 2 (tableAt t 2) (one .includes) (length-held t 2 long (omega arith)) i) L))) in
         held-x _ _ _ _ _ t₃ _ two (length-for events _)
         (h₃
@@ -116,12 +114,12 @@ module _ (L : Traces) (events : Set) (tally : List ℕ) where
     pub six-length : length t₃ ≡ length t
     six-length = put-long t₂ t₃ 3 _ h₃ ∙ put-long t₁ t₂ 2 _ h₂ ∙ put-long t t₁ 1 _ h₁
 
-    module _ (p : Profile) (e : p ≡ Full) (long : length t ≡ relationCount * width) (hi : tableAt t 2 ≡ includesSix Light events tally L) where
+    module _ (p : Profile) (e : p ≡ Full) (long : length t ≡ relationCount * rowWords) (hi : tableAt t 2 ≡ includesIn wide Light events tally L) where
       full-held : Held t₃ (tableAt t 0) never (let-in (tableAt t 2)) (rowsFor events (inEither (tableAt t 3) never))
       full-held = six-held long (ap (λ (x : List ℕ). length (let-in x)) hi ∙ length-includes Full)
 
-      pub six-includes : tableAt t₃ 2 ≡ includesSix p events tally L
-      six-includes = full-held .includes ∙ ap let-in hi ∙ ap (λ (q : Profile). includesSix q events tally L) (sym e)
+      pub six-includes : tableAt t₃ 2 ≡ includesIn wide p events tally L
+      six-includes = full-held .includes ∙ ap let-in hi ∙ ap (λ (q : Profile). includesIn wide q events tally L) (sym e)
 
       pub six-excludes : tableAt t 3 ≡ excludesSix Light events tally → tableAt t₃ 3 ≡ excludesSix p events tally
       six-excludes hx =
@@ -129,10 +127,10 @@ module _ (L : Traces) (events : Set) (tally : List ℕ) where
           ∙ ap (λ (x : List ℕ). rowsFor events (inEither x never)) hx
           ∙ ap (λ (q : Profile). excludesSix q events tally) (sym e)
 
-  module _ (t : List ℕ) (p : Profile) (e : p ≡ Light) (long : length t ≡ relationCount * width)
-      (hi : tableAt t 2 ≡ includesSix Light events tally L) where
-    pub light-includes : tableAt t 2 ≡ includesSix p events tally L
-    light-includes = hi ∙ ap (λ (q : Profile). includesSix q events tally L) (sym e)
+  module _ (t : List ℕ) (p : Profile) (e : p ≡ Light) (long : length t ≡ relationCount * rowWords)
+      (hi : tableAt t 2 ≡ includesIn wide Light events tally L) where
+    pub light-includes : tableAt t 2 ≡ includesIn wide p events tally L
+    light-includes = hi ∙ ap (λ (q : Profile). includesIn wide q events tally L) (sym e)
 
     pub light-excludes : tableAt t 3 ≡ excludesSix Light events tally → tableAt t 3 ≡ excludesSix p events tally
     light-excludes hx = hx ∙ ap (λ (q : Profile). excludesSix q events tally) (sym e)
@@ -146,30 +144,30 @@ module _ (L : Traces) (events : Set) (tally : List ℕ) where
     answersOf = rowsFor events (reducedOf (responsesOf events tally))
 
     abbrev afterSeven : List ℕ
-    afterSeven = sevenFrom events tally (includesSix p events tally L) (excludesSix p events tally) L
+    afterSeven = sevenFrom events tally (includesIn wide p events tally L) (excludesSix p events tally) L
 
     abbrev excludedOf : List ℕ
     excludedOf = rowsFor events (excluders events (tableAt tally beforeTable) (tableAt tally laterTable) (chainsOf events tally))
 
-    pub eight-four : Held (fourTables eightOf answersOf (includesSix p events tally L) afterSeven) eightOf answersOf
-        (includesSix p events tally L) afterSeven
+    pub eight-four : Held (fourTables eightOf answersOf (includesIn wide p events tally L) afterSeven) eightOf answersOf
+        (includesIn wide p events tally L) afterSeven
     eight-four = held-four _ _ _ _ (length-for events _) (length-for events _) (length-includes p) (length-rowsOf _)
 
     pub eight-by : (t t₁ t₂ t₃ t₄ t₅ t₆ t₇ : List ℕ) → t₁ ≡ withTable t 2 (rowsOf (turned (chainsOf events tally)))
         → t₂ ≡ withTable t₁ 3 excludedOf → t₃ ≡ withTable t₂ 3 (rowsOf (turned (withTable noRows 0 (tableAt t₂ 3))))
         → length t₄ ≡ length t₃
-        → (length t₃ ≡ relationCount * width → tableAt t₃ 2 ≡ includesSix Light events tally L → tableAt t₄ 2 ≡ includesSix p events tally L)
-        → (length t₃ ≡ relationCount * width → tableAt t₃ 2 ≡ includesSix Light events tally L
+        → (length t₃ ≡ relationCount * rowWords → tableAt t₃ 2 ≡ includesIn wide Light events tally L → tableAt t₄ 2 ≡ includesIn wide p events tally L)
+        → (length t₃ ≡ relationCount * rowWords → tableAt t₃ 2 ≡ includesIn wide Light events tally L
         → tableAt t₃ 3 ≡ excludesSix Light events tally → tableAt t₄ 3 ≡ excludesSix p events tally)
         → ((r : Relation) → tableAt t₄ 3 ≡ rowsOf r → t₅ ≡ withTable t₄ 3 (sevenFrom events tally (tableAt t₄ 2) (tableAt t₄ 3) L))
         → t₆ ≡ withTable t₅ 0 eightOf → t₇ ≡ withTable t₆ 1 answersOf
-        → length t ≡ relationCount * width → t₇ ≡ fourTables eightOf answersOf (includesSix p events tally L) afterSeven
+        → length t ≡ relationCount * rowWords → t₇ ≡ fourTables eightOf answersOf (includesIn wide p events tally L) afterSeven
     eight-by t t₁ t₂ t₃ t₄ t₅ t₆ t₇ h₁ h₂ h₃ l₄ i₄ x₄ h₅ h₆ h₇ long =
         let three = held-i _ _ _ _ _ t₁ _ (held-any t long) (length-rowsOf _) h₁ in
         let excluded = held-x _ _ _ _ _ t₂ _ three (length-for events _) h₂ in
         let five = held-x _ _ _ _ _ t₃ (fiveOf events tally) excluded (length-rowsOf _)
         (h₃ ∙ ap (λ (x : List ℕ). withTable t₂ 3 (rowsOf (turned x))) (taken-from t₂ 3 excludedOf (excluded .excludes) (length-for events _))) in
-        let six : Held t₄ (tableAt t₄ 0) (tableAt t₄ 1) (includesSix p events tally L) (excludesSix p events tally) = record {
+        let six : Held t₄ (tableAt t₄ 0) (tableAt t₄ 1) (includesIn wide p events tally L) (excludesSix p events tally) = record {
           long = l₄ ∙ five .long;
           conditions = refl;
           responses = refl;
@@ -188,54 +186,53 @@ pub events-by : (L : Traces) (r : Set) → r ≡ those (λ x. someTrace L (λ σ
 unfolding event
 events-by L r h = h
 
-pub tally-by : (L : Traces) (events : Set) (p : Profile) (none tally t t′ : List ℕ) → none ≡ noTables tableCount → tally ≡ through noted none L
-    → (length t ≡ relationCount * width → t′
-    ≡ fourTables (eightOf L events tally p) (answersOf L events tally p) (includesSix p events tally L) (afterSeven L events tally p))
-    → length t ≡ relationCount * width → t′
-    ≡ fourTables (eightOf L events (tallied L) p) (answersOf L events (tallied L) p) (includesSix p events (tallied L) L)
-    (afterSeven L events (tallied L) p)
-tally-by L events p none tally t t′ h₀ ht h long =
+pub tally-by : (wide : Bool) (L : Traces) (events : Set) (p : Profile) (none tally t t′ : List ℕ) → none ≡ noTables tableCount → tally ≡ through (notedFor wide) none L
+    → (length t ≡ relationCount * rowWords → t′
+    ≡ fourTables (eightOf wide L events tally p) (answersOf wide L events tally p) (includesIn wide p events tally L) (afterSeven wide L events tally p))
+    → length t ≡ relationCount * rowWords → t′
+    ≡ fourTables (eightOf wide L events (talliedFor wide L) p) (answersOf wide L events (talliedFor wide L) p) (includesIn wide p events (talliedFor wide L) L)
+    (afterSeven wide L events (talliedFor wide L) p)
+tally-by wide L events p none tally t t′ h₀ ht h long =
     h long
-    ∙ ap (λ (x : List ℕ). fourTables (eightOf L events x p) (answersOf L events x p) (includesSix p events x L) (afterSeven L events x p))
-    (ht ∙ ap (λ (x : List ℕ). through noted x L) h₀)
+    ∙ ap (λ (x : List ℕ). fourTables (eightOf wide L events x p) (answersOf wide L events x p) (includesIn wide p events x L) (afterSeven wide L events x p))
+    (ht ∙ ap (λ (x : List ℕ). through (notedFor wide) x L) h₀)
 
 -- steps 9 and 10, and the head
-module _ (A : ℕ) (L : Traces) (p : Profile) (events : Set) (t₁ t₂ t₃ : List ℕ) (s : State) (opening : Marking) where
+module _ (wide : Bool) (A : ℕ) (L : Traces) (p : Profile) (events : Set) (t₁ t₂ t₃ : List ℕ) (s : State) (opening : Marking) where
   abbrev eight : List ℕ
-  eight = eightOf L events (tallied L) p
+  eight = eightOf wide L events (talliedFor wide L) p
 
   abbrev included : List ℕ
-  included = includesSix p events (tallied L) L
+  included = includesIn wide p events (talliedFor wide L) L
 
   abbrev excluding : List ℕ
-  excluding = afterSeven L events (tallied L) p
+  excluding = afterSeven wide L events (talliedFor wide L) p
 
   abbrev nineFrom : List ℕ → List ℕ → List ℕ → List ℕ
   nineFrom c i x =
       rowsFor events
-      (waited events c (through (λ r σ. forward (gains beforeFirst) r [] σ) noRows L)
-      (through (λ r σ. forward (gains (missed events i x)) r [] σ) noRows L))
+      (waited events c (aheadOf wide noRows L) (missedOf wide events i x noRows L))
 
   pub found-by : events ≡ those (event L)
-      → (length (noTables relationCount) ≡ relationCount * width → t₁ ≡ fourTables eight (answersOf L events (tallied L) p) included excluding)
+      → (length (noTables relationCount) ≡ relationCount * rowWords → t₁ ≡ fourTables eight (answersOf wide L events (talliedFor wide L) p) included excluding)
       → t₂ ≡ withTable t₁ 0
       (nineFrom (withTable noRows 0 (tableAt t₁ 0)) (tableAt t₁ 2) (tableAt t₁ 3))
       → t₃ ≡ withTable t₂ 0 (rowsFor events (reducedOf (withTable noRows 0 (tableAt t₂ 0))))
-      → s ≡ openingOf events → opening ≡ marked events (inTables t₃) s → graphOf (headOf A events opening) t₃ ≡ graphFound A L p
-  unfolding graphFound
+      → s ≡ openingOf events → opening ≡ marked events (inTables t₃) s → graphOf (headOf A events opening) t₃ ≡ graphFoundIn wide A L p
+  unfolding graphFoundIn
   found-by hv h₁ h₂ h₃ hs ho =
-      let four = eight-four L events (tallied L) p in
-      let is = h₁ (length-replicate {A = ℕ} (relationCount * width) 0) in
-      let one : Held t₁ eight (answersOf L events (tallied L) p) included excluding = subst (λ (x : List ℕ). Held x eight
-      (answersOf L events (tallied L) p) included excluding) (sym is) four in
+      let four = eight-four wide L events (talliedFor wide L) p in
+      let is = h₁ (length-replicate {A = ℕ} (relationCount * rowWords) 0) in
+      let one : Held t₁ eight (answersOf wide L events (talliedFor wide L) p) included excluding = subst (λ (x : List ℕ). Held x eight
+      (answersOf wide L events (talliedFor wide L) p) included excluding) (sym is) four in
       let nine = held-c _ _ _ _ _ t₂ (nineFrom eight included excluding) one (length-for events _)
       (h₂
       ∙ (λ i. withTable t₁ 0 (nineFrom (taken-from t₁ 0 eight (one .conditions) (length-for events _) i) (one .includes i)
       (one .excludes i)))) in
-      let ten = held-c _ _ _ _ _ t₃ (waitedOf events eight included excluding L) nine (length-for events _)
+      let ten = held-c _ _ _ _ _ t₃ (waitedIn wide events eight included excluding L) nine (length-for events _)
       (h₃ ∙ ap (λ (x : List ℕ). withTable t₂ 0 (rowsFor events (reducedOf x)))
       (taken-from t₂ 0 _ (nine .conditions) (length-for events _))) in
-      let all = held-is _ _ _ _ (length-for events _) (length-for events _) (length-includes L events (tallied L) p) (length-rowsOf _) t₃ ten in
+      let all = held-is _ _ _ _ (length-for events _) (length-for events _) (length-includes wide L events (talliedFor wide L) p) (length-rowsOf _) t₃ ten in
       (λ i. graphOf (headOf A events (ho i)) t₃)
       ∙ (λ i. graphAt A events (hs i) (all i))
-      ∙ ap (λ (v : Set). graphAt A v (openingOf v) (tablesRead L v (tallied L) p)) hv
+      ∙ ap (λ (v : Set). graphAt A v (openingOf v) (tablesIn wide L v (talliedFor wide L) p)) hv

@@ -6,10 +6,12 @@ use Prim.Native.Nat.{ℕ, zero, suc, _+_, _≤_, _<_}
 use native.Mathlib.Omega.{arith}
 use native.Mathlib.Nat.{add-suc, suc-add}
 use borrow.Author.Tests.{not-true, not-false}
+use lib.Dec.{ltb}
 use lib.ListN.{length, drop, drop-of-length-le}
 use lib.Seq.{drop-cons}
 use Rattle.sets.specs.Tests.{when_then_else_}
 use Rattle.sets.specs.Answers.{isDone}
+use Rattle.sets.specs.Members.{word}
 use Rattle.engine.specs.Relations.{emptyGraph}
 use Rattle.engine.specs.declared.graph.Graph.{Graph}
 use Rattle.calllog.specs.declared.judge.Judged.{Judged}
@@ -21,10 +23,11 @@ use Rattle.rules.specs.Mined.{minedGraph}
 use Rattle.rules.proofs.Acceptable.{small}
 use Rattle.rules.proofs.FromFile.{file-accepted}
 use Rattle.tally.specs.Passes.{walked}
-use Rattle.miner.specs.Stages.{graphFound}
+use Rattle.miner.specs.Stages.{graphFoundIn}
 use Rattle.miner.specs.Mine.{minedOf}
 use Rattle.miner.specs.declared.mining.Mined.{Mined}
 use Rattle.miner.proofs.PairForPair.{pair-for-pair}
+use Rattle.miner.proofs.InForm.{form-graph}
 
 module _ (bytes : List ℕ) where
   abbrev L : Traces
@@ -57,15 +60,16 @@ module _ (bytes : List ℕ) (p : Profile) (j : Judged) (r : Bool) (hj : j ≡ ju
             no-graph)) i;
       }
 
-  pub mine-done : (g : Graph) → not r ≡ false → g ≡ graphFound (j .activities) (walked bytes (j .traces) 0) p
+  pub mine-done : (g : Graph) → not r ≡ false → g ≡ graphFoundIn (ltb word (j .activities)) (j .activities) (walked bytes (j .traces) 0) p
       → _≡_ {A = Mined} (record { answer = j .answer; graph = g }) (minedOf bytes p)
   unfolding minedOf
   mine-done g n hg =
       let some-graph : isDone (logOf bytes .answer) ≡ true = ap isDone (sym the-answer) ∙ sym hr ∙ not-false r n in
       let read =
       hg
-      ∙ ap (λ (x : Judged). graphFound (x .activities) (walked bytes (x .traces) 0) p) hj
-      ∙ ap (λ (L : Traces). graphFound (logOf bytes .activities) L p) (walk-all bytes)
+      ∙ ap (λ (x : Judged). graphFoundIn (ltb word (x .activities)) (x .activities) (walked bytes (x .traces) 0) p) hj
+      ∙ ap (λ (L : Traces). graphFoundIn (ltb word (logOf bytes .activities)) (logOf bytes .activities) L p) (walk-all bytes)
+      ∙ form-graph (logOf bytes .activities) (logOf bytes .traces) (file-accepted bytes) p
       ∙ pair-for-pair (logOf bytes .traces) (small _ _ (file-accepted bytes)) p (logOf bytes .activities) in
       λ i. record {
         answer = the-answer i;

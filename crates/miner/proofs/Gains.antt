@@ -1,7 +1,7 @@
 -- What the turns of the passes of steps 6 and 9 share: the row of an event that gains a set, and the set of what was seen. Assumes nothing.
 use mathlib.Core.Path.{_≡_, refl, sym, ap, _∙_}
 use mathlib.Core.Bool.{Bool}
-use mathlib.Core.List.{List}
+use mathlib.Core.List.{List, []}
 use Prim.Native.Nat.{ℕ, _+_, _<_, _≤_}
 use borrow.Author.Tests.{ltb-true, ltb-false}
 use lib.Dec.{eqb, ltb}
@@ -13,7 +13,7 @@ use Rattle.sets.specs.declared.set.Set.{Set}
 use Rattle.sets.proofs.Tests.{T→true, F→false, split, either}
 use Rattle.sets.proofs.Members.{those-ext, those-of}
 use Rattle.sets.proofs.RowLaws.{put-out}
-use Rattle.tally.specs.Passes.{Fact, gained, gains}
+use Rattle.tally.specs.Passes.{Fact, gained, gains, forward, cut}
 use Rattle.tally.proofs.Turns.{pastAt, past-next, seenIn, seen-more}
 
 -- the row of the event gains what passes, and below the width that is the fact; a number past it has no row
@@ -34,6 +34,11 @@ gains-below p rows e past rest q rows′ f h =
 
     outside : width ≤ e → withRow rows e (with-these q) ≡ withRow rows e (with-these (p e past rest))
     outside g = sym (put-out rows e (with-these q) g) ∙ put-out rows e (with-these (p e past rest)) g
+
+-- the pass in the form that was asked for
+pub as-asked : (wide form : Bool) (p : Fact) (rows rows′ σ : List ℕ) → wide ≡ form → rows′ ≡ forward (gains (cut form p)) rows [] σ
+    → rows′ ≡ forward (gains (cut wide p)) rows [] σ
+as-asked wide form p rows rows′ σ h e = e ∙ ap (λ (b : Bool). forward (gains (cut b p)) rows [] σ) (sym h)
 
 -- ---- what was seen
 

@@ -8,21 +8,14 @@ use native.Mathlib.Omega.{arith}
 use lib.Arith.{lt-of-le-ne}
 use lib.Dec.{eqb, eqb→eq}
 use lib.ListN.{length, length-replicate}
-use lib.Seq.{ext-getD}
 use Rattle.sets.specs.Members.{width}
-use Rattle.sets.specs.Rows.{noRows, rowAt, withRow}
+use Rattle.sets.specs.Rows.{rowWords, noRows, rowAt, withRow}
 use Rattle.sets.specs.Tables.{noTables, tableAt, withRowsIn, withTable}
-use Rattle.sets.specs.declared.set.Set.{Set}
 use Rattle.sets.proofs.Tests.{eqb-of, split, either}
-use Rattle.sets.proofs.RowLaws.{row-in, row-put-same, row-put-other}
+use Rattle.sets.proofs.RowLaws.{rows-ext, row-put-same, row-put-other}
 use Rattle.sets.proofs.TableLaws.{table-put-same, table-put-other, rows-length, row-taken, tables-ext, length-table}
 use Rattle.engine.specs.Relations.{relationCount}
 use Rattle.miner.specs.Stages.{fourTables}
-
-rows-ext : (x y : List ℕ) → length x ≡ width → length y ≡ width → ((a : ℕ) → a < width → rowAt x a ≡ rowAt y a) → x ≡ y
-rows-ext x y hx hy e =
-    ext-getD 0 x y (hx ∙ sym hy)
-    (λ i h. let low : i < width = omega arith in ap (λ (s : Set). s .bits) (row-in x i low ∙ e i low ∙ sym (row-in y i low)))
 
 module _ (tables : List ℕ) (k : ℕ) (rows : List ℕ) where
   put-length : length (withTable tables k rows) ≡ length tables
@@ -33,13 +26,13 @@ module _ (tables : List ℕ) (k : ℕ) (rows : List ℕ) where
   others zero j n = refl
   others (suc m) j n = table-put-other (withRowsIn tables k rows m) k m (rowAt rows m) j n ∙ others m j n
 
-  module _ (n : ℕ) (h : length tables ≡ n * width) (l : k < n) where
+  module _ (n : ℕ) (h : length tables ≡ n * rowWords) (l : k < n) where
     there : (m : ℕ) → m ≤ width → (a : ℕ) → a < m → rowAt (tableAt (withRowsIn tables k rows m) k) a ≡ rowAt rows a
     unfolding withRowsIn
     there zero lm a la = absurd (not-suc-le-zero la)
     there (suc m) lm a la =
         let held = withRowsIn tables k rows m in
-        let long : length (tableAt held k) ≡ width = length-table n held k (rows-length tables k rows m held refl ∙ h) l in
+        let long : length (tableAt held k) ≡ rowWords = length-table n held k (rows-length tables k rows m held refl ∙ h) l in
         ap (λ (x : List ℕ). rowAt x a) (table-put-same held k m (rowAt rows m))
         ∙ either (split (eqb a m))
         (λ t.
@@ -50,40 +43,40 @@ module _ (tables : List ℕ) (k : ℕ) (rows : List ℕ) where
         (λ f. row-put-other (tableAt held k) m (rowAt rows m) a (λ q. f (eqb-of q))
         ∙ there m (omega arith) a (lt-of-le-ne (le-of-suc-le-suc la) (λ q. f (eqb-of q))))
 
-    put-same : length rows ≡ width → tableAt (withTable tables k rows) k ≡ rows
+    put-same : length rows ≡ rowWords → tableAt (withTable tables k rows) k ≡ rows
     put-same hr = rows-ext _ rows (length-table n (withTable tables k rows) k (put-length ∙ h) l) hr (there width (omega arith))
 
 pub put-long : (t t′ : List ℕ) (k : ℕ) (rows : List ℕ) → t′ ≡ withTable t k rows → length t′ ≡ length t
 put-long t t′ k rows e = ap length e ∙ put-length t k rows
 
 -- the rows that are taken out of a table
-pub taken-from : (t : List ℕ) (k : ℕ) (rows : List ℕ) → tableAt t k ≡ rows → length rows ≡ width → withTable noRows 0 (tableAt t k) ≡ rows
+pub taken-from : (t : List ℕ) (k : ℕ) (rows : List ℕ) → tableAt t k ≡ rows → length rows ≡ rowWords → withTable noRows 0 (tableAt t k) ≡ rows
 taken-from t k rows h hl =
     ap (withTable noRows 0) h
-    ∙ rows-ext (withTable noRows 0 rows) rows (put-length noRows 0 rows ∙ length-replicate {A = ℕ} width 0) hl (row-taken rows)
+    ∙ rows-ext (withTable noRows 0 rows) rows (put-length noRows 0 rows ∙ length-replicate {A = ℕ} rowWords 0) hl (row-taken rows)
 
 -- four tables that hold these rows
 pub record Held (t c r i x : List ℕ) : Type 0 where
-  pub long : length t ≡ relationCount * width
+  pub long : length t ≡ relationCount * rowWords
   pub conditions : tableAt t 0 ≡ c
   pub responses : tableAt t 1 ≡ r
   pub includes : tableAt t 2 ≡ i
   pub excludes : tableAt t 3 ≡ x
 
-pub held-any : (t : List ℕ) → length t ≡ relationCount * width → Held t (tableAt t 0) (tableAt t 1) (tableAt t 2) (tableAt t 3)
+pub held-any : (t : List ℕ) → length t ≡ relationCount * rowWords → Held t (tableAt t 0) (tableAt t 1) (tableAt t 2) (tableAt t 3)
 held-any t h = record { long = h; conditions = refl; responses = refl; includes = refl; excludes = refl }
 
-pub length-held : (t : List ℕ) (k : ℕ) → length t ≡ relationCount * width → k < relationCount → length (tableAt t k) ≡ width
+pub length-held : (t : List ℕ) (k : ℕ) → length t ≡ relationCount * rowWords → k < relationCount → length (tableAt t k) ≡ rowWords
 length-held t k h l = length-table relationCount t k h l
 
-module _ (t c r i x t′ rows : List ℕ) (h : Held t c r i x) (hr : length rows ≡ width) where
+module _ (t c r i x t′ rows : List ℕ) (h : Held t c r i x) (hr : length rows ≡ rowWords) where
   kept : (k : ℕ) → t′ ≡ withTable t k rows → (j : ℕ) → (j ≡ k → ⊥) → (old : List ℕ) → tableAt t j ≡ old → tableAt t′ j ≡ old
   kept k e j n old o = ap (λ (y : List ℕ). tableAt y j) e ∙ others t k rows width j n ∙ o
 
   new : (k : ℕ) → k < relationCount → t′ ≡ withTable t k rows → tableAt t′ k ≡ rows
   new k l e = ap (λ (y : List ℕ). tableAt y k) e ∙ put-same t k rows relationCount (h .long) l hr
 
-  still : (k : ℕ) → t′ ≡ withTable t k rows → length t′ ≡ relationCount * width
+  still : (k : ℕ) → t′ ≡ withTable t k rows → length t′ ≡ relationCount * rowWords
   still k e = put-long t t′ k rows e ∙ h .long
 
   pub held-c : t′ ≡ withTable t 0 rows → Held t′ rows r i x
@@ -123,10 +116,10 @@ module _ (t c r i x t′ rows : List ℕ) (h : Held t c r i x) (hr : length rows
   }
 
 -- they are known by what they hold
-module _ (c r i x : List ℕ) (lc : length c ≡ width) (lr : length r ≡ width) (li : length i ≡ width) (lx : length x ≡ width) where
+module _ (c r i x : List ℕ) (lc : length c ≡ rowWords) (lr : length r ≡ rowWords) (li : length i ≡ rowWords) (lx : length x ≡ rowWords) where
   pub held-four : Held (fourTables c r i x) c r i x
   held-four =
-      let start = held-any (noTables relationCount) (length-replicate {A = ℕ} (relationCount * width) 0) in
+      let start = held-any (noTables relationCount) (length-replicate {A = ℕ} (relationCount * rowWords) 0) in
       held-x _ _ _ _ _ _ x
       (held-i _ _ _ _ _ _ i (held-r _ _ _ _ _ _ r (held-c _ _ _ _ _ _ c start lc refl) lr refl) li refl)
       lx refl

@@ -1,13 +1,14 @@
 -- One turn of step 6's pass: what is barred, and what the row of the event gains. Assumes nothing.
 use Rattle.sets.specs.Members.{noSet}
-use mathlib.Core.Path.{_≡_, sym, ap, ap₂, _∙_, subst}
-use mathlib.Core.Bool.{Bool}
+use mathlib.Core.Path.{_≡_, refl, sym, ap, ap₂, _∙_, subst}
+use mathlib.Core.Bool.{Bool, true, false}
 use mathlib.Core.List.{List, [], _∷_}
-use Prim.Native.Nat.{ℕ, _+_, _<_}
+use Prim.Native.Nat.{ℕ, _+_, _≤_, _<_}
+use native.Mathlib.Omega.{arith}
 use borrow.Author.Tests.{ltb-true, ltb-false}
-use lib.Dec.{T, ltb, eqb→eq, eqb-refl}
+use lib.Dec.{T, eqb, ltb, eqb→eq, eqb-refl}
 use lib.ListN.{length, getD, drop}
-use Rattle.sets.specs.Tests.{_and_, _or_}
+use Rattle.sets.specs.Tests.{_and_, _or_, non}
 use Rattle.sets.specs.Members.{width, mem, those, someBelow}
 use Rattle.sets.specs.Rows.{rowAt, inRow}
 use Rattle.sets.specs.declared.set.Set.{Set}
@@ -17,11 +18,13 @@ use Rattle.sets.proofs.Below.{some-i, some-e}
 use Rattle.sets.proofs.Members.{those-ext, those-of}
 use Rattle.sets.proofs.RowLaws.{row-out}
 use Rattle.rules.specs.Traces.{_has_}
-use Rattle.tally.specs.Passes.{gained, gains, forward}
+use Rattle.tally.specs.Passes.{gained, gains, forward, reaches, cut}
 use Rattle.miner.specs.Facts.{letIn}
-use Rattle.tally.proofs.Turns.{pastAt, past-next, seenIn, forward-next}
+use Rattle.tally.proofs.Turns.{pastAt, past-next, seenIn, forward-next, forward-end}
 use Rattle.miner.proofs.Gains.{gains-below}
 use Rattle.sets.proofs.MadeSets.{is-those, none}
+use Rattle.sets.proofs.Tautologies.{by3}
+use Rattle.miner.proofs.After.{LastOf, after-next}
 
 -- a row that has a member is one of the rows
 row-below : (rows : List ℕ) (s x : ℕ) → T (inRow rows s x) → s < width
@@ -30,18 +33,25 @@ row-below rows s x t =
     either (split (ltb s width)) (λ l. ltb-true s width (T→true _ l))
     (λ g. absurd (false→F (ap (λ (r : Set). mem r x) (sym (row-out rows s (ltb-false s width (F→false _ g)))) ∙ mem-none x) t))
 
+-- ---- tests alone
+
+or-in-form : (g b r : Bool) → (g and b or g and r) ≡ (g and (b or r))
+unfolding _and_ _or_ non
+or-in-form = by3 (λ g b r. g and b or g and r) (λ g b r. g and (b or r)) tt
+
+form-first : (h g b : Bool) → (h and (g and b)) ≡ (g and (h and b))
+unfolding _and_ _or_ non
+form-first = by3 (λ h g b. h and (g and b)) (λ h g b. g and (h and b)) tt
+
+none-held : (g : Bool) → (g and false) ≡ false
+unfolding _and_
+none-held true = refl
+none-held false = refl
+
 module _ (unfollowed : List ℕ) where
   -- x never directly follows something that stands in the past
   abbrev barredAt : List ℕ → ℕ → Bool
   barredAt past x = someBelow width (λ s. past has s and inRow unfollowed s x)
-
-  abbrev pub barredIn : List ℕ → Set
-  barredIn past = those (barredAt past)
-
-  pub barred-none : _≡_ {A = Set} noSet (barredIn [])
-  unfolding _has_
-  barred-none = none (barredAt []) (λ x l. F→false (barredAt [] x)
-      (λ t. let r = some-e width (λ s. [] has s and inRow unfollowed s x) t in and-l _ _ (r .2)))
 
   barred-more : (past : List ℕ) (e x : ℕ) → (barredAt past x or inRow unfollowed e x) ≡ barredAt (e ∷ past) x
   unfolding _has_
@@ -62,30 +72,65 @@ module _ (unfollowed : List ℕ) where
           (λ q. or-r _ _ (subst (λ (s : ℕ). T (inRow unfollowed s x)) (eqb→eq (r .0) e q) (and-r _ _ (r .2))))
           (λ k. or-l _ _ (some-i width _ (r .0) (r .1) (and-i _ _ k (and-r _ _ (r .2)))))
 
-  -- ---- the answers of `let_in_here`
-  pub barred-by : (barred row r : Set) (e : ℕ) → row ≡ rowAt unfollowed e → r ≡ those (λ x. mem barred x or mem row x)
-      → r ≡ those (λ x. mem barred x or inRow unfollowed e x)
-  unfolding inRow
-  barred-by barred row r e ho hr = hr ∙ ap (λ (s : Set). those (λ x. mem barred x or mem s x)) ho
+  -- ---- in either form
+  module _ (wide : Bool) where
+    abbrev pub barredIn : List ℕ → Set
+    barredIn past = those (λ x. reaches wide x and barredAt past x)
 
-  -- ---- the loop's invariant, one place further
-  module _ (σ : List ℕ) (i : ℕ) (h : i < length σ) (barred : Set) (hb : barred ≡ barredIn (pastAt σ i)) where
-    pub barred-next : (r : Set) → r ≡ those (λ x. mem barred x or inRow unfollowed (getD σ i 0) x) → r ≡ barredIn (pastAt σ (i + 1))
-    barred-next r hr =
-        hr ∙ those-of barred (barredAt (pastAt σ i)) (λ x t. t or inRow unfollowed (getD σ i 0) x) hb
-        ∙ those-ext (λ x. barredAt (pastAt σ i) x or inRow unfollowed (getD σ i 0) x) (barredAt (getD σ i 0 ∷ pastAt σ i))
-        (λ x l. barred-more (pastAt σ i) (getD σ i 0) x)
-        ∙ ap barredIn (sym (past-next σ i h))
+    barred-none : _≡_ {A = Set} noSet (barredIn [])
+    unfolding _has_
+    barred-none = none (λ x. reaches wide x and barredAt [] x) (λ x l. ap (λ (t : Bool). reaches wide x and t) (F→false (barredAt [] x)
+        (λ t. let r = some-e width (λ s. [] has s and inRow unfollowed s x) t in and-l _ _ (r .2))) ∙ none-held (reaches wide x))
 
-    pub let-in-next : (after : Set) (all rows rows′ : List ℕ) → after ≡ seenIn (drop (i + 1) σ)
-        → forward (gains (letIn unfollowed)) rows (pastAt σ i) (drop i σ) ≡ all
-        → rows′ ≡ gained rows (getD σ i 0) (λ x. mem after x and mem barred x)
-        → forward (gains (letIn unfollowed)) rows′ (pastAt σ (i + 1)) (drop (i + 1) σ) ≡ all
-    unfolding letIn
-    let-in-next after all rows rows′ ha inv hr =
-        forward-next (gains (letIn unfollowed)) σ all i rows rows′ h
-        (gains-below (letIn unfollowed) rows (getD σ i 0) (pastAt σ i) (drop (i + 1) σ) (λ x. mem after x and mem barred x) rows′
-        (λ l x k.
-        ap₂ _and_ (is-those after (λ y. drop (i + 1) σ has y) ha x k) (is-those barred (barredAt (pastAt σ i)) hb x k))
-        hr)
-        inv
+    -- the answers of `let_in_here`
+    pub barred-by : (barred row never r : Set) (e : ℕ) → row ≡ rowAt unfollowed e → never ≡ those (λ x. reaches wide x and mem row x)
+        → r ≡ those (λ x. mem barred x or mem never x) → r ≡ those (λ x. mem barred x or reaches wide x and inRow unfollowed e x)
+    unfolding inRow
+    barred-by barred row never r e ho hn hr =
+        hr ∙ those-of never (λ x. reaches wide x and mem row x) (λ x t. mem barred x or t) hn
+        ∙ ap (λ (s : Set). those (λ x. mem barred x or reaches wide x and mem s x)) ho
+
+-- the loop, in either form: what holds before each turn, and that a turn keeps it
+pub record LetIn (wide : Bool) (σ unfollowed rows₀ rows : List ℕ) (after barred : Set) (i : ℕ) : Type 0 where
+  pub reached : i ≤ length σ
+  pub after-is : after ≡ seenIn (drop i σ)
+  pub barred-is : barred ≡ barredIn unfollowed wide (pastAt σ i)
+  pub whole : forward (gains (cut wide (letIn unfollowed))) rows (pastAt σ i) (drop i σ) ≡ forward (gains (cut wide (letIn unfollowed))) rows₀ [] σ
+
+pub let-in-start : (wide : Bool) (σ unfollowed rows : List ℕ) (after : Set) → after ≡ those (λ x. σ has x)
+    → LetIn wide σ unfollowed rows rows after noSet 0
+let-in-start wide σ unfollowed rows after h =
+    record { reached = omega arith; after-is = h; barred-is = barred-none unfollowed wide; whole = refl }
+
+module _ {wide : Bool} {σ unfollowed rows₀ rows : List ℕ} {after barred : Set} {i : ℕ} (inv : LetIn wide σ unfollowed rows₀ rows after barred i) where
+  pub let-in-end : length σ ≤ i → rows ≡ forward (gains (cut wide (letIn unfollowed))) rows₀ [] σ
+  let-in-end h = forward-end _ _ _ _ _ h (inv .whole)
+
+  pub let-in-turn : i < length σ → (last : List ℕ) → LastOf last σ → (later barred′ : Set) (rows′ : List ℕ)
+      → later ≡ those (λ x. mem after x and non (eqb x (getD σ i 0) and eqb (getD last (getD σ i 0) 0) i))
+      → rows′ ≡ gained rows (getD σ i 0) (λ x. mem later x and mem barred x)
+      → barred′ ≡ those (λ x. mem barred x or reaches wide x and inRow unfollowed (getD σ i 0) x)
+      → LetIn wide σ unfollowed rows₀ rows′ later barred′ (i + 1)
+  unfolding cut letIn
+  let-in-turn h last hl later barred′ rows′ ht hr hb =
+      let rest : later ≡ seenIn (drop (i + 1) σ) = after-next σ i h last hl after later (inv .after-is) ht in
+      record {
+        reached = omega arith;
+        after-is = rest;
+        barred-is =
+            hb ∙ those-of barred (λ x. reaches wide x and barredAt unfollowed (pastAt σ i) x)
+            (λ x t. t or reaches wide x and inRow unfollowed (getD σ i 0) x) (inv .barred-is)
+            ∙ those-ext _ (λ x. reaches wide x and barredAt unfollowed (getD σ i 0 ∷ pastAt σ i) x)
+            (λ x l. or-in-form (reaches wide x) (barredAt unfollowed (pastAt σ i) x) (inRow unfollowed (getD σ i 0) x)
+            ∙ ap (λ (t : Bool). reaches wide x and t) (barred-more unfollowed (pastAt σ i) (getD σ i 0) x))
+            ∙ ap (barredIn unfollowed wide) (sym (past-next σ i h));
+        whole =
+            forward-next (gains (cut wide (letIn unfollowed))) σ _ i rows rows′ h
+            (gains-below (cut wide (letIn unfollowed)) rows (getD σ i 0) (pastAt σ i) (drop (i + 1) σ) (λ x. mem later x and mem barred x) rows′
+            (λ l x k.
+            ap₂ _and_ (is-those later (λ y. drop (i + 1) σ has y) rest x k)
+            (is-those barred (λ y. reaches wide y and barredAt unfollowed (pastAt σ i) y) (inv .barred-is) x k)
+            ∙ form-first (drop (i + 1) σ has x) (reaches wide x) (barredAt unfollowed (pastAt σ i) x))
+            hr)
+            (inv .whole);
+      }

@@ -16,3 +16,5 @@ pub mod Losing
 pub mod Reopening
 pub mod Settling
 pub mod Given
+pub mod AtEvents
+pub mod InForm

@@ -1,5 +1,6 @@
 -- What the stages of mining put together, from the tally of a log and its events: what the functions of src/mining.rt, src/includes.rt,
 -- src/redundant.rt and src/conditions.rt give. That it is the rules' graph is a theorem, so a reader of `mine` need not believe this file.
+use mathlib.Core.Bool.{Bool}
 use mathlib.Core.List.{List, []}
 use Prim.Native.Nat.{ℕ}
 use Rattle.sets.specs.Tests.{_and_, non}
@@ -16,9 +17,9 @@ use Rattle.rules.specs.declared.Profile.the-variants.{Full, Light}
 use Rattle.rules.specs.Traces.{Traces}
 use Rattle.rules.specs.Mining.{event}
 use Rattle.steps.specs.Rowwise.{unbroken, absent, excluders, inEither, reducedOf, waited}
-use Rattle.tally.specs.Passes.{gains, forward, through}
+use Rattle.tally.specs.Passes.{gains, forward, through, cut}
 use Rattle.tally.specs.Tallies.{beforeTable, laterTable, unprecededTable, unansweredTable, unchainedTable, unalternatedTable, followedTable}
-use Rattle.tally.specs.Tallies.{tallied}
+use Rattle.tally.specs.Tallies.{tallied, talliedFor}
 use Rattle.miner.specs.Facts.{letIn, reopened, doubted, beforeFirst, missed}
 
 -- conditions and chains by target, responses by source (steps 2 and 3)
@@ -98,6 +99,40 @@ tablesAfterSix L events tally includes six =
 abbrev pub tablesRead : Traces → Set → List ℕ → Profile → List ℕ
 tablesRead L events tally p = tablesAfterSix L events tally (includesSix p events tally L) (excludesSix p events tally)
 
--- the graph, from the traces
+-- ---- the same in a form
+
+-- the includes after step 6, what is let in as far as the form holds it
+abbrev pub letInOf : Bool → List ℕ → List ℕ → Traces → List ℕ
+letInOf wide never rows L = through (λ r σ. forward (gains (cut wide (letIn never))) r [] σ) rows L
+
+abbrev pub includesIn : Bool → Profile → Set → List ℕ → Traces → List ℕ
+includesIn wide Full events tally L = letInOf wide (neverOf events tally) (rowsOf (turned (chainsOf events tally))) L
+includesIn wide Light events tally L = rowsOf (turned (chainsOf events tally))
+
+-- what step 9's replay puts into rows
+abbrev pub aheadOf : Bool → List ℕ → Traces → List ℕ
+aheadOf wide rows L = through (λ r σ. forward (gains (cut wide beforeFirst)) r [] σ) rows L
+
+abbrev pub missedOf : Bool → Set → List ℕ → List ℕ → List ℕ → Traces → List ℕ
+missedOf wide events includes excludes rows L = through (λ r σ. forward (gains (cut wide (missed events includes excludes))) r [] σ) rows L
+
+abbrev pub waitedIn : Bool → Set → List ℕ → List ℕ → List ℕ → Traces → List ℕ
+waitedIn wide events eight includes excludes L =
+    rowsFor events (reducedOf (rowsFor events (waited events eight (aheadOf wide noRows L) (missedOf wide events includes excludes noRows L))))
+
+abbrev pub tablesIn : Bool → Traces → Set → List ℕ → Profile → List ℕ
+tablesIn wide L events tally p =
+    fourTables
+    (waitedIn wide events (rowsFor events (reducedOf (conditionsOf events tally))) (includesIn wide p events tally L)
+    (sevenFrom events tally (includesIn wide p events tally L) (excludesSix p events tally) L) L)
+    (rowsFor events (reducedOf (responsesOf events tally)))
+    (includesIn wide p events tally L)
+    (sevenFrom events tally (includesIn wide p events tally L) (excludesSix p events tally) L)
+
+-- the graph, from the traces, by a tally in a form
+unfoldable pub graphFoundIn : Bool → ℕ → Traces → Profile → Graph
+graphFoundIn wide A L p = graphAt A (those (event L)) (openingOf (those (event L))) (tablesIn wide L (those (event L)) (talliedFor wide L) p)
+
+-- the same over the whole width
 unfoldable pub graphFound : ℕ → Traces → Profile → Graph
 graphFound A L p = graphAt A (those (event L)) (openingOf (those (event L))) (tablesRead L (those (event L)) (tallied L) p)

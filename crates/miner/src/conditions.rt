@@ -1,15 +1,16 @@
 // The conditions of steps 8, 9 and 10, put into the tables that are lent. Step 9 asks for a replay by the includes and excludes after
 // step 7: a pass of its own over each trace, from the first place to the last, where `seen` is the set of what stands before the place.
 ghost use mathlib.Core.Path.{_≡_};
+ghost use mathlib.Core.Bool.{true, false};
 ghost use mathlib.Core.List.{[]};
 ghost use Rattle.sets.specs.Tests.{_and_, _or_, non};
 ghost use Rattle.sets.specs.Members.{mem, those};
 ghost use Rattle.sets.specs.Rows.{inRow, noRows, rowsFor};
 ghost use Rattle.sets.specs.Tables.{tableAt, withTable};
 ghost use Rattle.steps.specs.Rowwise.{reducedOf, waited};
-ghost use Rattle.tally.specs.Passes.{gained, gains, forward, through, walked};
+ghost use Rattle.tally.specs.Passes.{gained, gains, forward, walked, reaches, cut};
 ghost use Rattle.miner.specs.Facts.{beforeFirst, missed};
-ghost use Rattle.miner.specs.Stages.{conditionsOf};
+ghost use Rattle.miner.specs.Stages.{conditionsOf, aheadOf, missedOf};
 use crate::includes::and_then;
 use engine::Relations;
 use engine::graph::CONDITIONS;
@@ -23,6 +24,7 @@ use sets::tables;
 use steps::reduce;
 use steps::relations;
 use tally::Tally;
+use tally::in_form;
 use tally::log;
 
 // The conditions of steps 2 and 8, by target.
@@ -51,23 +53,31 @@ fn at_first(seen: Set, e: Activity) -> Set
 }
 
 // One place of e: its row of `first` gains what stands before its first place, its row of `unmet` what is included and not executed.
-fn note_waiting(e: Activity, seen: Set, included: Set, first: &mut Rows, unmet: &mut Rows)
-    ensures before { λ _. ⌜ now (first .exit) ≡ gained (now (first .entry)) (e .0) (λ x. mem seen x and non (mem seen (e .0))) ⌝ }
+fn note_waiting(
+    e: Activity,
+    seen: Set,
+    included: Set,
+    wide: bool,
+    first: &mut Rows,
+    unmet: &mut Rows,
+)
+    ensures before { λ _. ⌜ now (first .exit) ≡ gained (now (first .entry)) (e .0) (λ x. reaches wide x and (mem seen x and non (mem seen (e .0)))) ⌝ }
     ensures left { λ _. ⌜ now (unmet .exit) ≡ gained (now (unmet .entry)) (e .0) (λ x. mem included x and non (mem seen x)) ⌝ }
 {
-    let early = at_first(seen, e);
+    let early = in_form(at_first(seen, e), wide);
     rows::join(first, e, early);
     let waiting = included.difference(seen);
     rows::join(unmet, e, waiting);
 }
 
-// What is included after e, by the includes and excludes of the tables alone: e's excludes go, then its includes come.
-fn included_after(included: Set, held: &Relations, e: Activity) -> Set
+// What is included after e, by the includes and excludes of the tables alone: e's excludes go, then its includes come, as far as the form
+// holds them.
+fn included_after(included: Set, held: &Relations, e: Activity, wide: bool) -> Set
     ensures { λ r. ⌜ r ≡ those (λ x. mem included x and non (inRow (tableAt (now (held .entry)) 3) (e .0) x)
-        or inRow (tableAt (now (held .entry)) 2) (e .0) x) ⌝ }
+        or reaches wide x and inRow (tableAt (now (held .entry)) 2) (e .0) x) ⌝ }
 {
     let kept = included.difference(tables::row(held, EXCLUDES, e));
-    kept.union(tables::row(held, INCLUDES, e))
+    kept.union(in_form(tables::row(held, INCLUDES, e), wide))
 }
 
 // Replays the trace by includes and excludes alone, with all events included at first. The row of each event gains, in `first`, what
@@ -79,20 +89,68 @@ fn replay_trace<'a>(
     first: &mut Rows,
     unmet: &mut Rows,
 )
-    ensures before { λ _. ⌜ now (first .exit) ≡ forward (gains beforeFirst) (now (first .entry)) [] (now (trace .entry)) ⌝ }
-    ensures left { λ _. ⌜ now (unmet .exit) ≡ forward (gains (missed events (tableAt (now (held .entry)) 2) (tableAt (now (held .entry)) 3)))
+    ensures before { λ _. ⌜ now (first .exit) ≡ forward (gains (cut true beforeFirst)) (now (first .entry)) [] (now (trace .entry)) ⌝ }
+    ensures left { λ _. ⌜ now (unmet .exit) ≡ forward
+        (gains (cut true (missed events (tableAt (now (held .entry)) 2) (tableAt (now (held .entry)) 3))))
         (now (unmet .entry)) [] (now (trace .entry)) ⌝ }
 {
     let mut seen = Set::EMPTY;
-    let mut included = events;
+    let mut included = in_form(events, true);
     let mut i: usize = 0;
     while i < trace.len() {
         let e = Activity(trace[i]);
-        let then = included_after(included, held, e);
-        note_waiting(e, seen, included, first, unmet);
+        let then = included_after(included, held, e, true);
+        note_waiting(e, seen, included, true, first, unmet);
         included = then;
         seen = and_then(seen, e);
         i += 1;
+    }
+}
+
+// The same in the narrow form: the form is written out in the loop, so that the compiler drops the second word.
+fn replay_trace_narrow<'a>(
+    trace: &'a [u8],
+    events: Set,
+    held: &'a Relations,
+    first: &mut Rows,
+    unmet: &mut Rows,
+)
+    ensures before { λ _. ⌜ now (first .exit) ≡ forward (gains (cut false beforeFirst)) (now (first .entry)) [] (now (trace .entry)) ⌝ }
+    ensures left { λ _. ⌜ now (unmet .exit) ≡ forward
+        (gains (cut false (missed events (tableAt (now (held .entry)) 2) (tableAt (now (held .entry)) 3))))
+        (now (unmet .entry)) [] (now (trace .entry)) ⌝ }
+{
+    let mut seen = Set::EMPTY;
+    let mut included = in_form(events, false);
+    let mut i: usize = 0;
+    while i < trace.len() {
+        let e = Activity(trace[i]);
+        let then = included_after(included, held, e, false);
+        note_waiting(e, seen, included, false, first, unmet);
+        included = then;
+        seen = and_then(seen, e);
+        i += 1;
+    }
+}
+
+// The same in a form.
+fn replay_in<'a>(
+    trace: &'a [u8],
+    events: Set,
+    held: &'a Relations,
+    wide: bool,
+    first: &mut Rows,
+    unmet: &mut Rows,
+)
+    ensures before { λ _. ⌜ now (first .exit) ≡ forward (gains (cut wide beforeFirst)) (now (first .entry)) [] (now (trace .entry)) ⌝ }
+    ensures left { λ _. ⌜ now (unmet .exit) ≡ forward
+        (gains (cut wide (missed events (tableAt (now (held .entry)) 2) (tableAt (now (held .entry)) 3))))
+        (now (unmet .entry)) [] (now (trace .entry)) ⌝ }
+{
+    if wide {
+        replay_trace(trace, events, held, first, unmet);
+    } else {
+        replay_trace_narrow(trace, events, held, first, unmet);
     }
 }
 
@@ -102,19 +160,18 @@ fn replay_log<'a>(
     traces: usize,
     events: Set,
     held: &'a Relations,
+    wide: bool,
     first: &mut Rows,
     unmet: &mut Rows,
 )
-    ensures { λ _. ⌜ now (first .exit) ≡ through (λ r σ. forward (gains beforeFirst) r [] σ) (now (first .entry))
-        (walked (now (log .entry)) traces 0) ⌝ }
-    ensures { λ _. ⌜ now (unmet .exit) ≡ through
-        (λ r σ. forward (gains (missed events (tableAt (now (held .entry)) 2) (tableAt (now (held .entry)) 3))) r [] σ) (now (unmet .entry))
+    ensures { λ _. ⌜ now (first .exit) ≡ aheadOf wide (now (first .entry)) (walked (now (log .entry)) traces 0) ⌝ }
+    ensures { λ _. ⌜ now (unmet .exit) ≡ missedOf wide events (tableAt (now (held .entry)) 2) (tableAt (now (held .entry)) 3) (now (unmet .entry))
         (walked (now (log .entry)) traces 0) ⌝ }
 {
     let mut k: usize = 0;
     while k < traces {
         let trace = calllog::trace::trace_at(log, k);
-        replay_trace(trace, events, held, first, unmet);
+        replay_in(trace, events, held, wide, first, unmet);
         k += 1;
     }
 }
@@ -129,17 +186,16 @@ fn put_waited<'a>(events: Set, first: &'a Rows, unmet: &'a Rows, out: &mut Relat
     tables::put_rows(out, CONDITIONS, &nine);
 }
 
-// Step 9, on the tables after step 8.
-pub fn put_nine(log: &[u8], traces: usize, events: Set, out: &mut Relations)
+// Step 9, on the tables after step 8, its replay in a form.
+pub fn put_nine(log: &[u8], traces: usize, events: Set, wide: bool, out: &mut Relations)
     ensures { λ _. ⌜ now (out .exit) ≡ withTable (now (out .entry)) 0
         (rowsFor events (waited events (withTable noRows 0 (tableAt (now (out .entry)) 0))
-        (through (λ r σ. forward (gains beforeFirst) r [] σ) noRows (walked (now (log .entry)) traces 0))
-        (through (λ r σ. forward (gains (missed events (tableAt (now (out .entry)) 2) (tableAt (now (out .entry)) 3))) r [] σ) noRows
-        (walked (now (log .entry)) traces 0)))) ⌝ }
+        (aheadOf wide noRows (walked (now (log .entry)) traces 0))
+        (missedOf wide events (tableAt (now (out .entry)) 2) (tableAt (now (out .entry)) 3) noRows (walked (now (log .entry)) traces 0)))) ⌝ }
 {
     let mut first = rows::empty();
     let mut unmet = rows::empty();
-    replay_log(log, traces, events, out, &mut first, &mut unmet);
+    replay_log(log, traces, events, out, wide, &mut first, &mut unmet);
     put_waited(events, &first, &unmet, out);
 }
 

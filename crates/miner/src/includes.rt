@@ -1,7 +1,7 @@
 // The includes of steps 3 and 6, put into the tables that are lent. What step 6 lets in needs the pairs that never follow, so it is asked of
 // the log in a pass of its own: over each trace from the first place to the last.
 ghost use mathlib.Core.Path.{_≡_};
-ghost use mathlib.Core.Bool.{cond};
+ghost use mathlib.Core.Bool.{true, false, cond};
 ghost use mathlib.Core.List.{[]};
 ghost use Prim.Native.Nat.{ℕ, _+_, _<_};
 ghost use lib.Dec.{eqb, ltb};
@@ -11,9 +11,9 @@ ghost use Rattle.sets.specs.Members.{width, mem, those};
 ghost use Rattle.sets.specs.Rows.{inRow, noRows, rowsOf, turned};
 ghost use Rattle.sets.specs.Tables.{tableAt, withTable};
 ghost use Rattle.rules.specs.Traces.{_has_};
-ghost use Rattle.tally.specs.Passes.{gained, gains, forward, through, walked};
+ghost use Rattle.tally.specs.Passes.{gained, gains, forward, walked, reaches, cut};
 ghost use Rattle.miner.specs.Facts.{letIn, placesFrom};
-ghost use Rattle.miner.specs.Stages.{chainsOf};
+ghost use Rattle.miner.specs.Stages.{chainsOf, letInOf};
 use engine::Relations;
 use engine::graph::INCLUDES;
 use engine::graph::RESPONSES;
@@ -26,6 +26,7 @@ use sets::rows;
 use sets::tables;
 use steps::relations;
 use tally::Tally;
+use tally::in_form;
 use tally::log;
 
 // What was seen, with e.
@@ -64,27 +65,34 @@ pub fn last_places(trace: &[u8], last: &mut Places) -> Set
     all
 }
 
-// What stands after a place of e, given what stands from it on: less e, where this is its last place.
+// What stands after a place of e, given what stands from it on: less e, where this is its last place. A set without a branch, since which
+// place is the last is not foreseen.
 fn left_after(after: Set, last: &Places, e: Activity, at: Place) -> Set
     ensures { λ r. ⌜ r ≡ those (λ x. mem after x and non (eqb x (e .0) and eqb (getD (now (last .entry)) (e .0) 0) (at .0))) ⌝ }
 {
     let n = e.0 as usize;
     if n < WIDTH {
-        if last[n] == at.0 {
-            return after.difference(Set::one(e));
-        }
+        let gone = Set::one_if(last[n] == at.0, e);
+        return after.difference(gone);
     }
     after
 }
 
-// One place of e: its row gains what comes later and is barred. Then what never directly follows e is barred too.
-fn let_in_here(e: Activity, after: Set, barred: Set, unfollowed: &Rows, out: &mut Rows) -> Set
+// One place of e: its row gains what comes later and is barred. Then what never directly follows e is barred too, as far as the form holds it.
+fn let_in_here(
+    e: Activity,
+    after: Set,
+    barred: Set,
+    unfollowed: &Rows,
+    wide: bool,
+    out: &mut Rows,
+) -> Set
     ensures row { λ _. ⌜ now (out .exit) ≡ gained (now (out .entry)) (e .0) (λ x. mem after x and mem barred x) ⌝ }
-    ensures next { λ r. ⌜ r ≡ those (λ x. mem barred x or inRow (now (unfollowed .entry)) (e .0) x) ⌝ }
+    ensures next { λ r. ⌜ r ≡ those (λ x. mem barred x or reaches wide x and inRow (now (unfollowed .entry)) (e .0) x) ⌝ }
 {
     let back = after.intersection(barred);
     rows::join(out, e, back);
-    let never = rows::row(unfollowed, e);
+    let never = in_form(rows::row(unfollowed, e), wide);
     barred.union(never)
 }
 
@@ -99,7 +107,7 @@ fn let_in_along<'a>(
     requires { ⌜ all ≡ those (λ x. now trace has x) ⌝ }
     requires { ⌜ ((i : ℕ) → i < length (now trace) → getD (now trace) i 0 < width → eqb (getD (now last) (getD (now trace) i 0) 0) i
         ≡ non (drop (i + 1) (now trace) has getD (now trace) i 0)) ⌝ }
-    ensures { λ _. ⌜ now (out .exit) ≡ forward (gains (letIn (now (unfollowed .entry)))) (now (out .entry)) [] (now (trace .entry)) ⌝ }
+    ensures { λ _. ⌜ now (out .exit) ≡ forward (gains (cut true (letIn (now (unfollowed .entry))))) (now (out .entry)) [] (now (trace .entry)) ⌝ }
 {
     let mut after = all;
     let mut barred = Set::EMPTY;
@@ -107,7 +115,32 @@ fn let_in_along<'a>(
     while i < trace.len() {
         let e = Activity(trace[i]);
         let later = left_after(after, last, e, Place(i));
-        barred = let_in_here(e, later, barred, unfollowed, out);
+        barred = let_in_here(e, later, barred, unfollowed, true, out);
+        after = later;
+        i += 1;
+    }
+}
+
+// The same in the narrow form.
+fn let_in_along_narrow<'a>(
+    trace: &'a [u8],
+    unfollowed: &'a Rows,
+    last: &'a Places,
+    all: Set,
+    out: &mut Rows,
+)
+    requires { ⌜ all ≡ those (λ x. now trace has x) ⌝ }
+    requires { ⌜ ((i : ℕ) → i < length (now trace) → getD (now trace) i 0 < width → eqb (getD (now last) (getD (now trace) i 0) 0) i
+        ≡ non (drop (i + 1) (now trace) has getD (now trace) i 0)) ⌝ }
+    ensures { λ _. ⌜ now (out .exit) ≡ forward (gains (cut false (letIn (now (unfollowed .entry))))) (now (out .entry)) [] (now (trace .entry)) ⌝ }
+{
+    let mut after = all;
+    let mut barred = Set::EMPTY;
+    let mut i: usize = 0;
+    while i < trace.len() {
+        let e = Activity(trace[i]);
+        let later = left_after(after, last, e, Place(i));
+        barred = let_in_here(e, later, barred, unfollowed, false, out);
         after = later;
         i += 1;
     }
@@ -115,23 +148,26 @@ fn let_in_along<'a>(
 
 // Step 6: the row of each event gains what comes later in the trace and never directly follows something that stands before the event;
 // row s of `unfollowed` has what never directly follows s.
-fn let_in_trace<'a>(trace: &'a [u8], unfollowed: &'a Rows, out: &mut Rows)
-    ensures { λ _. ⌜ now (out .exit) ≡ forward (gains (letIn (now (unfollowed .entry)))) (now (out .entry)) [] (now (trace .entry)) ⌝ }
+fn let_in_trace<'a>(trace: &'a [u8], unfollowed: &'a Rows, wide: bool, out: &mut Rows)
+    ensures { λ _. ⌜ now (out .exit) ≡ forward (gains (cut wide (letIn (now (unfollowed .entry))))) (now (out .entry)) [] (now (trace .entry)) ⌝ }
 {
     let mut last = [0usize; WIDTH];
     let all = last_places(trace, &mut last);
-    let_in_along(trace, unfollowed, &last, all, out);
+    if wide {
+        let_in_along(trace, unfollowed, &last, all, out);
+    } else {
+        let_in_along_narrow(trace, unfollowed, &last, all, out);
+    }
 }
 
 // The same, of all traces.
-fn let_in_log<'a>(log: &'a [u8], traces: usize, unfollowed: &'a Rows, out: &mut Rows)
-    ensures { λ _. ⌜ now (out .exit) ≡ through (λ r σ. forward (gains (letIn (now (unfollowed .entry)))) r [] σ) (now (out .entry))
-        (walked (now (log .entry)) traces 0) ⌝ }
+fn let_in_log<'a>(log: &'a [u8], traces: usize, unfollowed: &'a Rows, wide: bool, out: &mut Rows)
+    ensures { λ _. ⌜ now (out .exit) ≡ letInOf wide (now (unfollowed .entry)) (now (out .entry)) (walked (now (log .entry)) traces 0) ⌝ }
 {
     let mut k: usize = 0;
     while k < traces {
         let trace = calllog::trace::trace_at(log, k);
-        let_in_trace(trace, unfollowed, out);
+        let_in_trace(trace, unfollowed, wide, out);
         k += 1;
     }
 }
@@ -146,13 +182,13 @@ pub fn put_three(events: Set, tally: &Tally, out: &mut Relations)
 }
 
 // Step 6: the includes gain what is let in. What never directly follows stands where the responses will.
-pub fn put_six(log: &[u8], traces: usize, out: &mut Relations)
+pub fn put_six(log: &[u8], traces: usize, wide: bool, out: &mut Relations)
     ensures { λ _. ⌜ now (out .exit) ≡ withTable (now (out .entry)) 2
-        (through (λ r σ. forward (gains (letIn (withTable noRows 0 (tableAt (now (out .entry)) 1)))) r [] σ)
-        (withTable noRows 0 (tableAt (now (out .entry)) 2)) (walked (now (log .entry)) traces 0)) ⌝ }
+        (letInOf wide (withTable noRows 0 (tableAt (now (out .entry)) 1)) (withTable noRows 0 (tableAt (now (out .entry)) 2))
+        (walked (now (log .entry)) traces 0)) ⌝ }
 {
     let mut includes = tables::taken(out, INCLUDES);
     let never = tables::taken(out, RESPONSES);
-    let_in_log(log, traces, &never, &mut includes);
+    let_in_log(log, traces, &never, wide, &mut includes);
     tables::put_rows(out, INCLUDES, &includes);
 }

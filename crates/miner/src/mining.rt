@@ -2,18 +2,19 @@
 // returns: that is what keeps the stack small (02, 4/12).
 ghost use mathlib.Core.Path.{_≡_};
 ghost use Prim.Native.Nat.{_*_};
+ghost use lib.Dec.{ltb};
 ghost use lib.ListN.{length};
-ghost use Rattle.sets.specs.Members.{width, those};
-ghost use Rattle.sets.specs.Rows.{rowsFor};
+ghost use Rattle.sets.specs.Members.{word, those};
+ghost use Rattle.sets.specs.Rows.{rowWords, rowsFor};
 ghost use Rattle.sets.specs.Tables.{tableAt, withTable};
 ghost use Rattle.engine.specs.Relations.{relationCount};
 ghost use Rattle.rules.specs.declared.Profile.the-variants.{Light};
 ghost use Rattle.rules.specs.Mining.{event};
 ghost use Rattle.steps.specs.Rowwise.{reducedOf};
 ghost use Rattle.tally.specs.Passes.{walked};
-ghost use Rattle.tally.specs.Tallies.{tallied};
-ghost use Rattle.miner.specs.Stages.{conditionsOf, responsesOf, neverOf, includesSix, excludesSix, sevenFrom};
-ghost use Rattle.miner.specs.Stages.{fourTables, graphFound};
+ghost use Rattle.tally.specs.Tallies.{talliedFor};
+ghost use Rattle.miner.specs.Stages.{conditionsOf, responsesOf, neverOf, includesIn, excludesSix, sevenFrom};
+ghost use Rattle.miner.specs.Stages.{fourTables, graphFoundIn};
 ghost use Rattle.miner.specs.Mine.{minedOf};
 use crate::conditions;
 use crate::excludes;
@@ -30,7 +31,8 @@ use rules::Profile;
 use sets::Answer;
 use sets::Rows;
 use sets::Set;
-use sets::activity::WIDTH;
+use sets::activity::WORD;
+use sets::rows::WORDS;
 use sets::tables;
 use steps::reduce;
 use steps::relations;
@@ -72,22 +74,23 @@ fn put_six<'a>(
     traces: usize,
     events: Set,
     tally: &'a Tally,
+    wide: bool,
     profile: Profile,
     out: &mut Relations,
 )
     ensures { λ _. ⌜ length (now (out .exit)) ≡ length (now (out .entry)) ⌝ }
-    ensures { λ _. ⌜ (length (now (out .entry)) ≡ relationCount * width
-        → tableAt (now (out .entry)) 2 ≡ includesSix Light events (now (tally .entry)) (walked (now (bytes .entry)) traces 0)
-        → tableAt (now (out .exit)) 2 ≡ includesSix profile events (now (tally .entry)) (walked (now (bytes .entry)) traces 0)) ⌝ }
-    ensures { λ _. ⌜ (length (now (out .entry)) ≡ relationCount * width
-        → tableAt (now (out .entry)) 2 ≡ includesSix Light events (now (tally .entry)) (walked (now (bytes .entry)) traces 0)
+    ensures { λ _. ⌜ (length (now (out .entry)) ≡ relationCount * rowWords
+        → tableAt (now (out .entry)) 2 ≡ includesIn wide Light events (now (tally .entry)) (walked (now (bytes .entry)) traces 0)
+        → tableAt (now (out .exit)) 2 ≡ includesIn wide profile events (now (tally .entry)) (walked (now (bytes .entry)) traces 0)) ⌝ }
+    ensures { λ _. ⌜ (length (now (out .entry)) ≡ relationCount * rowWords
+        → tableAt (now (out .entry)) 2 ≡ includesIn wide Light events (now (tally .entry)) (walked (now (bytes .entry)) traces 0)
         → tableAt (now (out .entry)) 3 ≡ excludesSix Light events (now (tally .entry))
         → tableAt (now (out .exit)) 3 ≡ excludesSix profile events (now (tally .entry))) ⌝ }
 {
     match profile {
         Profile::Full => {
             put_never(events, tally, out);
-            includes::put_six(bytes, traces, out);
+            includes::put_six(bytes, traces, wide, out);
             excludes::put_six(events, out);
         }
         Profile::Light => {}
@@ -100,49 +103,57 @@ fn put_eight<'a>(
     traces: usize,
     events: Set,
     tally: &'a Tally,
+    wide: bool,
     profile: Profile,
     out: &mut Relations,
 )
-    ensures { λ _. ⌜ (length (now (out .entry)) ≡ relationCount * width → now (out .exit) ≡ fourTables
+    ensures { λ _. ⌜ (length (now (out .entry)) ≡ relationCount * rowWords → now (out .exit) ≡ fourTables
         (rowsFor events (reducedOf (conditionsOf events (now (tally .entry)))))
         (rowsFor events (reducedOf (responsesOf events (now (tally .entry)))))
-        (includesSix profile events (now (tally .entry)) (walked (now (bytes .entry)) traces 0))
-        (sevenFrom events (now (tally .entry)) (includesSix profile events (now (tally .entry)) (walked (now (bytes .entry)) traces 0))
+        (includesIn wide profile events (now (tally .entry)) (walked (now (bytes .entry)) traces 0))
+        (sevenFrom events (now (tally .entry)) (includesIn wide profile events (now (tally .entry)) (walked (now (bytes .entry)) traces 0))
         (excludesSix profile events (now (tally .entry))) (walked (now (bytes .entry)) traces 0))) ⌝ }
 {
     includes::put_three(events, tally, out);
     excludes::put_excluded(events, tally, out);
     excludes::turn(out);
-    put_six(bytes, traces, events, tally, profile, out);
+    put_six(bytes, traces, events, tally, wide, profile, out);
     redundant::put_seven(bytes, traces, events, tally, out);
     conditions::put_eight(events, tally, out);
     put_responses(events, tally, out);
 }
 
 // The same of a log's first traces; it gives their events. The tally, the largest of all, is gone when it returns.
-fn tables_eight(bytes: &[u8], traces: usize, profile: Profile, out: &mut Relations) -> Set
+fn tables_eight(
+    bytes: &[u8],
+    traces: usize,
+    wide: bool,
+    profile: Profile,
+    out: &mut Relations,
+) -> Set
     ensures { λ r. ⌜ r ≡ those (event (walked (now (bytes .entry)) traces 0)) ⌝ }
-    ensures { λ r. ⌜ (length (now (out .entry)) ≡ relationCount * width → now (out .exit) ≡ fourTables
-        (rowsFor r (reducedOf (conditionsOf r (tallied (walked (now (bytes .entry)) traces 0)))))
-        (rowsFor r (reducedOf (responsesOf r (tallied (walked (now (bytes .entry)) traces 0)))))
-        (includesSix profile r (tallied (walked (now (bytes .entry)) traces 0)) (walked (now (bytes .entry)) traces 0))
-        (sevenFrom r (tallied (walked (now (bytes .entry)) traces 0))
-        (includesSix profile r (tallied (walked (now (bytes .entry)) traces 0)) (walked (now (bytes .entry)) traces 0))
-        (excludesSix profile r (tallied (walked (now (bytes .entry)) traces 0))) (walked (now (bytes .entry)) traces 0))) ⌝ }
+    ensures { λ r. ⌜ (length (now (out .entry)) ≡ relationCount * rowWords → now (out .exit) ≡ fourTables
+        (rowsFor r (reducedOf (conditionsOf r (talliedFor wide (walked (now (bytes .entry)) traces 0)))))
+        (rowsFor r (reducedOf (responsesOf r (talliedFor wide (walked (now (bytes .entry)) traces 0)))))
+        (includesIn wide profile r (talliedFor wide (walked (now (bytes .entry)) traces 0)) (walked (now (bytes .entry)) traces 0))
+        (sevenFrom r (talliedFor wide (walked (now (bytes .entry)) traces 0))
+        (includesIn wide profile r (talliedFor wide (walked (now (bytes .entry)) traces 0)) (walked (now (bytes .entry)) traces 0))
+        (excludesSix profile r (talliedFor wide (walked (now (bytes .entry)) traces 0))) (walked (now (bytes .entry)) traces 0))) ⌝ }
 {
     let mut tally = log::empty();
-    let events = log::note_traces(bytes, traces, &mut tally);
-    put_eight(bytes, traces, events, &tally, profile, out);
+    let events = log::note_traces_in(bytes, traces, wide, &mut tally);
+    put_eight(bytes, traces, events, &tally, wide, profile, out);
     events
 }
 
-// The graph of a log's first traces.
+// The graph of a log's first traces. Where all activities are below 64, its passes keep one word of each set.
 fn graph_found(bytes: &[u8], activities: u8, traces: usize, profile: Profile) -> Graph
-    ensures { λ r. ⌜ r ≡ graphFound activities (walked (now (bytes .entry)) traces 0) profile ⌝ }
+    ensures { λ r. ⌜ r ≡ graphFoundIn (ltb word activities) activities (walked (now (bytes .entry)) traces 0) profile ⌝ }
 {
-    let mut found: Relations = [0; KINDS as usize * WIDTH];
-    let events = tables_eight(bytes, traces, profile, &mut found);
-    conditions::put_nine(bytes, traces, events, &mut found);
+    let mut found: Relations = [0; KINDS as usize * WORDS];
+    let wide = WORD < activities;
+    let events = tables_eight(bytes, traces, wide, profile, &mut found);
+    conditions::put_nine(bytes, traces, events, wide, &mut found);
     conditions::put_ten(events, &mut found);
     Graph {
         head: Head {

@@ -1,34 +1,31 @@
 -- THE THEOREM OF READING: the relations that are read from the tally of some traces are, pair for pair, the rules' after step 8, in either
--- profile, and its events are theirs. However many traces there are; nothing is assumed of them.
+-- profile, and its events are theirs. However many traces there are; of them is assumed that their activities are below 64, which A makes sure.
 use mathlib.Core.Path.{_≡_, refl, sym, ap, ap₂, _∙_}
 use mathlib.Core.Bool.{Bool, true, false}
-use mathlib.Core.List.{List, [], _∷_, _++_}
+use mathlib.Core.List.{List, _++_}
 use Prim.Native.Nat.{ℕ, _+_, _-_, _*_, _/_, _%_, _≤_, _<_}
 use native.Mathlib.Omega.{arith}
-use lib.Dec.{T}
-use lib.ListN.{length, length-replicate}
+use borrow.Author.Tests.{lt-ltb}
+use lib.Dec.{T, ltb, lt→ltb}
 use Rattle.sets.specs.Tests.{_and_, _or_, non}
 use Rattle.sets.specs.Members.{width, mem, those, someBelow}
 use Rattle.sets.specs.Rows.{Relation, inRow, rowsOf, rowsFor, turned}
-use Rattle.sets.specs.Tables.{noTables, tableAt, tablesOf}
 use Rattle.sets.specs.declared.set.Set.{Set}
-use Rattle.sets.proofs.Tests.{and-l, and-r, and-i, T-ext, T-eq, T→true, non-non}
+use Rattle.sets.proofs.Tests.{and-l, and-r, and-i, true-and, T-ext, T-eq}
 use Rattle.sets.proofs.Tautologies.{by2, by3, by4, by5}
 use Rattle.sets.proofs.Below.{some-ext}
-use Rattle.sets.proofs.Members.{those-ext, mem-those}
+use Rattle.sets.proofs.Members.{those-ext, those-e, mem-those}
 use Rattle.sets.proofs.RowLaws.{in-rowsOf, rowsOf-ext}
-use Rattle.sets.proofs.TableLaws.{is-tablesOf, tablesOf-ext, length-put-in}
+use Rattle.sets.proofs.TableLaws.{in-tablesOf}
 use Rattle.engine.specs.Relations.{Relations, relationCount, tablesFrom}
 use Rattle.rules.specs.declared.Profile.{Profile}
 use Rattle.rules.specs.declared.Profile.the-variants.{Full, Light}
 use Rattle.rules.specs.Traces.{Traces}
 use Rattle.rules.specs.Mining.{event, someEvent, _with_, _without_, followed, between, alternates, letInBetween, makesRedundant, reduced, step6, step7, step8}
-use Rattle.rules.specs.Mining.{step9, step10, afterFive, afterSix, afterSeven, afterEight, mined}
+use Rattle.rules.specs.Mining.{step3, step4, step5, step9, step10, afterFive, afterSix, afterSeven, afterEight, mined}
 use Rattle.steps.specs.Rowwise.{absent, reducedOf}
-use Rattle.tally.specs.Passes.{Turn, notedIn, forward, backward, through}
-use Rattle.tally.specs.Tallies.{tableCount, unalternatedTable, notePast, noteSince, noteRest, noted, tallied}
+use Rattle.tally.specs.Tallies.{tableCount, unalternatedTable, tallied}
 use Rattle.tally.proofs.Tallying.{unalternated-table}
-use Rattle.tally.proofs.LogLaws.{middle-event}
 use Rattle.miner.specs.Stages.{conditionsOf, responsesOf, chainsOf, neverOf, excludesSix, fourTables}
 use Rattle.miner.proofs.RowReadings.{turned-rows, absent-rows}
 use Rattle.miner.proofs.EarlySteps.{events, chains-read}
@@ -36,44 +33,17 @@ use Rattle.miner.proofs.Exclusions.{first-too, never-read, excludes-six, six-ev
 use Rattle.miner.proofs.LaterSteps.{conditions-eight, responses-mined}
 use Rattle.miner.proofs.Losing.{under}
 use Rattle.miner.proofs.PairForPair.{four-tables}
-use Rattle.months.specs.Layout.{setCount, firstRow, rowsEnd, firstPair, rowSet, pairSet, setIn}
+use Rattle.miner.proofs.AtEvents.{where-so, AgreeAt, conditions-at, responses-at, chains-at, never-at, alternating-at, excludes-six-at}
+use Rattle.months.specs.Layout.{tallyWidth, setCount, firstRow, rowsEnd, firstPair, rowSet, pairSet, setIn}
 use Rattle.months.specs.Tallies.{asked, held, tallyOf}
 use Rattle.months.specs.Readings.{tablesIn, betweenIn, unfollowing, includers, includesIn, alternating, redundantBy, excluded, excludesFrom}
 use Rattle.months.specs.Readings.{relationsFrom}
+use Rattle.months.proofs.Narrow.{narrowed-in}
 use Rattle.months.proofs.Holding.{held-events, held-row, held-pair, table-asked, set-held}
 
--- ---- a tally has the seven tables and no more
-
-long-noted : (t : List ℕ) (k e : ℕ) (p : ℕ → Bool) → length (notedIn t k e p) ≡ length t
-unfolding notedIn
-long-noted t k e p = length-put-in t k e _
-
-module _ (turn : Turn) (h : (t : List ℕ) (e : ℕ) (past rest : List ℕ) → length (turn t e past rest) ≡ length t) where
-  long-forward : (t past σ : List ℕ) → length (forward turn t past σ) ≡ length t
-  unfolding forward
-  long-forward t past [] = refl
-  long-forward t past (e ∷ rest) = long-forward (turn t e past rest) (e ∷ past) rest ∙ h t e past rest
-
-  long-backward : (t past σ : List ℕ) → length (backward turn t past σ) ≡ length t
-  unfolding backward
-  long-backward t past [] = refl
-  long-backward t past (e ∷ rest) = h _ e past rest ∙ long-backward t (e ∷ past) rest
-
-long-trace : (t σ : List ℕ) → length (noted t σ) ≡ length t
-unfolding noted notePast noteSince noteRest
-long-trace t σ =
-    long-backward noteRest (λ x e past rest. long-noted _ _ e _ ∙ long-noted _ _ e _ ∙ long-noted x _ e _) _ [] σ
-    ∙ long-forward noteSince (λ x e past rest. long-noted x _ e _) _ [] σ
-    ∙ long-forward notePast (λ x e past rest. long-noted _ _ e _ ∙ long-noted _ _ e _ ∙ long-noted x _ e _) t [] σ
-
-long-log : (t : List ℕ) (L : Traces) → length (through noted t L) ≡ length t
-unfolding through
-long-log t [] = refl
-long-log t (σ ∷ L) = long-log (noted t σ) L ∙ long-trace t σ
-
-pub tallied-is : (L : Traces) → tallied L ≡ tablesOf tableCount (asked L)
-tallied-is L =
-    is-tablesOf tableCount (tallied L) (asked L) (long-log (noTables tableCount) L ∙ length-replicate {A = ℕ} (tableCount * width) 0) (table-asked L)
+-- a tally can hold all activities of the traces
+abbrev pub Held : Traces → Type 0
+Held L = (a : ℕ) → T (event L a) → a < tallyWidth
 
 -- ---- tests alone
 
@@ -92,7 +62,7 @@ redundant-same true eu a x i l t =
 redundant-same false eu a x i l t = absurd t
 
 -- the tally of A and some traces, whatever stands after it
-module _ (A : ℕ) (L : Traces) (rest : List ℕ) where
+module _ (A : ℕ) (L : Traces) (low : Held L) (rest : List ℕ) where
   abbrev held-bytes : List ℕ
   held-bytes = tallyOf A L ++ rest
 
@@ -102,27 +72,38 @@ module _ (A : ℕ) (L : Traces) (rest : List ℕ) where
   -- ---- what the tally gives
 
   pub events-held : setIn held-bytes 1 ≡ events L
-  events-held = set-held L A rest 1 (omega arith) (omega arith) ∙ those-ext _ _ (λ x lx. held-events L 1 x (omega arith) (omega arith))
+  events-held =
+      set-held L A rest 1 (omega arith) (omega arith)
+      ∙ those-ext _ _ (λ x lx.
+      ap (λ (b : Bool). ltb x tallyWidth and b) (held-events L 1 x (omega arith) (omega arith))
+      ∙ T-ext (ltb x tallyWidth and event L x) (event L x) (λ t. and-r _ _ t) (λ t. and-i _ _ (lt→ltb x tallyWidth (low x t)) t))
 
-  pub tables-held : tablesIn held-bytes ≡ tallied L
-  tables-held =
-      tablesOf-ext tableCount _ (asked L)
-      (λ k a x lk la lx.
-      let low : rowSet k a < rowsEnd = omega arith in
-      let table : (rowSet k a - firstRow) / width ≡ k = omega arith in
-      let row : (rowSet k a - firstRow) % width ≡ a = omega arith in
-      ap (λ (s : Set). mem s x) (set-held L A rest (rowSet k a) (omega arith) (omega arith))
-      ∙ mem-those (held L (rowSet k a)) x lx
-      ∙ held-row L (rowSet k a) x (omega arith) low
-      ∙ ap₂ (λ (m n : ℕ). asked L m n x) table row)
-      ∙ sym (tallied-is L)
+  -- the tables agree with the mining tally at the events; more no stage asks
+  tables-held : AgreeAt (events L) (tablesIn held-bytes) (tallied L)
+  tables-held k lk a x la lx ea ex =
+      let na : a < tallyWidth = low a (those-e (event L) a ea .1) in
+      let nx : x < tallyWidth = low x (those-e (event L) x ex .1) in
+      let before-end : rowSet k a < rowsEnd = omega arith in
+      let table : (rowSet k a - firstRow) / tallyWidth ≡ k = omega arith in
+      let row : (rowSet k a - firstRow) % tallyWidth ≡ a = omega arith in
+      in-tablesOf tableCount (λ j b y. ltb b tallyWidth and mem (setIn held-bytes (rowSet j b)) y) k a x lk la lx
+      ∙ ap (λ (t : Bool). t and mem (setIn held-bytes (rowSet k a)) x) (lt-ltb a tallyWidth na)
+      ∙ true-and _
+      ∙ ap (λ (s : Set). mem s x) (set-held L A rest (rowSet k a) (omega arith) (omega arith))
+      ∙ narrowed-in (held L (rowSet k a)) x nx
+      ∙ held-row L (rowSet k a) x (omega arith) before-end
+      ∙ ap₂ (λ (m n : ℕ). asked L m n x) table row
+      ∙ sym (ap (λ (rows : List ℕ). inRow rows a x) (table-asked L k lk) ∙ in-rowsOf (asked L k) a x la lx)
 
-  between-held : (u s v : ℕ) → u < width → s < width → v < width → mem (B u s) v ≡ between L u v s
-  between-held u s v lu ls lv =
-      let first : (pairSet u s - firstPair) / width ≡ u = omega arith in
-      let second : (pairSet u s - firstPair) % width ≡ s = omega arith in
+  -- of three events
+  between-held : (u s v : ℕ) → T (event L u) → T (event L s) → T (event L v) → mem (B u s) v ≡ between L u v s
+  between-held u s v eu es ev =
+      let lu : u < tallyWidth = low u eu in
+      let ls : s < tallyWidth = low s es in
+      let first : (pairSet u s - firstPair) / tallyWidth ≡ u = omega arith in
+      let second : (pairSet u s - firstPair) % tallyWidth ≡ s = omega arith in
       ap (λ (x : Set). mem x v) (set-held L A rest (pairSet u s) (omega arith) (omega arith))
-      ∙ mem-those (held L (pairSet u s)) v lv
+      ∙ narrowed-in (held L (pairSet u s)) v (low v ev)
       ∙ held-pair L (pairSet u s) v (omega arith)
       ∙ ap₂ (λ (m n : ℕ). between L m v n) first second
 
@@ -141,9 +122,11 @@ module _ (A : ℕ) (L : Traces) (rest : List ℕ) where
       in-rowsOf (λ a b. mem (events L) a and includers (events L) (rowsOf chained-by) (rowsOf (turned (rowsOf never))) B a b) t u lt lu
       ∙ ap₂ (λ (x y : Bool). x and (y and (inRow (rowsOf chained-by) t u
       or someBelow width (λ s. inRow (rowsOf (turned (rowsOf never))) t s and mem (B s t) u)))) (mem-those (event L) t lt) (mem-those (event L) u lu)
-      ∙ ap₂ (λ (x y : Bool). event L t and (event L u and (x or y))) (in-rowsOf chained-by t u lt lu)
+      ∙ where-so (event L t) _ _ (λ et. where-so (event L u) _ _ (λ eu.
+      ap₂ _or_ (in-rowsOf chained-by t u lt lu)
       (some-ext width _ _ (λ s ls.
-      ap₂ _and_ (in-rowsOf (turned (rowsOf never)) t s lt ls ∙ in-rowsOf never s t ls lt) (between-held s t u ls lt lu)))
+      ap (λ (b : Bool). b and mem (B s t) u) (in-rowsOf (turned (rowsOf never)) t s lt ls ∙ in-rowsOf never s t ls lt)
+      ∙ where-so (never s t) _ _ (λ g. between-held s t u (and-l _ _ g) et eu)))))
       ∙ include-same (event L t) (event L u) (afterFive L .includes u t) (event L) (λ s. non (followed L s t)) (λ s. between L s u t)
 
   includes-held : (p : Profile) → includesIn p (events L) (tallied L) B ≡ rowsOf (afterSix L p .includes)
@@ -152,6 +135,12 @@ module _ (A : ℕ) (L : Traces) (rest : List ℕ) where
       (λ i. rowsOf (turned (rowsFor (events L) (includers (events L) (chains-read L i) (rowsOf (turned (never-read L i))) B))))
       ∙ rowsOf-ext _ (afterSix L Full .includes) include-pair
   includes-held Light = ap (λ (rows : List ℕ). rowsOf (turned rows)) (chains-read L) ∙ turned-rows chained-by
+
+  -- nothing but an event includes anything
+  includes-events : (p : Profile) (v x : ℕ) → T (afterSix L p .includes v x) → T (event L v)
+  unfolding afterSix step6 afterFive step5 step4 step3 _with_
+  includes-events Full v x t = and-l _ _ (and-l _ _ t)
+  includes-events Light v x t = and-l _ _ (and-l _ _ t)
 
   -- ---- step 7
 
@@ -163,23 +152,30 @@ module _ (A : ℕ) (L : Traces) (rest : List ℕ) where
     abbrev six : Relations
     six = afterSix L p
 
-    let-in-held : (u s x : ℕ) → u < width → s < width → x < width
+    let-in-held : (u s x : ℕ) → x < width → T (event L u) → T (event L s)
         → someBelow width (λ v. mem (B u s) v and inRow (rowsOf (six .includes)) v x) ≡ letInBetween L six u s x
     unfolding letInBetween someEvent
-    let-in-held u s x lu ls lx =
+    let-in-held u s x lx eu es =
         some-ext width _ _ (λ v lv.
-        ap₂ _and_ (between-held u s v lu ls lv) (in-rowsOf (six .includes) v x lv lx)
-        ∙ T-ext (between L u v s and six .includes v x) (event L v and (between L u v s and six .includes v x))
-        (λ t. and-i _ _ (middle-event L u v s (and-l _ _ t)) t) (λ t. and-r _ _ t))
+        ap (λ (b : Bool). mem (B u s) v and b) (in-rowsOf (six .includes) v x lv lx)
+        ∙ T-ext (mem (B u s) v and six .includes v x) (event L v and (between L u v s and six .includes v x))
+        (λ t.
+        let ev = includes-events p v x (and-r _ _ t) in
+        and-i _ _ ev (and-i _ _ (T-eq (between-held u s v eu es ev) (and-l _ _ t)) (and-r _ _ t)))
+        (λ t.
+        let both = and-r _ _ t in
+        and-i _ _ (T-eq (sym (between-held u s v eu es (and-l _ _ t))) (and-l _ _ both)) (and-r _ _ both)))
 
     redundant-held : (u s x : ℕ) → u < width → s < width → x < width → T (event L s)
         → (inRow (rowsOf (λ a b. event L a and (event L b and non (non (alternates L b a))))) s u
         and redundantBy (rowsOf (six .includes)) (rowsOf (six .excludes)) B u s x) ≡ (event L u and makesRedundant L six u s x)
     unfolding redundantBy makesRedundant
     redundant-held u s x lu ls lx es =
-        (λ i.
-        in-rowsOf (λ a b. event L a and (event L b and non (non (alternates L b a)))) s u ls lu i
-        and (in-rowsOf (six .excludes) u x lu lx i and non (in-rowsOf (six .includes) u x lu lx i) and non (let-in-held u s x lu ls lx i)))
+        ap (λ (b : Bool). b and redundantBy (rowsOf (six .includes)) (rowsOf (six .excludes)) B u s x)
+        (in-rowsOf (λ a b. event L a and (event L b and non (non (alternates L b a)))) s u ls lu)
+        ∙ where-so (event L s and (event L u and non (non (alternates L u s)))) _ _ (λ g.
+        let eu = and-l _ _ (and-r _ _ g) in
+        λ i. in-rowsOf (six .excludes) u x lu lx i and non (in-rowsOf (six .includes) u x lu lx i) and non (let-in-held u s x lx eu es i))
         ∙ redundant-same (event L s) (event L u) (alternates L u s) (six .excludes u x) (six .includes u x) (letInBetween L six u s x) es
 
     excludes-held : excludesFrom (events L) (tallied L) (rowsOf (six .includes)) (excludesSix p (events L) (tallied L)) B
@@ -201,10 +197,26 @@ module _ (A : ℕ) (L : Traces) (rest : List ℕ) where
     responses-held : rowsFor (events L) (reducedOf (responsesOf (events L) (tallied L))) ≡ rowsOf (afterEight L p .responses)
     responses-held = unfold mined step10 step9 in responses-mined L p
 
+    -- at the events, so as if the tables were the mining tally's
+    includes-at : (q : Profile) → includesIn q (events L) (tablesIn held-bytes) B ≡ includesIn q (events L) (tallied L) B
+    includes-at Full =
+        λ i. rowsOf (turned (rowsFor (events L) (includers (events L) (chains-at (events L) _ _ tables-held i)
+        (rowsOf (turned (never-at (events L) _ _ tables-held i))) B)))
+    includes-at Light = λ i. rowsOf (turned (chains-at (events L) _ _ tables-held i))
+
+    at-events : relationsFrom (events L) (tablesIn held-bytes) B p ≡ relationsFrom (events L) (tallied L) B p
+    at-events i =
+        fourTables
+        (rowsFor (events L) (reducedOf (conditions-at (events L) _ _ tables-held i)))
+        (rowsFor (events L) (reducedOf (responses-at (events L) _ _ tables-held i)))
+        (includes-at p i)
+        (rowsFor (events L) (excluded (alternating-at (events L) _ _ tables-held i) (includes-at p i) (excludes-six-at (events L) _ _ tables-held p i) B))
+
     pub relations-held : relationsFrom (setIn held-bytes 1) (tablesIn held-bytes) (betweenIn held-bytes) p ≡ tablesFrom (afterEight L p)
     unfolding afterEight step8 afterSeven step7
     relations-held =
-        ap₂ (λ (e : Set) (t : List ℕ). relationsFrom e t B p) events-held tables-held
+        ap (λ (e : Set). relationsFrom e (tablesIn held-bytes) B p) events-held
+        ∙ at-events
         ∙ (λ i.
         fourTables (conditions-eight L p i) (responses-held i) (includes-held p i)
         (excludesFrom (events L) (tallied L) (includes-held p i) (excludesSix p (events L) (tallied L)) B))

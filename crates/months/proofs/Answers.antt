@@ -11,7 +11,6 @@ use lib.Seq.{getD-take, set-append-left, length-take-le}
 use Rattle.sets.specs.Tests.{_or_, when_then_else_}
 use Rattle.sets.specs.Members.{noSet}
 use Rattle.sets.specs.Tables.{noTables}
-use Rattle.sets.specs.Sizes.{mostActivities}
 use Rattle.sets.specs.declared.set.Set.{Set}
 use Rattle.sets.specs.Answers.{isDone, thenAsk}
 use Rattle.sets.specs.declared.answer.Answer.{Answer}
@@ -26,7 +25,7 @@ use Rattle.rules.specs.Traces.{Traces}
 use Rattle.tally.specs.Passes.{walked}
 use Rattle.miner.proofs.FromLog.{walk-all}
 use Rattle.months.specs.declared.reading.Known.{Known}
-use Rattle.months.specs.Layout.{tallyLength, activitiesIn, setIn}
+use Rattle.months.specs.Layout.{tallyWidth, tallyLength, activitiesIn, setIn}
 use Rattle.months.specs.Tallies.{tallyOf}
 use Rattle.months.specs.Months.{room, tooFew, tooMany, fillAnswer, filledOf, joinAnswer, bytesOr, joined, joinedOf, knownAnswer, knownOf}
 use Rattle.months.specs.Readings.{tablesIn, betweenIn, relationsFrom}
@@ -60,28 +59,28 @@ module _ (t o : List ℕ) where
     unfolding _or_
     enough = ap₂ _or_ (le-ltb (length t) tallyLength l) (le-ltb (length o) tallyLength k)
 
-    many : (a b : ℕ) → ltb mostActivities (max a b) ≡ (tooMany a or tooMany b)
-    many a b = by (ltb mostActivities a) (ltb mostActivities b) refl refl
+    many : (a b : ℕ) → ltb tallyWidth (max a b) ≡ (tooMany a or tooMany b)
+    many a b = by (ltb tallyWidth a) (ltb tallyWidth b) refl refl
       where
-        by : (x y : Bool) → ltb mostActivities a ≡ x → ltb mostActivities b ≡ y → ltb mostActivities (max a b) ≡ (x or y)
-        by true y ha hb = let g = ltb-true mostActivities a ha in lt-ltb mostActivities (max a b) (omega arith) ∙ unfold _or_ in refl
-        by false true ha hb = let g = ltb-true mostActivities b hb in lt-ltb mostActivities (max a b) (omega arith) ∙ unfold _or_ in refl
+        by : (x y : Bool) → ltb tallyWidth a ≡ x → ltb tallyWidth b ≡ y → ltb tallyWidth (max a b) ≡ (x or y)
+        by true y ha hb = let g = ltb-true tallyWidth a ha in lt-ltb tallyWidth (max a b) (omega arith) ∙ unfold _or_ in refl
+        by false true ha hb = let g = ltb-true tallyWidth b hb in lt-ltb tallyWidth (max a b) (omega arith) ∙ unfold _or_ in refl
         by false false ha hb =
-            let g = ltb-false mostActivities a ha in
-            let h = ltb-false mostActivities b hb in
-            le-ltb mostActivities (max a b) (omega arith) ∙ unfold _or_ in refl
+            let g = ltb-false tallyWidth a ha in
+            let h = ltb-false tallyWidth b hb in
+            le-ltb tallyWidth (max a b) (omega arith) ∙ unfold _or_ in refl
 
     module _ (m : ℕ) (hm : m ≡ max (getD t 0 0) (getD o 0 0)) where
-      pub join-above : mostActivities < m → (AboveLimit ≡ joinAnswer t o) × (t ≡ joinedOf t o)
+      pub join-above : tallyWidth < m → (AboveLimit ≡ joinAnswer t o) × (t ≡ joinedOf t o)
       join-above g =
           join-stays AboveLimit
-          (join-by false true enough (sym (many (getD t 0 0) (getD o 0 0)) ∙ ap (ltb mostActivities) (sym hm) ∙ lt-ltb mostActivities m g)) refl
+          (join-by false true enough (sym (many (getD t 0 0) (getD o 0 0)) ∙ ap (ltb tallyWidth) (sym hm) ∙ lt-ltb tallyWidth m g)) refl
 
-      pub join-done : (t₁ t₂ : List ℕ) → m ≤ mostActivities → t₁ ≡ bytesOr (take tallyLength t) (take tallyLength o) ++ drop tallyLength t
+      pub join-done : (t₁ t₂ : List ℕ) → m ≤ tallyWidth → t₁ ≡ bytesOr (take tallyLength t) (take tallyLength o) ++ drop tallyLength t
           → t₂ ≡ set t₁ 0 m → (Done ≡ joinAnswer t o) × (t₂ ≡ joinedOf t o)
       unfolding joinedOf joined
       join-done t₁ t₂ g h₁ h₂ =
-          let answer = join-by false false enough (sym (many (getD t 0 0) (getD o 0 0)) ∙ ap (ltb mostActivities) (sym hm) ∙ le-ltb mostActivities m g) in
+          let answer = join-by false false enough (sym (many (getD t 0 0) (getD o 0 0)) ∙ ap (ltb tallyWidth) (sym hm) ∙ le-ltb tallyWidth m g) in
           let both = bytesOr (take tallyLength t) (take tallyLength o) in
           let first : getD (take tallyLength t) 0 0 ≡ getD t 0 0 = getD-take tallyLength t 0 0 (omega arith) in
           let second : getD (take tallyLength o) 0 0 ≡ getD o 0 0 = getD-take tallyLength o 0 0 (omega arith) in
@@ -133,14 +132,14 @@ module _ (log t : List ℕ) (j : Judged) (hj : j ≡ judgedOf log) (r : Bool) (h
       then-above : fillAnswer log t ≡ room false (tooMany (j .activities))
       then-above = asked-next ∙ ap (λ (b : Bool). room b (tooMany (j .activities))) (le-ltb (length t) tallyLength l)
 
-      pub fill-above : mostActivities < j .activities → (AboveLimit ≡ fillAnswer log t) × (t ≡ filledOf log t)
-      fill-above g = fill-stays AboveLimit (then-above ∙ ap (room false) (lt-ltb mostActivities (j .activities) g)) refl
+      pub fill-above : tallyWidth < j .activities → (AboveLimit ≡ fillAnswer log t) × (t ≡ filledOf log t)
+      fill-above g = fill-stays AboveLimit (then-above ∙ ap (room false) (lt-ltb tallyWidth (j .activities) g)) refl
 
-      pub fill-done : (t′ : List ℕ) → j .activities ≤ mostActivities
+      pub fill-done : (t′ : List ℕ) → j .activities ≤ tallyWidth
           → t′ ≡ tallyOf (j .activities) (walked log (j .traces) 0) ++ drop tallyLength t → (Done ≡ fillAnswer log t) × (t′ ≡ filledOf log t)
       unfolding filledOf
       fill-done t′ g h =
-          let answer = then-above ∙ ap (room false) (le-ltb mostActivities (j .activities) g) in (
+          let answer = then-above ∙ ap (room false) (le-ltb tallyWidth (j .activities) g) in (
             sym answer,
             h
                 ∙ ap (λ (x : Judged). tallyOf (x .activities) (walked log (x .traces) 0) ++ drop tallyLength t) hj
@@ -175,13 +174,13 @@ module _ (t : List ℕ) (p : Profile) where
   known-few k l e = known-stays BufferTooSmall k (ap (λ (b : Bool). room b (tooMany (activitiesIn t))) (lt-ltb (length t) tallyLength l)) refl e
 
   module _ (k : Known) (l : tallyLength ≤ length t) where
-    pub known-above : mostActivities < getD t 0 0 → k ≡ refusedAs AboveLimit → k ≡ knownOf t p
+    pub known-above : tallyWidth < getD t 0 0 → k ≡ refusedAs AboveLimit → k ≡ knownOf t p
     unfolding knownAnswer
     known-above g e =
         known-stays AboveLimit k
-        (ap₂ room (le-ltb (length t) tallyLength l) (lt-ltb mostActivities (getD t 0 0) g)) refl e
+        (ap₂ room (le-ltb (length t) tallyLength l) (lt-ltb tallyWidth (getD t 0 0) g)) refl e
 
-  pub known-done : (events : Set) (tables r : List ℕ) → tallyLength ≤ length t → getD t 0 0 ≤ mostActivities → events ≡ setAt t (setLength * 1)
+  pub known-done : (events : Set) (tables r : List ℕ) → tallyLength ≤ length t → getD t 0 0 ≤ tallyWidth → events ≡ setAt false t (setLength false * 1)
       → tables ≡ tablesIn t → r ≡ relationsFrom events tables (betweenIn t) p
       → _≡_ {A = Known} (record { answer = Done; activities = getD t 0 0; events = events; relations = r }) (knownOf t p)
   unfolding knownOf knownAnswer
@@ -193,4 +192,4 @@ module _ (t : List ℕ) (p : Profile) where
         relations = (hr ∙ ap₂ (λ (s : Set) (x : List ℕ). relationsFrom s x (betweenIn t) p) he ht) i;
       })
       ∙ sym (ap₂ (λ (a b : Bool). when isDone (room a b) then read else refusedAs (room a b)) (le-ltb (length t) tallyLength l)
-      (le-ltb mostActivities (getD t 0 0) g))
+      (le-ltb tallyWidth (getD t 0 0) g))

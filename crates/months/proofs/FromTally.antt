@@ -10,7 +10,7 @@ use lib.Dec.{T, eqb, ltb, lt→ltb, ltb→lt}
 use lib.ListN.{length, getD}
 use Rattle.sets.specs.Tests.{_and_, _or_, non, when_then_else_}
 use Rattle.sets.specs.Members.{width, mem, those, noSet, someBelow, leastBelow, isEmpty}
-use Rattle.sets.specs.Rows.{Relation, noRows, rowAt, withRow, inRow, rowsOf, rowsFor, turned}
+use Rattle.sets.specs.Rows.{Relation, rowWords, noRows, rowAt, withRow, inRow, rowsOf, rowsFor, turned}
 use Rattle.sets.specs.Tables.{noTables, tableAt, withTable, tablesOf}
 use Rattle.sets.specs.declared.set.Set.{Set}
 use Rattle.sets.proofs.Tests.{T→true, F→false, T-ext, split, either, true-and, false-and}
@@ -18,7 +18,7 @@ use Rattle.sets.proofs.Below.{some-ext}
 use Rattle.sets.proofs.Members.{Whole, those-ext, mem-those}
 use Rattle.sets.proofs.MadeSets.{Is, is-those, is-row, joined, less}
 use Rattle.sets.proofs.RowLaws.{row-in, row-rowsOf, in-rowsOf, rowsOf-ext, empty-rowsOf, put-rowsOf}
-use Rattle.sets.proofs.TableLaws.{table-row, tablesOf-ext, empty-tablesOf, fill-tablesOf}
+use Rattle.sets.proofs.TableLaws.{table-row-is, tablesOf-ext, empty-tablesOf, fill-tablesOf}
 use Rattle.sets.proofs.Passing.{Part, passed, inSome, union-start, union-turn, union-end, least-low}
 use Rattle.bytes.specs.Sets.{setLength, setAt}
 use Rattle.bytes.proofs.Codec.{Bytes}
@@ -28,13 +28,13 @@ use Rattle.rules.specs.declared.Profile.the-variants.{Full, Light}
 use Rattle.steps.specs.Rowwise.{unbroken, absent, excluders, inEither, reducedOf}
 use Rattle.tally.specs.Tallies.{tableCount, beforeTable, laterTable, unchainedTable, unalternatedTable, followedTable}
 use Rattle.miner.specs.Stages.{conditionsOf, responsesOf, chainsOf, neverOf, fiveOf, excludesSix, fourTables}
-use Rattle.months.specs.Layout.{rowSet, pairSet, setIn}
+use Rattle.months.specs.Layout.{tallyWidth, rowSet, pairSet, setIn}
 use Rattle.months.specs.Readings.{tablesIn, betweenIn, unfollowing, includers, includesIn, alternating, redundantBy, excluded, excludesFrom}
 use Rattle.months.specs.Readings.{relationsFrom}
 
 -- a set of the code's bytes is one of the code's sets
 pub at-whole : (tally : List ℕ) → Bytes tally → (w : ℕ) (r : Set) → r ≡ setIn tally w → those (mem r) ≡ r
-at-whole tally bytes w r h = subst Whole (sym h) (set-whole tally bytes (setLength * w))
+at-whole tally bytes w r h = subst Whole (sym h) (set-whole false tally bytes (setLength false * w))
 
 -- ---- rows, one after another
 
@@ -62,8 +62,8 @@ module _ (R : Relation) where
           ap (λ (n : ℕ). R n x) (sym (eqb-true a i e)) ∙ sym (true-and (R a x)) ∙ ap (λ (b : Bool). b and R a x) (one-more i a true e)
       by a x false e = ap (λ (b : Bool). b and R a x) (one-more i a false e)
 
-  pub rows-end : (i : ℕ) (out : List ℕ) → width ≤ i → out ≡ rowsTo R i → out ≡ rowsOf R
-  rows-end i out g h = h ∙ rowsOf-ext _ R (λ a x la lx. ap (λ (b : Bool). b and R a x) (lt-ltb a i (omega arith)) ∙ true-and (R a x))
+  pub rows-end : (i : ℕ) (out : List ℕ) → tallyWidth ≤ i → i ≤ tallyWidth → out ≡ rowsTo R i → out ≡ rowsTo R tallyWidth
+  rows-end i out g l h = let same : i ≡ tallyWidth = omega arith in h ∙ ap (rowsTo R) same
 
 -- tables, one after another
 abbrev pub tablesTo : (ℕ → Relation) → ℕ → List ℕ
@@ -136,8 +136,10 @@ includers-is events tally chains never t n back c both r hn hb hc hu h =
 one-table : (rows : List ℕ) (a x : ℕ) → a < width → inRow (tableAt rows 0) a x ≡ inRow rows a x
 unfolding inRow
 one-table rows a x l =
-    let same : 0 * width + a ≡ a = omega arith in
-    ap (λ (s : Set). mem s x) (sym (table-row rows 0 a l) ∙ ap (λ (n : ℕ). record { bits = getD rows n 0 }) same ∙ row-in rows a l)
+    let low : a ≡ 0 * rowWords + a = omega arith in
+    let high : width + a ≡ 0 * rowWords + a + width = omega arith in
+    ap (λ (s : Set). mem s x)
+    (sym (table-row-is rows 0 a _ _ l (ap (λ (n : ℕ). getD rows n 0) low) (ap (λ (n : ℕ). getD rows n 0) high)) ∙ row-in rows a l)
 
 pub redundant-is : (tally includes excludes : List ℕ) (u s : ℕ) (x i shut m back r : Set) → x ≡ rowAt excludes u → i ≡ rowAt includes u
     → shut ≡ those (λ a. mem x a and non (mem i a)) → m ≡ setIn tally (pairSet u s)

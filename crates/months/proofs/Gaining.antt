@@ -11,7 +11,7 @@ use lib.Dec.{T, eqb, ltb, eqb→eq, eqb-refl}
 use lib.ListN.{length, getD, take, drop, drop-of-length-le}
 use lib.Seq.{take-all}
 use Rattle.sets.specs.Tests.{_and_, _or_, non}
-use Rattle.sets.specs.Members.{width, mem, those, noSet, leastBelow, isEmpty}
+use Rattle.sets.specs.Members.{mem, those, noSet, leastBelow, isEmpty}
 use Rattle.sets.specs.Rows.{Relation, noRows, rowAt, withRow, inRow, rowsOf}
 use Rattle.sets.specs.declared.set.Set.{Set}
 use Rattle.sets.proofs.Tests.{true→T, and-comm, and-l, and-r, and-i, T-ext, T→true, F→false, split, either, or-false, or-assoc, false-or, true-and, false-and, and-false, and-true}
@@ -29,18 +29,18 @@ use Rattle.tally.proofs.Turns.{pastAt, past-next, rest-next, seenIn, seen-none}
 use Rattle.calllog.specs.Logs.{partAt}
 use Rattle.miner.proofs.Gains.{seen-next}
 use Rattle.miner.proofs.After.{LastOf}
-use Rattle.months.specs.Layout.{pairSet, setIn}
+use Rattle.months.specs.Layout.{tallyWidth, pairSet, setIn}
 use Rattle.months.specs.Pairs.{Pairs, packed, Gained, sinceIn}
 use Rattle.months.proofs.Packed.{packed-ext, gain-pair}
 use Rattle.months.proofs.Between.{joinedIn, since-seen, joined-is}
 
 -- ---- laws of what is gained
 
-pub gained-none : (t : List ℕ) (more : Pairs) → ((u s v : ℕ) → u < width → s < width → v < width → more u s v ≡ false) → Gained t more t
+pub gained-none : (t : List ℕ) (more : Pairs) → ((u s v : ℕ) → u < tallyWidth → s < tallyWidth → v < tallyWidth → more u s v ≡ false) → Gained t more t
 gained-none t more none base p tail h =
     h ∙ packed-ext base p _ tail (λ u s v lu ls lv. sym (ap (λ (b : Bool). p u s v or b) (none u s v lu ls lv) ∙ or-false (p u s v)))
 
-pub gained-as : (t t′ : List ℕ) (more other : Pairs) → ((u s v : ℕ) → u < width → s < width → v < width → more u s v ≡ other u s v)
+pub gained-as : (t t′ : List ℕ) (more other : Pairs) → ((u s v : ℕ) → u < tallyWidth → s < tallyWidth → v < tallyWidth → more u s v ≡ other u s v)
     → Gained t more t′ → Gained t other t′
 gained-as t t′ more other e g base p tail h =
     g base p tail h ∙ packed-ext base _ _ tail (λ u s v lu ls lv. ap (λ (b : Bool). p u s v or b) (e u s v lu ls lv))
@@ -51,25 +51,25 @@ gained-both t t′ t″ one two g k base p tail h =
 
 -- ---- one pair
 
-pub at-set : (tally : List ℕ) (w w′ : ℕ) (r : Set) → w ≡ w′ → r ≡ setAt tally (setLength * w) → r ≡ setIn tally w′
+pub at-set : (tally : List ℕ) (w w′ : ℕ) (r : Set) → w ≡ w′ → r ≡ setAt false tally (setLength false * w) → r ≡ setIn tally w′
 at-set tally w w′ r e h = h ∙ ap (setIn tally) e
 
 pub pair-joined : (tally out : List ℕ) (u s w : ℕ) (old since new : Set) → old ≡ setIn tally (pairSet u s)
-    → new ≡ those (λ a. mem old a or mem since a) → w ≡ pairSet u s → out ≡ setPut tally (setLength * w) new
-    → out ≡ setPut tally (setLength * pairSet u s) (those (λ v. mem (setIn tally (pairSet u s)) v or mem since v))
+    → new ≡ those (λ a. mem old a or mem since a) → w ≡ pairSet u s → out ≡ setPut false tally (setLength false * w) new
+    → out ≡ setPut false tally (setLength false * pairSet u s) (those (λ v. mem (setIn tally (pairSet u s)) v or mem since v))
 pair-joined tally out u s w old since new ho hn hw h =
-    h ∙ (λ i. setPut tally (setLength * hw i) (hn i)) ∙ (λ i. setPut tally (setLength * pairSet u s) (those (λ v. mem (ho i) v or mem since v)))
+    h ∙ (λ i. setPut false tally (setLength false * hw i) (hn i)) ∙ (λ i. setPut false tally (setLength false * pairSet u s) (those (λ v. mem (ho i) v or mem since v)))
 
-pub put-length : (tally out : List ℕ) (at : ℕ) (s : Set) → out ≡ setPut tally at s → length out ≡ length tally
-put-length tally out at s h = ap length h ∙ length-put tally at s
+pub put-length : (tally out : List ℕ) (at : ℕ) (s : Set) → out ≡ setPut false tally at s → length out ≡ length tally
+put-length tally out at s h = ap length h ∙ length-put false tally at s
 
 -- ---- whether it is the last place
 
-pub last-inside : (e x i : ℕ) → e < width → eqb x i ≡ (ltb e width and eqb x i)
-last-inside e x i l = sym (ap (λ (b : Bool). b and eqb x i) (lt-ltb e width l) ∙ true-and (eqb x i))
+pub last-inside : (e x i : ℕ) → e < tallyWidth → eqb x i ≡ (ltb e tallyWidth and eqb x i)
+last-inside e x i l = sym (ap (λ (b : Bool). b and eqb x i) (lt-ltb e tallyWidth l) ∙ true-and (eqb x i))
 
-pub last-outside : (e x i : ℕ) → width ≤ e → false ≡ (ltb e width and eqb x i)
-last-outside e x i g = sym (ap (λ (b : Bool). b and eqb x i) (le-ltb e width g) ∙ false-and (eqb x i))
+pub last-outside : (e x i : ℕ) → tallyWidth ≤ e → false ≡ (ltb e tallyWidth and eqb x i)
+last-outside e x i g = sym (ap (λ (b : Bool). b and eqb x i) (le-ltb e tallyWidth g) ∙ false-and (eqb x i))
 
 module _ (t t′ : List ℕ) (r b : Bool) (more : Pairs) (hr : r ≡ b) where
   pub where-last : r ≡ true → Gained t more t′ → Gained t (λ u x v. b and more u x v) t′
@@ -78,8 +78,8 @@ module _ (t t′ : List ℕ) (r b : Bool) (more : Pairs) (hr : r ≡ b) where
 pub where-not : (t : List ℕ) (r b : Bool) (more : Pairs) → r ≡ b → r ≡ false → Gained t (λ u x v. b and more u x v) t
 where-not t r b more hr n = gained-none t _ (λ u x v lu lx lv. ap (λ (c : Bool). c and more u x v) (sym hr ∙ n) ∙ false-and (more u x v))
 
-pub last-low : (e x i : ℕ) (r : Bool) → r ≡ (ltb e width and eqb x i) → r ≡ true → e < width
-last-low e x i r h y = ltb-true e width (T→true _ (and-l _ _ (true→T (sym h ∙ y))))
+pub last-low : (e x i : ℕ) (r : Bool) → r ≡ (ltb e tallyWidth and eqb x i) → r ≡ true → e < tallyWidth
+last-low e x i r h y = ltb-true e tallyWidth (T→true _ (and-l _ _ (true→T (sym h ∙ y))))
 
 -- ---- one trace further
 

@@ -10,25 +10,26 @@ use borrow.Author.Tests.{lt-ltb, le-ltb, ltb-true, ltb-false}
 use lib.Dec.{ltb}
 use lib.ListN.{length, getD, set, drop, length-append, length-set, length-drop}
 use lib.Seq.{getD-set-same, set-append-left}
-use Rattle.sets.specs.Tests.{_or_, non, when_then_else_}
-use Rattle.sets.specs.Members.{width, mem, those, noSet}
-use Rattle.sets.specs.Rows.{rowAt, rowsOf}
-use Rattle.sets.specs.Tables.{noTables, tableAt, tablesOf}
+use Rattle.sets.specs.Tests.{_or_}
+use Rattle.sets.specs.Members.{those}
+use Rattle.sets.specs.Rows.{inRow, rowsOf}
+use Rattle.sets.specs.Tables.{noTables, tableAt}
 use Rattle.sets.specs.declared.set.Set.{Set}
 use Rattle.sets.proofs.Tests.{T→true, F→false, split, either, false-or}
-use Rattle.sets.proofs.Members.{those-ext, those-of, none-those}
-use Rattle.sets.proofs.RowLaws.{row-rowsOf, rowsOf-ext}
-use Rattle.bytes.specs.Sets.{setLength, setAt}
+use Rattle.sets.proofs.Members.{those-ext, none-those}
+use Rattle.sets.proofs.RowLaws.{in-rowsOf}
+use Rattle.bytes.specs.Sets.{setLength, setBytes, setAt}
 use Rattle.bytes.proofs.SetLaws.{set-apart}
 use Rattle.rules.specs.Traces.{Traces, _has_, someTrace}
 use Rattle.rules.specs.Mining.{event, between}
-use Rattle.tally.specs.Passes.{through}
-use Rattle.tally.specs.Tallies.{tableCount, noted, tallied}
-use Rattle.tally.proofs.Tallying.{before-table, later-table, unpreceded-table, unanswered-table, unchained-table, unalternated-table, followed-table}
+use Rattle.tally.specs.Passes.{through, reaches}
+use Rattle.tally.specs.Tallies.{tableCount, tallied, notedFor, talliedFor}
+use Rattle.tally.proofs.Tallying.{before-table, later-table, unpreceded-table, unanswered-table, unchained-table, unalternated-table, followed-table, form-agrees}
 use Rattle.miner.proofs.Composed.{events-by}
-use Rattle.months.specs.Layout.{setCount, tallyLength, firstRow, rowsEnd, firstPair, rowSet, pairSet, setsFrom, activitiesIn, setIn}
+use Rattle.months.specs.Layout.{tallyWidth, setCount, tallyLength, firstRow, rowsEnd, firstPair, rowSet, pairSet, setsFrom, activitiesIn, setIn}
 use Rattle.months.specs.Tallies.{asked, held, tallyOf}
 use Rattle.months.specs.Pairs.{over, packed, Gained, initialOf}
+use Rattle.months.proofs.Narrow.{narrow-ext, narrowed}
 use Rattle.months.proofs.Packed.{length-from, from-ext, read-from, over-low, over-high}
 use Rattle.months.proofs.Initial.{initial-first, initial-events, initial-row, initial-spare}
 
@@ -51,7 +52,7 @@ module _ (L : Traces) where
     unfolding held
     held-events g l = rw (le-ltb w 1 g, lt-ltb w firstRow l)
 
-    pub held-row : firstRow ≤ w → w < rowsEnd → held L w x ≡ asked L ((w - firstRow) / width) ((w - firstRow) % width) x
+    pub held-row : firstRow ≤ w → w < rowsEnd → held L w x ≡ asked L ((w - firstRow) / tallyWidth) ((w - firstRow) % tallyWidth) x
     unfolding held
     held-row g l = let one : 1 ≤ w = omega arith in rw (le-ltb w 1 one, le-ltb w firstRow g, lt-ltb w rowsEnd l)
 
@@ -62,7 +63,7 @@ module _ (L : Traces) where
         let two : firstRow ≤ w = omega arith in
         rw (le-ltb w 1 one, le-ltb w firstRow two, le-ltb w rowsEnd g, lt-ltb w firstPair l)
 
-    pub held-pair : firstPair ≤ w → held L w x ≡ between L ((w - firstPair) / width) x ((w - firstPair) % width)
+    pub held-pair : firstPair ≤ w → held L w x ≡ between L ((w - firstPair) / tallyWidth) x ((w - firstPair) % tallyWidth)
     unfolding held
     held-pair g =
         let one : 1 ≤ w = omega arith in
@@ -82,27 +83,37 @@ module _ (L : Traces) where
   table-asked (suc (suc (suc (suc (suc (suc zero)))))) l = followed-table L
   table-asked (suc (suc (suc (suc (suc (suc (suc k))))))) l = absurd (omega arith)
 
-  row-asked : (k a : ℕ) → k < tableCount → a < width → rowAt (tableAt (tallied L) k) a ≡ those (asked L k a)
-  row-asked k a lk la = ap (λ (rows : List ℕ). rowAt rows a) (table-asked k lk) ∙ row-rowsOf (asked L k) a la
+  -- tables that answer what is asked, of the activities that a tally can hold
+  abbrev Answered : List ℕ → Type 0
+  Answered tables = (k a x : ℕ) → k < tableCount → a < tallyWidth → x < tallyWidth → inRow (tableAt tables k) a x ≡ asked L k a x
+
+  -- so do those of the narrow form
+  narrow-answers : Answered (talliedFor false L)
+  unfolding reaches _or_
+  narrow-answers k a x lk la lx =
+      form-agrees false L k a x lk (omega arith) (omega arith) (lt-ltb x tallyWidth lx)
+      ∙ ap (λ (rows : List ℕ). inRow rows a x) (table-asked k lk)
+      ∙ in-rowsOf (asked L k) a x (omega arith) (omega arith)
 
   -- ---- what filling leaves is what is held
 
-  module _ (events : Set) (tables : List ℕ) (he : events ≡ those (event L)) (ht : tables ≡ tallied L) where
-    same-set : (w : ℕ) → w < setCount → over (initialOf events tables) (λ u s v. false or between L u v s) w ≡ those (held L w)
+  module _ (events : Set) (tables : List ℕ) (he : events ≡ those (event L)) (ht : Answered tables) where
+    -- set by set, as far as the narrow form goes
+    same-set : (w : ℕ) → w < setCount → setBytes false (over (initialOf events tables) (λ u s v. false or between L u v s) w) ≡ setBytes false (those (held L w))
     same-set w l =
         by-kind _ w
-        (λ a. low (omega arith) ∙ sym (initial-first events tables w a) ∙ none-those (held L w) (λ x lx. held-first w x a))
-        (λ g a. low (omega arith) ∙ sym (initial-events events tables w g a) ∙ he ∙ those-ext (event L) (held L w) (λ x lx. sym (held-events w x g a)))
+        (λ a. low (omega arith) _ (sym (initial-first events tables w a) ∙ none-those (held L w) (λ x lx. held-first w x a)))
+        (λ g a. low (omega arith) _ (sym (initial-events events tables w g a) ∙ he ∙ those-ext (event L) (held L w) (λ x lx. sym (held-events w x g a))))
         (λ g a.
-        low (omega arith) ∙ sym (initial-row events tables w _ g a refl) ∙ ap (λ (t : List ℕ). rowAt (tableAt t ((w - firstRow) / width))
-        ((w - firstRow) % width)) ht
-        ∙ row-asked ((w - firstRow) / width) ((w - firstRow) % width) (omega arith) (omega arith)
-        ∙ those-ext _ (held L w) (λ x lx. sym (held-row w x g a)))
-        (λ g a. low a ∙ sym (initial-spare events tables w g) ∙ none-those (held L w) (λ x lx. held-spare w x g a))
-        (λ g. over-high _ _ w g ∙ those-ext _ (held L w) (λ x lx. false-or _ ∙ sym (held-pair w x g)))
+        low (omega arith) _ (sym (initial-row events tables w g a))
+        ∙ narrow-ext _ (held L w) (λ x lx. ht ((w - firstRow) / tallyWidth) ((w - firstRow) % tallyWidth) x (omega arith) (omega arith) lx
+        ∙ sym (held-row w x g a)))
+        (λ g a. low a _ (sym (initial-spare events tables w g) ∙ none-those (held L w) (λ x lx. held-spare w x g a)))
+        (λ g. ap (setBytes false) (over-high _ _ w g ∙ those-ext _ (held L w) (λ x lx. false-or _ ∙ sym (held-pair w x g))))
       where
-        low : w < firstPair → over (initialOf events tables) (λ u s v. false or between L u v s) w ≡ initialOf events tables w
-        low a = over-low _ _ w a
+        low : w < firstPair → (s : Set) → initialOf events tables w ≡ s
+            → setBytes false (over (initialOf events tables) (λ u s v. false or between L u v s) w) ≡ setBytes false s
+        low a s h = ap (setBytes false) (over-low _ _ w a ∙ h)
 
     pub filled : (A : ℕ) (t₁ t₂ t₃ tail : List ℕ) → t₁ ≡ setsFrom setCount 0 (initialOf events tables) ++ tail
         → Gained t₁ (λ u s v. between L u v s) t₂ → t₃ ≡ set t₂ 0 A → t₃ ≡ tallyOf A L ++ tail
@@ -112,7 +123,7 @@ module _ (L : Traces) where
         h₃
         ∙ ap (λ (l : List ℕ). set l 0 A)
         (g (initialOf events tables) (λ u s v. false) tail
-        (h₁ ∙ ap (λ (l : List ℕ). l ++ tail) (from-ext setCount 0 _ _ (λ w a b. sym (no-pair w))))
+        (h₁ ∙ ap (λ (l : List ℕ). l ++ tail) (from-ext setCount 0 _ _ (λ w a b. ap (setBytes false) (sym (no-pair w)))))
         ∙ ap (λ (l : List ℕ). l ++ tail) (from-ext setCount 0 _ _ (λ w a b. same-set w b)))
         ∙ set-append-left all tail 0 A (omega (arith, length-from setCount 0 (λ w. those (held L w))))
       where
@@ -132,14 +143,14 @@ module _ (L : Traces) where
     activities-held = getD-set-same (setsFrom setCount 0 (λ w. those (held L w))) 0 A 0 (omega (arith, length-from setCount 0 (λ w. those (held L w))))
 
     -- whatever stands after the tally
-    pub set-held : (rest : List ℕ) (w : ℕ) → 1 ≤ w → w < setCount → setIn (tallyOf A L ++ rest) w ≡ those (held L w)
+    pub set-held : (rest : List ℕ) (w : ℕ) → 1 ≤ w → w < setCount → setIn (tallyOf A L ++ rest) w ≡ narrowed (held L w)
     unfolding tallyOf
     set-held rest w g l =
         let all = setsFrom setCount 0 (λ v. those (held L v)) in
-        ap (λ (bytes : List ℕ). setAt bytes (setLength * w))
+        ap (λ (bytes : List ℕ). setAt false bytes (setLength false * w))
         (sym (set-append-left all rest 0 A (omega (arith, length-from setCount 0 (λ v. those (held L v))))))
-        ∙ set-apart (all ++ rest) (setLength * w) 0 (A ∷ []) (inr (omega arith))
-        ∙ read-from setCount w (λ v. those (held L v)) rest l (those-of (those (held L w)) (held L w) (λ a t. t) refl)
+        ∙ set-apart false (all ++ rest) (setLength false * w) 0 (A ∷ []) (inr (omega arith))
+        ∙ read-from setCount w (λ v. those (held L v)) rest l (held L w) refl
 
     pub length-held : length (tallyOf A L) ≡ tallyLength
     unfolding tallyOf
@@ -147,10 +158,12 @@ module _ (L : Traces) where
 
 -- from what the passes leave
 pub tally-filled : (A : ℕ) (L : Traces) (none tables : List ℕ) (events : Set) (t₁ t₂ tail : List ℕ) → none ≡ noTables tableCount
-    → events ≡ those (λ x. someTrace L (λ σ. σ has x)) → tables ≡ through noted none L
+    → events ≡ those (λ x. someTrace L (λ σ. σ has x)) → tables ≡ through (notedFor false) none L
     → t₁ ≡ setsFrom setCount 0 (initialOf events tables) ++ tail → Gained t₁ (λ u s v. between L u v s) t₂ → set t₂ 0 A ≡ tallyOf A L ++ tail
 tally-filled A L none tables events t₁ t₂ tail hn he ht h₁ g =
-    filled L events tables (events-by L events he) (ht ∙ ap (λ (x : List ℕ). through noted x L) hn) A t₁ t₂ (set t₂ 0 A) tail h₁ g refl
+    let answers : Answered L tables =
+    λ k a x lk la lx. ap (λ (t : List ℕ). inRow (tableAt t k) a x) (ht ∙ ap (λ (t : List ℕ). through (notedFor false) t L) hn) ∙ narrow-answers L k a x lk la lx in
+    filled L events tables (events-by L events he) answers A t₁ t₂ (set t₂ 0 A) tail h₁ g refl
 
 pub filled-long : (A : ℕ) (L : Traces) (t out : List ℕ) → tallyLength ≤ length t → out ≡ tallyOf A L ++ drop tallyLength t → length out ≡ length t
 filled-long A L t out h e =

@@ -1,4 +1,5 @@
 -- The modules of `proofs/` that belong to no one function.
+pub mod Narrow
 pub mod Packed
 pub mod Between
 pub mod Gaining

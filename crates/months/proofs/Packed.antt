@@ -1,4 +1,5 @@
--- Sets in bytes, one after another: one that is read, one that is put, and the sets of the pairs, which gain. Assumes nothing.
+-- Sets in bytes, one after another: one that is read, one that is put, and the sets of the pairs, which gain. All are in the narrow form.
+-- Assumes nothing.
 use mathlib.Core.Path.{_≡_, refl, sym, ap, ap₂, _∙_}
 use mathlib.Core.Bool.{Bool, true, false}
 use mathlib.Core.List.{List, [], _∷_, _++_, append-assoc, append-nil}
@@ -11,38 +12,40 @@ use lib.Dec.{T, eqb, ltb, eqb-refl}
 use lib.ListN.{length, take, drop, length-append, length-drop, take-append-drop}
 use lib.Seq.{sets, sets-eq, take-at, drop-at, drop-drop, drop-append-add, length-take-le}
 use Rattle.sets.specs.Tests.{_and_, _or_, when_then_else_}
-use Rattle.sets.specs.Members.{width, mem, those}
+use Rattle.sets.specs.Members.{mem, those}
 use Rattle.sets.specs.declared.set.Set.{Set}
 use Rattle.sets.proofs.Tests.{T→true, F→false, split, either, or-false, false-and, and-false, true-and}
-use Rattle.sets.proofs.Members.{Whole, those-ext, those-of}
+use Rattle.sets.proofs.Members.{those-ext, those-of}
 use Rattle.bytes.specs.Sets.{setLength, setBytes, setAt, setPut}
 use Rattle.bytes.proofs.Parts.{part}
-use Rattle.bytes.proofs.SetLaws.{length-set, set-read, put-there}
-use Rattle.months.specs.Layout.{setCount, firstPair, pairSet, setsFrom, setIn}
+use Rattle.bytes.proofs.SetLaws.{length-set, put-there}
+use Rattle.months.specs.Layout.{tallyWidth, setCount, firstPair, pairSet, setsFrom, setIn}
 use Rattle.months.specs.Pairs.{Pairs, over, packed}
+use Rattle.months.proofs.Narrow.{narrow-ext, narrowed, narrow-read}
 
 -- ---- how long, and one set among them
 
-pub length-from : (n w : ℕ) (f : ℕ → Set) → length (setsFrom n w f) ≡ setLength * n
+pub length-from : (n w : ℕ) (f : ℕ → Set) → length (setsFrom n w f) ≡ setLength false * n
 unfolding setsFrom
 length-from zero w f = refl
 length-from (suc n) w f =
-    length-append (setBytes (f w)) (setsFrom n (suc w) f) ∙ omega (arith, length-set (f w), length-from n (suc w) f)
+    length-append (setBytes false (f w)) (setsFrom n (suc w) f) ∙ omega (arith, length-set false (f w), length-from n (suc w) f)
 
-pub from-ext : (n w : ℕ) (f g : ℕ → Set) → ((v : ℕ) → w ≤ v → v < w + n → f v ≡ g v) → setsFrom n w f ≡ setsFrom n w g
+pub from-ext : (n w : ℕ) (f g : ℕ → Set) → ((v : ℕ) → w ≤ v → v < w + n → setBytes false (f v) ≡ setBytes false (g v))
+    → setsFrom n w f ≡ setsFrom n w g
 unfolding setsFrom
 from-ext zero w f g e = refl
 from-ext (suc n) w f g e =
-    ap₂ _++_ (ap setBytes (e w (omega arith) (omega arith))) (from-ext n (suc w) f g (λ v a b. e v (omega arith) (omega arith)))
+    ap₂ _++_ (e w (omega arith) (omega arith)) (from-ext n (suc w) f g (λ v a b. e v (omega arith) (omega arith)))
 
 pub from-split : (a b w : ℕ) (f : ℕ → Set) → setsFrom (a + b) w f ≡ setsFrom a w f ++ setsFrom b (w + a) f
 unfolding setsFrom
 from-split zero b w f = ap₂ (λ (n v : ℕ). setsFrom n v f) (zero-add b) (sym (add-zero w))
 from-split (suc a) b w f =
     ap (λ (n : ℕ). setsFrom n w f) (suc-add a b)
-    ∙ ap (λ (l : List ℕ). setBytes (f w) ++ l) (from-split a b (suc w) f ∙ ap (λ (v : ℕ). setsFrom a (suc w) f ++ setsFrom b v f)
+    ∙ ap (λ (l : List ℕ). setBytes false (f w) ++ l) (from-split a b (suc w) f ∙ ap (λ (v : ℕ). setsFrom a (suc w) f ++ setsFrom b v f)
     (suc-add w a ∙ sym (add-suc w a)))
-    ∙ sym (append-assoc (setBytes (f w)) (setsFrom a (suc w) f) (setsFrom b (w + suc a) f))
+    ∙ sym (append-assoc (setBytes false (f w)) (setsFrom a (suc w) f) (setsFrom b (w + suc a) f))
 
 -- what stands before set k, set k, and the rest
 module _ (n k : ℕ) (f : ℕ → Set) (tail : List ℕ) (h : k < n) where
@@ -52,27 +55,28 @@ module _ (n k : ℕ) (f : ℕ → Set) (tail : List ℕ) (h : k < n) where
   abbrev after : List ℕ
   after = setsFrom (n - suc k) (suc k) f ++ tail
 
-  among : setsFrom n 0 f ++ tail ≡ before ++ (setBytes (f k) ++ after)
+  among : setsFrom n 0 f ++ tail ≡ before ++ (setBytes false (f k) ++ after)
   unfolding setsFrom
   among =
       let same : n ≡ k + suc (n - suc k) = omega arith in
       ap (λ (l : List ℕ). l ++ tail) (ap (λ (m : ℕ). setsFrom m 0 f) same ∙ from-split k (suc (n - suc k)) 0 f
       ∙ ap (λ (v : ℕ). before ++ setsFrom (suc (n - suc k)) v f) (zero-add k))
-      ∙ append-assoc before (setBytes (f k) ++ setsFrom (n - suc k) (suc k) f) tail
-      ∙ ap (λ (l : List ℕ). before ++ l) (append-assoc (setBytes (f k)) (setsFrom (n - suc k) (suc k) f) tail)
+      ∙ append-assoc before (setBytes false (f k) ++ setsFrom (n - suc k) (suc k) f) tail
+      ∙ ap (λ (l : List ℕ). before ++ l) (append-assoc (setBytes false (f k)) (setsFrom (n - suc k) (suc k) f) tail)
 
-  place : length before ≡ setLength * k
+  place : length before ≡ setLength false * k
   place = length-from k 0 f
 
-  pub room-for : setLength * k + setLength ≤ length (setsFrom n 0 f ++ tail)
+  pub room-for : setLength false * k + setLength false ≤ length (setsFrom n 0 f ++ tail)
   room-for = omega (arith, length-append (setsFrom n 0 f) tail, length-from n 0 f)
 
-  pub read-from : Whole (f k) → setAt (setsFrom n 0 f ++ tail) (setLength * k) ≡ f k
-  read-from w =
-      set-read (setsFrom n 0 f ++ tail) (setLength * k) (f k)
-      (ap (λ (l : List ℕ). part l (setLength * k) setLength) among
-      ∙ ap (take setLength) (drop-at before (setBytes (f k) ++ after) (setLength * k) place)
-      ∙ take-at (setBytes (f k)) after setLength (length-set (f k))) w
+  pub read-from : (p : ℕ → Bool) → f k ≡ those p → setAt false (setsFrom n 0 f ++ tail) (setLength false * k) ≡ narrowed p
+  read-from p e =
+      narrow-read (setsFrom n 0 f ++ tail) (setLength false * k) p
+      (ap (λ (l : List ℕ). part l (setLength false * k) (setLength false)) among
+      ∙ ap (take (setLength false)) (drop-at before (setBytes false (f k) ++ after) (setLength false * k) place)
+      ∙ take-at (setBytes false (f k)) after (setLength false) (length-set false (f k))
+      ∙ ap (setBytes false) e)
 
 -- a part stored over one as long
 stored-over : (p x y rest : List ℕ) (i n : ℕ) → length p ≡ i → length x ≡ n → length y ≡ n → sets (p ++ (x ++ rest)) i y ≡ p ++ (y ++ rest)
@@ -86,16 +90,16 @@ abbrev pub withSet : (ℕ → Set) → ℕ → Set → ℕ → Set
 withSet f k s v = when eqb v k then s else f v
 
 pub put-from : (n k : ℕ) (f : ℕ → Set) (tail : List ℕ) (s : Set) → k < n
-    → setPut (setsFrom n 0 f ++ tail) (setLength * k) s ≡ setsFrom n 0 (withSet f k s) ++ tail
+    → setPut false (setsFrom n 0 f ++ tail) (setLength false * k) s ≡ setsFrom n 0 (withSet f k s) ++ tail
 put-from n k f tail s h =
-    put-there (setsFrom n 0 f ++ tail) (setLength * k) s (room-for n k f tail h)
-    ∙ ap (λ (l : List ℕ). sets l (setLength * k) (setBytes s)) (among n k f tail h)
-    ∙ stored-over (setsFrom k 0 f) (setBytes (f k)) (setBytes s) (setsFrom (n - suc k) (suc k) f ++ tail) (setLength * k) setLength (place n k f tail h) (length-set (f k)) (length-set s)
-    ∙ (λ i. early i ++ (setBytes (here i) ++ (late i ++ tail)))
+    put-there false (setsFrom n 0 f ++ tail) (setLength false * k) s (room-for n k f tail h)
+    ∙ ap (λ (l : List ℕ). sets l (setLength false * k) (setBytes false s)) (among n k f tail h)
+    ∙ stored-over (setsFrom k 0 f) (setBytes false (f k)) (setBytes false s) (setsFrom (n - suc k) (suc k) f ++ tail) (setLength false * k) (setLength false) (place n k f tail h) (length-set false (f k)) (length-set false s)
+    ∙ (λ i. early i ++ (setBytes false (here i) ++ (late i ++ tail)))
     ∙ sym (among n k (withSet f k s) tail h)
   where
-    other : (v : ℕ) → (v ≡ k → ⊥) → f v ≡ withSet f k s v
-    other v ne = ap (λ (t : Bool). when t then s else f v) (sym (ne-eqb v k ne))
+    other : (v : ℕ) → (v ≡ k → ⊥) → setBytes false (f v) ≡ setBytes false (withSet f k s v)
+    other v ne = ap (λ (t : Bool). setBytes false (when t then s else f v)) (sym (ne-eqb v k ne))
 
     early : setsFrom k 0 f ≡ setsFrom k 0 (withSet f k s)
     early = from-ext k 0 f (withSet f k s) (λ v a b. other v (λ e. omega arith))
@@ -112,84 +116,83 @@ module _ (pre : List ℕ) (at k : ℕ) (f : ℕ → Set) (out out′ bytes : Lis
   so-far = pre ++ setsFrom k 0 f
 
   abbrev place-next : ℕ
-  place-next = at + setLength * k
+  place-next = at + setLength false * k
 
-  pub put-after : place-next + setLength ≤ length bytes → out ≡ pre ++ setsFrom k 0 f ++ drop (at + setLength * k) bytes
-      → out′ ≡ setPut out (at + setLength * k) (f k) → out′ ≡ pre ++ setsFrom (k + 1) 0 f ++ drop (at + setLength * (k + 1)) bytes
+  pub put-after : place-next + setLength false ≤ length bytes → out ≡ pre ++ setsFrom k 0 f ++ drop (at + setLength false * k) bytes
+      → out′ ≡ setPut false out (at + setLength false * k) (f k) → out′ ≡ pre ++ setsFrom (k + 1) 0 f ++ drop (at + setLength false * (k + 1)) bytes
   unfolding setsFrom
   put-after h e p =
       let left = length-drop place-next bytes in
       let long : length so-far ≡ place-next = length-append pre (setsFrom k 0 f) ∙ omega (arith, length-from k 0 f) in
       let rest : List ℕ = drop place-next bytes in
-      let next : place-next + setLength ≡ at + setLength * (k + 1) = omega arith in
+      let next : place-next + setLength false ≡ at + setLength false * (k + 1) = omega arith in
       p
-      ∙ ap (λ (l : List ℕ). setPut l place-next (f k)) e
-      ∙ put-there (so-far ++ rest) place-next (f k) (omega (arith, length-append so-far rest))
-      ∙ ap (λ (l : List ℕ). sets (so-far ++ l) place-next (setBytes (f k))) (sym (take-append-drop setLength rest))
-      ∙ stored-over so-far (take setLength rest) (setBytes (f k)) (drop setLength rest) place-next setLength long
-      (length-take-le setLength rest (omega arith)) (length-set (f k))
-      ∙ sym (append-assoc so-far (setBytes (f k)) (drop setLength rest))
+      ∙ ap (λ (l : List ℕ). setPut false l place-next (f k)) e
+      ∙ put-there false (so-far ++ rest) place-next (f k) (omega (arith, length-append so-far rest))
+      ∙ ap (λ (l : List ℕ). sets (so-far ++ l) place-next (setBytes false (f k))) (sym (take-append-drop (setLength false) rest))
+      ∙ stored-over so-far (take (setLength false) rest) (setBytes false (f k)) (drop (setLength false) rest) place-next (setLength false) long
+      (length-take-le (setLength false) rest (omega arith)) (length-set false (f k))
+      ∙ sym (append-assoc so-far (setBytes false (f k)) (drop (setLength false) rest))
       ∙ ap₂ _++_
-      (append-assoc pre (setsFrom k 0 f) (setBytes (f k))
+      (append-assoc pre (setsFrom k 0 f) (setBytes false (f k))
       ∙ ap (λ (l : List ℕ). pre ++ l)
-      (sym (from-split k 1 0 f ∙ ap (λ (l : List ℕ). setsFrom k 0 f ++ l) (append-nil (setBytes (f (0 + k))) ∙ ap (λ (v : ℕ). setBytes (f v)) (zero-add k)))))
-      (drop-drop setLength place-next bytes ∙ ap (λ (m : ℕ). drop m bytes) next)
+      (sym (from-split k 1 0 f ∙ ap (λ (l : List ℕ). setsFrom k 0 f ++ l) (append-nil (setBytes false (f (0 + k))) ∙ ap (λ (v : ℕ). setBytes false (f v)) (zero-add k)))))
+      (drop-drop (setLength false) place-next bytes ∙ ap (λ (m : ℕ). drop m bytes) next)
 
-pub put-next : (k : ℕ) (f : ℕ → Set) (out out′ bytes : List ℕ) → setLength * k + setLength ≤ length bytes
-    → out ≡ setsFrom k 0 f ++ drop (setLength * k) bytes → out′ ≡ setPut out (setLength * k) (f k)
-    → out′ ≡ setsFrom (k + 1) 0 f ++ drop (setLength * (k + 1)) bytes
+pub put-next : (k : ℕ) (f : ℕ → Set) (out out′ bytes : List ℕ) → setLength false * k + setLength false ≤ length bytes
+    → out ≡ setsFrom k 0 f ++ drop (setLength false * k) bytes → out′ ≡ setPut false out (setLength false * k) (f k)
+    → out′ ≡ setsFrom (k + 1) 0 f ++ drop (setLength false * (k + 1)) bytes
 put-next k f out out′ bytes h e p =
-    put-after [] 0 k f out out′ bytes refl (omega arith) (e ∙ ap (λ (n : ℕ). setsFrom k 0 f ++ drop n bytes) (sym (zero-add (setLength * k))))
-    (p ∙ ap (λ (n : ℕ). setPut out n (f k)) (sym (zero-add (setLength * k))))
-    ∙ ap (λ (n : ℕ). setsFrom (k + 1) 0 f ++ drop n bytes) (zero-add (setLength * (k + 1)))
+    put-after [] 0 k f out out′ bytes refl (omega arith) (e ∙ ap (λ (n : ℕ). setsFrom k 0 f ++ drop n bytes) (sym (zero-add (setLength false * k))))
+    (p ∙ ap (λ (n : ℕ). setPut false out n (f k)) (sym (zero-add (setLength false * k))))
+    ∙ ap (λ (n : ℕ). setsFrom (k + 1) 0 f ++ drop n bytes) (zero-add (setLength false * (k + 1)))
 
 -- ---- the sets of the pairs
-
-whole-those : (p : ℕ → Bool) → Whole (those p)
-whole-those p = those-of (those p) p (λ a t. t) refl
 
 module _ (base : ℕ → Set) (p : Pairs) where
   pub over-low : (w : ℕ) → w < firstPair → over base p w ≡ base w
   unfolding over
-  over-low w l = ap (λ (t : Bool). when t then base w else those (p ((w - firstPair) / width) ((w - firstPair) % width))) (lt-ltb w firstPair l)
+  over-low w l = ap (λ (t : Bool). when t then base w else those (p ((w - firstPair) / tallyWidth) ((w - firstPair) % tallyWidth))) (lt-ltb w firstPair l)
 
-  pub over-high : (w : ℕ) → firstPair ≤ w → over base p w ≡ those (p ((w - firstPair) / width) ((w - firstPair) % width))
+  pub over-high : (w : ℕ) → firstPair ≤ w → over base p w ≡ those (p ((w - firstPair) / tallyWidth) ((w - firstPair) % tallyWidth))
   unfolding over
-  over-high w l = ap (λ (t : Bool). when t then base w else those (p ((w - firstPair) / width) ((w - firstPair) % width))) (le-ltb w firstPair l)
+  over-high w l = ap (λ (t : Bool). when t then base w else those (p ((w - firstPair) / tallyWidth) ((w - firstPair) % tallyWidth))) (le-ltb w firstPair l)
 
-  pub over-pair : (u s : ℕ) → s < width → over base p (pairSet u s) ≡ those (p u s)
+  pub over-pair : (u s : ℕ) → s < tallyWidth → over base p (pairSet u s) ≡ those (p u s)
   over-pair u s l =
-      let a : (pairSet u s - firstPair) / width ≡ u = omega arith in
-      let b : (pairSet u s - firstPair) % width ≡ s = omega arith in
+      let a : (pairSet u s - firstPair) / tallyWidth ≡ u = omega arith in
+      let b : (pairSet u s - firstPair) % tallyWidth ≡ s = omega arith in
       over-high (pairSet u s) (omega arith) ∙ ap₂ (λ (x y : ℕ). those (p x y)) a b
 
 -- whose pair a set is
 abbrev first : ℕ → ℕ
-first w = (w - firstPair) / width
+first w = (w - firstPair) / tallyWidth
 
 abbrev second : ℕ → ℕ
-second w = (w - firstPair) % width
+second w = (w - firstPair) % tallyWidth
 
 by-low : (P : ℕ → Type 0) (w : ℕ) → (w < firstPair → P w) → (firstPair ≤ w → P w) → P w
 by-low P w low high =
     either (split (ltb w firstPair)) (λ t. low (ltb-true w firstPair (T→true _ t))) (λ f. high (ltb-false w firstPair (F→false _ f)))
 
-pub packed-ext : (base : ℕ → Set) (p q : Pairs) (tail : List ℕ) → ((u s v : ℕ) → u < width → s < width → v < width → p u s v ≡ q u s v)
+pub packed-ext : (base : ℕ → Set) (p q : Pairs) (tail : List ℕ) → ((u s v : ℕ) → u < tallyWidth → s < tallyWidth → v < tallyWidth → p u s v ≡ q u s v)
     → packed base p tail ≡ packed base q tail
 unfolding packed
 packed-ext base p q tail e =
-    ap (λ (l : List ℕ). l ++ tail) (from-ext setCount 0 (over base p) (over base q) (λ w a b. by-low (λ v. over base p v ≡ over base q v) w
-    (λ l. over-low base p w l ∙ sym (over-low base q w l))
-    (λ l. over-high base p w l ∙ those-ext _ _ (λ v lv. e _ _ v (omega arith) (omega arith) lv) ∙ sym (over-high base q w l))))
+    ap (λ (l : List ℕ). l ++ tail) (from-ext setCount 0 (over base p) (over base q)
+    (λ w a b. by-low (λ v. setBytes false (over base p v) ≡ setBytes false (over base q v)) w
+    (λ l. ap (setBytes false) (over-low base p w l ∙ sym (over-low base q w l)))
+    (λ l.
+    ap (setBytes false) (over-high base p w l)
+    ∙ narrow-ext _ _ (λ v lv. e _ _ v (omega arith) (omega arith) lv)
+    ∙ ap (setBytes false) (sym (over-high base q w l)))))
 
-module _ (base : ℕ → Set) (p : Pairs) (tail bytes : List ℕ) (h : bytes ≡ packed base p tail) (u s : ℕ) (lu : u < width) (ls : s < width) where
-  pub read-pair : setIn bytes (pairSet u s) ≡ those (p u s)
+module _ (base : ℕ → Set) (p : Pairs) (tail bytes : List ℕ) (h : bytes ≡ packed base p tail) (u s : ℕ) (lu : u < tallyWidth) (ls : s < tallyWidth) where
+  pub read-pair : setIn bytes (pairSet u s) ≡ narrowed (p u s)
   unfolding packed
   read-pair =
       ap (λ (l : List ℕ). setIn l (pairSet u s)) h
-      ∙ read-from setCount (pairSet u s) (over base p) tail (omega arith)
-      (ap (λ (x : Set). those (mem x)) (over-pair base p u s ls) ∙ whole-those (p u s) ∙ sym (over-pair base p u s ls))
-      ∙ over-pair base p u s ls
+      ∙ read-from setCount (pairSet u s) (over base p) tail (omega arith) (p u s) (over-pair base p u s ls)
 
   abbrev pub gaining : (ℕ → Bool) → Pairs
   gaining q x y v = p x y v or eqb x u and (eqb y s and q v)
@@ -222,11 +225,20 @@ module _ (base : ℕ → Set) (p : Pairs) (tail bytes : List ℕ) (h : bytes ≡
           ∙ those-ext (p (first w) (second w)) (gaining q (first w) (second w))
           (λ v l. sym (ap (λ (t : Bool). p (first w) (second w) v or t) (apart high (eqb-false w (pairSet u s) e) v (eqb (first w) u) (eqb (second w) s) refl refl) ∙ or-false (p (first w) (second w) v)))
 
+  -- what is read has no member that the narrow form cannot hold, and what is put leaves none
+  once-more : (q : ℕ → Bool) (w : ℕ) (t : Bool) → setBytes false (when t then those (λ v. ltb v tallyWidth and p u s v or q v) else over base p w)
+      ≡ setBytes false (when t then those (λ v. p u s v or q v) else over base p w)
+  once-more q w true =
+      narrow-ext _ _ (λ v l. ap (λ (b : Bool). b or q v) (ap (λ (b : Bool). b and p u s v) (lt-ltb v tallyWidth l) ∙ true-and (p u s v)))
+  once-more q w false = refl
+
   pub gain-pair : (q : ℕ → Bool)
-      → setPut bytes (setLength * pairSet u s) (those (λ v. mem (setIn bytes (pairSet u s)) v or q v)) ≡ packed base (gaining q) tail
+      → setPut false bytes (setLength false * pairSet u s) (those (λ v. mem (setIn bytes (pairSet u s)) v or q v)) ≡ packed base (gaining q) tail
   unfolding packed
   gain-pair q =
-      ap₂ (λ (l : List ℕ) (x : Set). setPut l (setLength * pairSet u s) x) h (those-of (setIn bytes (pairSet u s)) (p u s) (λ v t. t or q v) read-pair)
-      ∙ put-from setCount (pairSet u s) (over base p) tail (those (λ v. p u s v or q v)) (omega arith)
+      ap₂ (λ (l : List ℕ) (x : Set). setPut false l (setLength false * pairSet u s) x) h
+      (those-of (setIn bytes (pairSet u s)) (λ v. ltb v tallyWidth and p u s v) (λ v t. t or q v) read-pair)
+      ∙ put-from setCount (pairSet u s) (over base p) tail (those (λ v. ltb v tallyWidth and p u s v or q v)) (omega arith)
       ∙ ap (λ (l : List ℕ). l ++ tail)
-      (from-ext setCount 0 (withSet (over base p) (pairSet u s) (those (λ v. p u s v or q v))) (over base (gaining q)) (λ w x y. same-set q w y))
+      (from-ext setCount 0 (withSet (over base p) (pairSet u s) (those (λ v. ltb v tallyWidth and p u s v or q v))) (over base (gaining q))
+      (λ w x y. once-more q w (eqb w (pairSet u s)) ∙ ap (setBytes false) (same-set q w y)))

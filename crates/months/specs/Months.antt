@@ -8,7 +8,6 @@ use lib.ListN.{length, take, drop, set}
 use Rattle.sets.specs.Tests.{_or_, when_then_else_}
 use Rattle.sets.specs.Members.{noSet}
 use Rattle.sets.specs.Tables.{noTables}
-use Rattle.sets.specs.Sizes.{mostActivities}
 use Rattle.sets.specs.Answers.{isDone, thenAsk}
 use Rattle.sets.specs.declared.answer.Answer.{Answer}
 use Rattle.sets.specs.declared.answer.Answer.the-variants.{Done, AboveLimit, BufferTooSmall}
@@ -16,11 +15,11 @@ use Rattle.engine.specs.Relations.{relationCount}
 use Rattle.calllog.specs.Logs.{logOf}
 use Rattle.rules.specs.declared.Profile.{Profile}
 use Rattle.months.specs.declared.reading.Known.{Known}
-use Rattle.months.specs.Layout.{tallyLength, activitiesIn, setIn}
+use Rattle.months.specs.Layout.{tallyWidth, tallyLength, activitiesIn, setIn}
 use Rattle.months.specs.Tallies.{tallyOf}
 use Rattle.months.specs.Readings.{tablesIn, betweenIn, relationsFrom}
 
--- 7 where the buffer is too small, then 3 where A is above its limit
+-- 7 where the buffer is too small, then 3 where A is above a tally's limit
 abbrev pub room : Bool → Bool → Answer
 room small above = when small then BufferTooSmall else when above then AboveLimit else Done
 
@@ -28,8 +27,9 @@ room small above = when small then BufferTooSmall else when above then AboveLimi
 abbrev pub tooFew : List ℕ → Bool
 tooFew tally = ltb (length tally) tallyLength
 
+-- A is above 64
 abbrev pub tooMany : ℕ → Bool
-tooMany A = ltb mostActivities A
+tooMany A = ltb tallyWidth A
 
 -- ---- fill: the log's own refusals come first
 

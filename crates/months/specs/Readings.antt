@@ -4,6 +4,7 @@
 -- believe this file.
 use mathlib.Core.List.{List}
 use Prim.Native.Nat.{ℕ}
+use lib.Dec.{ltb}
 use Rattle.sets.specs.Tests.{_and_, _or_, non}
 use Rattle.sets.specs.Members.{width, mem, someBelow}
 use Rattle.sets.specs.Rows.{Relation, inRow, rowsOf, rowsFor, turned}
@@ -14,11 +15,11 @@ use Rattle.rules.specs.declared.Profile.the-variants.{Full, Light}
 use Rattle.steps.specs.Rowwise.{absent, reducedOf}
 use Rattle.tally.specs.Tallies.{tableCount, unalternatedTable}
 use Rattle.miner.specs.Stages.{conditionsOf, responsesOf, chainsOf, neverOf, excludesSix, fourTables}
-use Rattle.months.specs.Layout.{rowSet, pairSet, setIn}
+use Rattle.months.specs.Layout.{tallyWidth, rowSet, pairSet, setIn}
 
--- the tables of the mining tally
+-- the tables of the mining tally; it has no rows past its width
 abbrev pub tablesIn : List ℕ → List ℕ
-tablesIn tally = tablesOf tableCount (λ k a x. mem (setIn tally (rowSet k a)) x)
+tablesIn tally = tablesOf tableCount (λ k a x. ltb a tallyWidth and mem (setIn tally (rowSet k a)) x)
 
 -- what stands between a u and a later s
 abbrev pub betweenIn : List ℕ → ℕ → ℕ → Set

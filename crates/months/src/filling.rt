@@ -14,7 +14,6 @@ use bytes::set;
 use sets::Activity;
 use sets::Answer;
 use sets::Set;
-use sets::activity::WIDTH;
 use sets::tables;
 use tally::Tally;
 use tally::log;
@@ -33,7 +32,11 @@ fn initial(events: Set, tables: &Tally, w: usize) -> Set
         return Set::EMPTY;
     }
     let i = w - layout::FIRST_ROW;
-    tables::row(tables, (i / WIDTH) as u8, Activity((i % WIDTH) as u8))
+    tables::row(
+        tables,
+        (i / layout::WIDTH) as u8,
+        Activity((i % layout::WIDTH) as u8),
+    )
 }
 
 // All sets, so that nothing is left of what the bytes held.
@@ -43,18 +46,18 @@ fn put_initial(events: Set, tables: &Tally, tally: &mut [u8])
 {
     let mut w: usize = 0;
     while w < layout::SETS {
-        bytes::put_set(tally, set::LENGTH * w, initial(events, tables, w));
+        bytes::put_set(tally, set::NARROW * w, initial(events, tables, w), false);
         w += 1;
     }
 }
 
-// The tally of a log's first traces.
+// The tally of a log's first traces. It holds nothing past 64, so the passes keep one word of each set.
 fn put_tally(log: &[u8], activities: u8, traces: usize, tally: &mut [u8])
     requires { ⌜ tallyLength ≤ length (now tally) ⌝ }
     ensures { λ _. ⌜ now (tally .exit) ≡ tallyOf activities (walked (now (log .entry)) traces 0) ++ drop tallyLength (now (tally .entry)) ⌝ }
 {
     let mut tables = log::empty();
-    let events = log::note_traces(log, traces, &mut tables);
+    let events = log::note_traces_in(log, traces, false, &mut tables);
     put_initial(events, &tables, tally);
     pairs::note_log(log, traces, tally);
     tally[0] = activities;
@@ -73,7 +76,7 @@ pub fn fill(log: &[u8], tally: &mut [u8]) -> Answer
     if tally.len() < layout::LENGTH {
         return Answer::BufferTooSmall;
     }
-    if Activity::LIMIT < judged.activities {
+    if layout::LIMIT < judged.activities {
         return Answer::AboveLimit;
     }
     put_tally(log, judged.activities, judged.traces, tally);

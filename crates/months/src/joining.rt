@@ -6,7 +6,6 @@ ghost use lib.ListN.{length, take, drop};
 ghost use Rattle.months.specs.Layout.{tallyLength};
 ghost use Rattle.months.specs.Months.{joinAnswer, bytesOr, joinedOf};
 use crate::layout;
-use sets::Activity;
 use sets::Answer;
 
 fn larger(a: u8, b: u8) -> u8
@@ -40,7 +39,7 @@ pub fn join(tally: &mut [u8], other: &[u8]) -> Answer
         return Answer::BufferTooSmall;
     }
     let activities = larger(tally[0], other[0]);
-    if Activity::LIMIT < activities {
+    if layout::LIMIT < activities {
         return Answer::AboveLimit;
     }
     join_bytes(tally, other);

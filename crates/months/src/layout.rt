@@ -1,4 +1,4 @@
-// What stands where in a tally (docs/FORMATS.md): sets, one after another; byte 0, of set 0, is A.
+// What stands where in a tally (docs/FORMATS.md): sets of 8 bytes, one after another; byte 0, of set 0, is A.
 ghost use mathlib.Core.Path.{_≡_};
 ghost use Prim.Native.Nat.{_<_};
 ghost use Rattle.sets.specs.Members.{mem, those};
@@ -6,12 +6,17 @@ ghost use Rattle.months.specs.Layout.{rowSet, pairSet, setIn};
 use bytes::set;
 use sets::Activity;
 use sets::Set;
-use sets::activity::WIDTH;
+use sets::activity::WORD;
+
+// The greatest A of a tally, however many activities a set can hold; and how many rows a table has, and pairs an activity.
+pub const LIMIT: u8 = WORD;
+
+pub const WIDTH: usize = LIMIT as usize;
 
 // How many sets there are, and how many bytes.
 pub const SETS: usize = 4608;
 
-pub const LENGTH: usize = SETS * set::LENGTH;
+pub const LENGTH: usize = SETS * set::NARROW;
 
 // Where the events stand, the first row of the tables, the set after their last, and the first set of the pairs.
 pub const EVENTS: usize = 1;
@@ -32,7 +37,8 @@ pub fn row(tally: &[u8], k: u8, a: Activity) -> Set
 {
     bytes::set_at(
         tally,
-        set::LENGTH * (FIRST_ROW + WIDTH * k as usize + a.0 as usize),
+        set::NARROW * (FIRST_ROW + WIDTH * k as usize + a.0 as usize),
+        false,
     )
 }
 
@@ -49,5 +55,5 @@ pub fn between(tally: &[u8], u: Activity, s: Activity) -> Set
     ensures { λ r. ⌜ r ≡ setIn (now (tally .entry)) (pairSet (u .0) (s .0)) ⌝ }
     ensures { λ r. ⌜ those (mem r) ≡ r ⌝ }
 {
-    bytes::set_at(tally, set::LENGTH * pair_set(u, s))
+    bytes::set_at(tally, set::NARROW * pair_set(u, s), false)
 }

@@ -2,6 +2,7 @@
 // the first place of each activity, and gap j has what stands after cut j, up to the next and with it. So what stands since the first u are
 // the gaps from its cut on. That is largest at the last s, so only there it is joined.
 ghost use mathlib.Core.Path.{_≡_};
+ghost use mathlib.Core.Bool.{false};
 ghost use Prim.Native.Nat.{ℕ, _+_, _*_, _≤_, _<_};
 ghost use lib.Dec.{eqb, ltb};
 ghost use lib.ListN.{length, getD, drop};
@@ -12,7 +13,7 @@ ghost use Rattle.bytes.specs.Sets.{setLength, setPut};
 ghost use Rattle.rules.specs.Traces.{_has_, atSome};
 ghost use Rattle.rules.specs.Mining.{between};
 ghost use Rattle.tally.specs.Passes.{walked};
-ghost use Rattle.months.specs.Layout.{pairSet, setIn};
+ghost use Rattle.months.specs.Layout.{tallyWidth, pairSet, setIn};
 ghost use Rattle.months.specs.Pairs.{Gained, Kept, backTo, walkBack, widened, withFirst, seenWith, firstsWith};
 use crate::layout;
 use bytes::set;
@@ -31,19 +32,19 @@ struct Seen {
 }
 
 // The activities that were seen, in the order of their first places.
-type Firsts = [u8; WIDTH];
+type Firsts = [u8; layout::WIDTH];
 
 // The set of u and s gains another.
 fn join_pair(tally: &mut [u8], u: Activity, s: Activity, since: Set)
-    ensures { λ _. ⌜ now (tally .exit) ≡ setPut (now (tally .entry)) (setLength * pairSet (u .0) (s .0))
+    ensures { λ _. ⌜ now (tally .exit) ≡ setPut false (now (tally .entry)) (setLength false * pairSet (u .0) (s .0))
         (those (λ v. mem (setIn (now (tally .entry)) (pairSet (u .0) (s .0))) v or mem since v)) ⌝ }
 {
     let both = layout::between(tally, u, s).union(since);
-    bytes::put_set(tally, set::LENGTH * layout::pair_set(u, s), both);
+    bytes::put_set(tally, set::NARROW * layout::pair_set(u, s), both, false);
 }
 
 fn gap(gaps: &Rows, j: usize) -> Set
-    requires { ⌜ j < width ⌝ }
+    requires { ⌜ j < tallyWidth ⌝ }
     ensures { λ r. ⌜ r ≡ rowAt (now (gaps .entry)) j ⌝ }
 {
     rows::row(gaps, Activity(j as u8))
@@ -51,9 +52,9 @@ fn gap(gaps: &Rows, j: usize) -> Set
 
 // From the latest first place back: what stands since then grows by the gap after it, and the set of that activity and s gains it.
 fn join_back<'a>(tally: &mut [u8], s: Activity, firsts: &'a Firsts, gaps: &'a Rows, count: usize)
-    requires { ⌜ (s .0 < width) × Kept (now firsts) (now gaps) count ⌝ }
+    requires { ⌜ (s .0 < tallyWidth) × Kept (now firsts) (now gaps) count ⌝ }
     ensures { λ _. ⌜ Gained (now (tally .entry)) (λ u x v. eqb x (s .0)
-        and walkBack (backTo (now (firsts .entry)) count) (backTo (now (gaps .entry)) count) (mem noSet) u v) (now (tally .exit)) ⌝ }
+        and walkBack (backTo (now (firsts .entry)) count) (now (gaps .entry)) (mem noSet) u v) (now (tally .exit)) ⌝ }
 {
     let mut since = Set::EMPTY;
     let mut j = count;
@@ -66,10 +67,10 @@ fn join_back<'a>(tally: &mut [u8], s: Activity, firsts: &'a Firsts, gaps: &'a Ro
 
 // Whether a place of s is its last, by the table of last places.
 fn is_last(last: &Places, s: Activity, at: Place) -> bool
-    ensures { λ r. ⌜ r ≡ (ltb (s .0) width and eqb (getD (now (last .entry)) (s .0) 0) (at .0)) ⌝ }
+    ensures { λ r. ⌜ r ≡ (ltb (s .0) tallyWidth and eqb (getD (now (last .entry)) (s .0) 0) (at .0)) ⌝ }
 {
     let n = s.0 as usize;
-    if n < WIDTH {
+    if n < layout::WIDTH {
         return last[n] == at.0;
     }
     false
@@ -86,8 +87,8 @@ fn join_last<'a>(
     count: usize,
 )
     requires { ⌜ Kept (now firsts) (now gaps) count ⌝ }
-    ensures { λ _. ⌜ Gained (now (tally .entry)) (λ u x v. ltb (s .0) width and eqb (getD (now (last .entry)) (s .0) 0) (at .0) and (eqb x (s .0)
-        and walkBack (backTo (now (firsts .entry)) count) (backTo (now (gaps .entry)) count) (mem noSet) u v)) (now (tally .exit)) ⌝ }
+    ensures { λ _. ⌜ Gained (now (tally .entry)) (λ u x v. ltb (s .0) tallyWidth and eqb (getD (now (last .entry)) (s .0) 0) (at .0) and (eqb x (s .0)
+        and walkBack (backTo (now (firsts .entry)) count) (now (gaps .entry)) (mem noSet) u v)) (now (tally .exit)) ⌝ }
 {
     if is_last(last, s, at) {
         join_back(tally, s, firsts, gaps, count);
@@ -96,7 +97,7 @@ fn join_last<'a>(
 
 // The gap after the latest first place gains e; there is none before the first.
 fn widen(gaps: &mut Rows, count: usize, e: Activity)
-    requires { ⌜ count ≤ width ⌝ }
+    requires { ⌜ count ≤ tallyWidth ⌝ }
     ensures { λ _. ⌜ now (gaps .exit) ≡ widened (now (gaps .entry)) count (e .0) ⌝ }
 {
     if 0 < count {
@@ -108,21 +109,21 @@ fn widen(gaps: &mut Rows, count: usize, e: Activity)
 fn put_first(firsts: &mut Firsts, count: usize, e: Activity)
     ensures { λ _. ⌜ now (firsts .exit) ≡ withFirst (now (firsts .entry)) count (e .0) ⌝ }
 {
-    if count < WIDTH {
+    if count < layout::WIDTH {
         firsts[count] = e.0;
     }
 }
 
 // What was seen with e: where e was not seen, this is its first place.
 fn and_now(firsts: &mut Firsts, seen: Seen, e: Activity) -> Seen
-    requires { ⌜ seen .count ≤ width ⌝ }
+    requires { ⌜ seen .count ≤ tallyWidth ⌝ }
     ensures now_seen { λ r. ⌜ r ≡ seenWith seen (e .0) ⌝ }
     ensures firsts_now { λ _. ⌜ now (firsts .exit) ≡ firstsWith (now (firsts .entry)) seen (e .0) ⌝ }
 {
     if seen.set.has(e) {
         return seen;
     }
-    if Activity::LIMIT <= e.0 {
+    if layout::LIMIT <= e.0 {
         return seen;
     }
     put_first(firsts, seen.count, e);
@@ -139,7 +140,7 @@ fn note_along<'a>(trace: &'a [u8], last: &'a Places, tally: &mut [u8])
     ensures { λ _. ⌜ Gained (now (tally .entry)) (λ u s v. atSome v (λ past rest. past has u and rest has s) (now (trace .entry)))
         (now (tally .exit)) ⌝ }
 {
-    let mut firsts: Firsts = [0; WIDTH];
+    let mut firsts: Firsts = [0; layout::WIDTH];
     let mut gaps = rows::empty();
     let mut seen = Seen {
         set: Set::EMPTY,

@@ -1,13 +1,14 @@
 // The relations after step 8 that a tally gives (02, 12/12): by the miner's stages. What steps 6 and 7 would ask the traces, what stands between
 // two activities, they ask the sets of the pairs.
 ghost use mathlib.Core.Path.{_≡_};
+ghost use lib.Dec.{ltb};
 ghost use Rattle.sets.specs.Tests.{_and_};
 ghost use Rattle.sets.specs.Members.{width, mem, those, someBelow, noSet};
 ghost use Rattle.sets.specs.Rows.{rowsOf, rowsFor, turned};
 ghost use Rattle.sets.specs.Tables.{noTables};
 ghost use Rattle.engine.specs.Relations.{relationCount};
 ghost use Rattle.miner.specs.Stages.{excludesSix, fourTables};
-ghost use Rattle.months.specs.Layout.{rowSet, pairSet, setIn};
+ghost use Rattle.months.specs.Layout.{tallyWidth, rowSet, pairSet, setIn};
 ghost use Rattle.months.specs.Readings.{tablesIn, betweenIn, unfollowing, includers, includesIn, redundantBy, excluded, excludesFrom, relationsFrom};
 ghost use Rattle.months.specs.Months.{knownOf};
 use crate::layout;
@@ -23,8 +24,8 @@ use sets::Activity;
 use sets::Answer;
 use sets::Rows;
 use sets::Set;
-use sets::activity::WIDTH;
 use sets::rows;
+use sets::rows::WORDS;
 use sets::tables;
 use steps::relations;
 use tally::Tally;
@@ -40,13 +41,13 @@ pub struct Known {
 
 // ---- the tables
 
-// The rows of table k.
+// The rows of table k; there is none past the tally's width.
 fn rows_in(tally: &[u8], k: u8) -> Rows
-    ensures { λ r. ⌜ r ≡ rowsOf (λ a x. mem (setIn (now (tally .entry)) (rowSet k a)) x) ⌝ }
+    ensures { λ r. ⌜ r ≡ rowsOf (λ a x. ltb a tallyWidth and mem (setIn (now (tally .entry)) (rowSet k a)) x) ⌝ }
 {
     let mut out = rows::empty();
     let mut i: u8 = 0;
-    while i < Activity::LIMIT {
+    while i < layout::LIMIT {
         rows::put(&mut out, Activity(i), layout::row(tally, k, Activity(i)));
         i += 1;
     }
@@ -240,7 +241,7 @@ fn excludes_seven<'a>(
 fn after_eight<'a>(events: Set, tally: &'a [u8], tables: &'a Tally, profile: Profile) -> Relations
     ensures { λ r. ⌜ r ≡ relationsFrom events (now (tables .entry)) (betweenIn (now (tally .entry))) profile ⌝ }
 {
-    let mut out: Relations = [0; KINDS as usize * WIDTH];
+    let mut out: Relations = [0; KINDS as usize * WORDS];
     let conditions = miner::conditions_eight(events, tables);
     tables::put_rows(&mut out, CONDITIONS, &conditions);
     let responses = miner::responses_eight(events, tables);
@@ -260,7 +261,7 @@ fn refused(answer: Answer) -> Known
         answer,
         activities: 0,
         events: Set::EMPTY,
-        relations: [0; KINDS as usize * WIDTH],
+        relations: [0; KINDS as usize * WORDS],
     }
 }
 
@@ -272,10 +273,10 @@ pub fn relations(tally: &[u8], profile: Profile) -> Known
         return refused(Answer::BufferTooSmall);
     }
     let activities = tally[0];
-    if Activity::LIMIT < activities {
+    if layout::LIMIT < activities {
         return refused(Answer::AboveLimit);
     }
-    let events = bytes::set_at(tally, set::LENGTH * layout::EVENTS);
+    let events = bytes::set_at(tally, set::NARROW * layout::EVENTS, false);
     let tables = tables_in(tally);
     Known {
         answer: Answer::Done,

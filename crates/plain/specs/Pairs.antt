@@ -1,4 +1,4 @@
--- Lists of pairs (02, 1/12: 16-bit numbers, source × 256 + target, at most 4,096 pairs a relation).
+-- Lists of pairs (02, 1/12: 16-bit numbers, source × 256 + target; 10/12: at most 16,384 pairs a relation).
 use mathlib.Core.Bool.{Bool}
 use mathlib.Core.List.{List}
 use Prim.Native.Nat.{ℕ, _+_, _*_, _/_, _%_}
@@ -12,7 +12,7 @@ use Rattle.engine.specs.declared.marking.State.{State}
 
 -- how many pairs a list may have
 abbrev pub mostPairs : ℕ
-mostPairs = 4096
+mostPairs = 16384
 
 abbrev pub pairOf : ℕ → ℕ → ℕ
 pairOf s t = s * 256 + t

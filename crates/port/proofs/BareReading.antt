@@ -4,6 +4,7 @@ use mathlib.Core.Bool.{Bool, true, false, not}
 use mathlib.Core.List.{List}
 use Prim.Native.Nat.{ℕ}
 use borrow.Author.Tests.{not-false}
+use lib.Dec.{eqb}
 use Rattle.sets.specs.Tests.{when_then_else_}
 use Rattle.sets.specs.Members.{noSet}
 use Rattle.sets.specs.Tables.{noTables}
@@ -16,11 +17,13 @@ use Rattle.engine.specs.Markings.{emptyState}
 use Rattle.engine.specs.Relations.{Relations, relationCount, inTables, relationsOf, emptyGraph}
 use Rattle.engine.specs.Judged.{judged}
 use Rattle.graphfile.specs.Refusals.{judgedFile}
-use Rattle.graphfile.specs.Layout.{eventsIn, stateIn}
+use Rattle.graphfile.specs.Layout.{wideIn, wideFor, eventsIn, stateIn}
 use Rattle.graphfile.specs.Held.{relationsIn, graphIn, bareOf, bareTables, readOf}
 use Rattle.graphfile.specs.declared.reader.Bare.{Bare}
 use Rattle.bytes.proofs.Codec.{Bytes}
 use Rattle.graphfile.proofs.RoundTrips.{file-graph}
+use Rattle.bytes.specs.Editions.{wideEdition}
+use Rattle.graphfile.proofs.Accepted.{accepted as parts, head-done}
 use Rattle.engine.specs.declared.graph.Graph.{Graph}
 
 module _ (file : List ℕ) (r : Bare) (hr : r ≡ bareOf file) where
@@ -56,6 +59,13 @@ module _ (file : List ℕ) (r : Bare) (hr : r ≡ bareOf file) where
           ∙ ap (λ (a : Answer). when isDone a then stateIn file else emptyState) accepted
           ∙ sym (ap (λ (a : Answer). graphBy a .head .opening .state) accepted)
 
+      -- its form is that of its graph
+      read-form : wideIn file ≡ wideFor (readOf file .graph .head .activities)
+      unfolding readOf graphIn
+      read-form =
+          ap (λ (n : ℕ). eqb n wideEdition) (head-done file (parts file accepted .head) .edition)
+          ∙ sym (ap (λ (a : Answer). wideFor (graphBy a .head .activities)) accepted)
+
       -- into tables that were lent empty
       module _ (tables : List ℕ) (ht : tables ≡ bareTables file (noTables relationCount)) where
         pub bare-relations : tables ≡ readOf file .graph .relations
@@ -69,6 +79,14 @@ module _ (file : List ℕ) (r : Bare) (hr : r ≡ bareOf file) where
         pub bare-graph : {A : Type 0} (F : Set → Relations → A)
             → F (r .events) (inTables tables) ≡ F (readOf file .graph .head .events) (relationsOf (readOf file .graph))
         bare-graph F j = F (bare-events j) (inTables (bare-relations j))
+
+        -- and what is said of them in the file's form, in the graph's
+        pub bare-formed : {A : Type 0} (F : Bool → Set → Relations → A) (w : Bool) → w ≡ wideIn file
+            → F w (r .events) (inTables tables)
+            ≡ F (wideFor (readOf file .graph .head .activities)) (readOf file .graph .head .events) (relationsOf (readOf file .graph))
+        bare-formed F w hw =
+            ap (λ (v : Bool). F v (r .events) (inTables tables)) (hw ∙ read-form)
+            ∙ bare-graph (F (wideFor (readOf file .graph .head .activities)))
 
       pub read-judged : Bytes file → judged (readOf file .graph) ≡ Done
       unfolding readOf

@@ -15,6 +15,7 @@ use Rattle.sets.proofs.Ways.{taken, passed-by}
 use Rattle.sets.specs.Tables.{noTables}
 use Rattle.engine.specs.Relations.{relationCount, inTables}
 use Rattle.engine.specs.Judged.{judged}
+use Rattle.graphfile.specs.Layout.{wideIn}
 use Rattle.graphfile.specs.Held.{bareOf, bareTables, readOf}
 use Rattle.graphfile.specs.declared.reader.Reading.{Reading}
 use Rattle.graphfile.specs.declared.reader.Bare.{Bare}
@@ -27,7 +28,8 @@ use Rattle.desk.specs.declared.requests.Opened.{Opened}
 use Rattle.port.specs.Port.{packedOf, blockedOf}
 use Rattle.port.specs.Desk.{beforeOpen, beforePlace, refusedOpen, deskOpenedOf, deskOpenNumber, deskOpenTable}
 use Rattle.port.specs.Desk.{deskStepNumber, deskStepTable, deskCloseNumber, deskCloseTable}
-use Rattle.port.proofs.BareReading.{bare-answer, bare-graph, read-judged}
+use Rattle.port.proofs.BareReading.{bare-answer, bare-formed, read-judged}
+use Rattle.port.proofs.Lending.{short-of, room-for}
 
 -- ---- x is what is asked before there is a graph: refused with a, or done
 
@@ -64,12 +66,12 @@ module _ (file table : List ℕ) where
     unfolding deskOpenTable
     open-refused-table = kept (beforeOpen file table) a same no table (tableOpened (readOf file .graph) table)
 
-  module _ (short : length table < tableLength) where
+  module _ (room : ℕ) (least : room ≡ tableLength (wideIn file)) (short : length table < room) where
     too-few : BufferTooSmall ≡ beforeOpen file table
     unfolding beforeOpen
     too-few =
-        taken (ltb (length table) tableLength) BufferTooSmall (readOf file .answer) BufferTooSmall
-        (sym (lt-ltb (length table) tableLength short)) refl
+        taken (ltb (length table) (tableLength (wideIn file))) BufferTooSmall (readOf file .answer) BufferTooSmall
+        (short-of (length table) room (tableLength (wideIn file)) least short) refl
 
     pub open-short : (n : ℕ) → n ≡ packedOf BufferTooSmall noPlace → n ≡ deskOpenNumber file table
     open-short n e = open-refused-number BufferTooSmall too-few refl n e
@@ -77,12 +79,12 @@ module _ (file table : List ℕ) where
     pub open-short-table : table ≡ deskOpenTable file table
     open-short-table = open-refused-table BufferTooSmall too-few refl
 
-  module _ (long : tableLength ≤ length table) (r : Reading) (d : Bool) (hr : r ≡ readOf file) (hd : d ≡ isDone (r .answer)) where
+  module _ (room : ℕ) (least : room ≡ tableLength (wideIn file)) (long : room ≤ length table) (r : Reading) (d : Bool) (hr : r ≡ readOf file) (hd : d ≡ isDone (r .answer)) where
     the-file : r .answer ≡ beforeOpen file table
     unfolding beforeOpen
     the-file =
-        passed-by (ltb (length table) tableLength) BufferTooSmall (readOf file .answer) (r .answer)
-        (sym (le-ltb (length table) tableLength long)) (ap (λ (x : Reading). x .answer) hr)
+        passed-by (ltb (length table) (tableLength (wideIn file))) BufferTooSmall (readOf file .answer) (r .answer)
+        (room-for (length table) room (tableLength (wideIn file)) least long) (ap (λ (x : Reading). x .answer) hr)
 
     pub open-no-file : (n : ℕ) → not d ≡ true → n ≡ packedOf (r .answer) noPlace → n ≡ deskOpenNumber file table
     open-no-file n t e = open-refused-number (r .answer) the-file (sym hd ∙ not-true d t) n e
@@ -138,14 +140,17 @@ module _ (file table : List ℕ) (p : ℕ) where
     unfolding deskCloseTable
     close-refused-table = kept (beforePlace file table p) a same no table (tableClosed (readOf file .graph) table p)
 
-  module _ (b : Answer) (d : Bool) (hb : b ≡ placeAnswer table p) (hd : d ≡ isDone b) where
+  module _ (w : Bool) (hw : w ≡ wideIn file) (b : Answer) (d : Bool) (told : b ≡ placeAnswer w table p) (hd : d ≡ isDone b) where
+    hb : b ≡ placeAnswer (wideIn file) table p
+    hb = told ∙ ap (λ (v : Bool). placeAnswer v table p) hw
+
     module _ (t : not d ≡ true) where
       no-place : isDone b ≡ false
       no-place = sym hd ∙ not-true d t
 
       pub the-place : b ≡ beforePlace file table p
       unfolding beforePlace
-      the-place = stays (placeAnswer table p) b hb no-place (readOf file .answer)
+      the-place = stays (placeAnswer (wideIn file) table p) b hb no-place (readOf file .answer)
 
       pub step-no-place : (e n : ℕ) → n ≡ blockedOf b 0 false → n ≡ deskStepNumber file table p e
       step-no-place = step-refused-number b the-place no-place
@@ -162,7 +167,7 @@ module _ (file table : List ℕ) (p : ℕ) where
     module _ (t : not d ≡ false) (x : Answer) (f : Bool) (hx : x ≡ readOf file .answer) (hf : f ≡ isDone x) where
       pub the-file-then : x ≡ beforePlace file table p
       unfolding beforePlace
-      the-file-then = hx ∙ sym (ask-on (placeAnswer table p) (readOf file .answer) (sym hb ∙ done-is b (sym hd ∙ not-false d t)))
+      the-file-then = hx ∙ sym (ask-on (placeAnswer (wideIn file) table p) (readOf file .answer) (sym hb ∙ done-is b (sym hd ∙ not-false d t)))
 
       pub asked : not f ≡ false → isDone (beforePlace file table p) ≡ true
       asked u = ap isDone (sym the-file-then) ∙ sym hf ∙ not-false f u
@@ -188,11 +193,11 @@ module _ (file table : List ℕ) (p : ℕ) where
         close-no-file-table = close-refused-table (r .answer) its-answer no-file
 
 -- the graph of a file that was read, and judged by reading it
-module _ (file : List ℕ) (small : Bytes file) (table : List ℕ) (p : ℕ) (b : Answer) (d : Bool) (hb : b ≡ placeAnswer table p) (hd : d ≡ isDone b)
-    (t : not d ≡ false) (r : Bare) (f : Bool) (hr : r ≡ bareOf file) (hf : f ≡ isDone (r .answer)) (u : not f ≡ false)
-    (tables : List ℕ) (ht : tables ≡ bareTables file (noTables relationCount)) where
+module _ (file : List ℕ) (small : Bytes file) (table : List ℕ) (p : ℕ) (w : Bool) (hw : w ≡ wideIn file) (b : Answer) (d : Bool)
+    (told : b ≡ placeAnswer w table p) (hd : d ≡ isDone b) (t : not d ≡ false) (r : Bare) (f : Bool) (hr : r ≡ bareOf file)
+    (hf : f ≡ isDone (r .answer)) (u : not f ≡ false) (tables : List ℕ) (ht : tables ≡ bareTables file (noTables relationCount)) where
   there : isDone (beforePlace file table p) ≡ true
-  there = asked file table p b d hb hd t (r .answer) f (bare-answer file r hr) hf u
+  there = asked file table p w hw b d told hd t (r .answer) f (bare-answer file r hr) hf u
 
   on : (y : Answer) → thenAsk (beforePlace file table p) y ≡ y
   on y = ask-on (beforePlace file table p) y (done-is (beforePlace file table p) there)
@@ -200,37 +205,37 @@ module _ (file : List ℕ) (small : Bytes file) (table : List ℕ) (p : ℕ) (b 
   accepted : judged (readOf file .graph) ≡ Done
   accepted = read-judged file r hr f hf u small
 
-  pub step-served : (e n : ℕ) (x : Answer) → x ≡ stepAnswerOn (r .events) (inTables tables) table p e → n ≡ blockedOf x 0 false
+  pub step-served : (e n : ℕ) (x : Answer) → x ≡ stepAnswerOn w (r .events) (inTables tables) table p e → n ≡ blockedOf x 0 false
       → n ≡ deskStepNumber file table p e
   unfolding deskStepNumber
   step-served e n x q h =
       h
       ∙ ap (λ (y : Answer). blockedOf y 0 false)
-      (q ∙ bare-graph file r hr f hf u tables ht (λ E R. stepAnswerOn E R table p e) ∙ sym (step-answer-on (readOf file .graph) accepted table p e)
+      (q ∙ bare-formed file r hr f hf u tables ht (λ v E R. stepAnswerOn v E R table p e) w hw ∙ sym (step-answer-on (readOf file .graph) accepted table p e)
       ∙ sym (on (stepAnswer (readOf file .graph) table p e)))
 
-  pub step-served-table : (e : ℕ) (table′ : List ℕ) → table′ ≡ tableSteppedOn (r .events) (inTables tables) table p e
+  pub step-served-table : (e : ℕ) (table′ : List ℕ) → table′ ≡ tableSteppedOn w (r .events) (inTables tables) table p e
       → table′ ≡ deskStepTable file table p e
   unfolding deskStepTable
   step-served-table e table′ q =
       served (beforePlace file table p) there (tableStepped (readOf file .graph) table p e) table table′
-      (q ∙ bare-graph file r hr f hf u tables ht (λ E R. tableSteppedOn E R table p e) ∙ sym (step-table-on (readOf file .graph) accepted table p e))
+      (q ∙ bare-formed file r hr f hf u tables ht (λ v E R. tableSteppedOn v E R table p e) w hw ∙ sym (step-table-on (readOf file .graph) accepted table p e))
 
-  pub close-served : (n : ℕ) (x : Answer) → x ≡ closeAnswerOn (r .events) (inTables tables) table p → n ≡ packedOf x 0
+  pub close-served : (n : ℕ) (x : Answer) → x ≡ closeAnswerOn w (r .events) (inTables tables) table p → n ≡ packedOf x 0
       → n ≡ deskCloseNumber file table p
   unfolding deskCloseNumber
   close-served n x q h =
       h
       ∙ ap (λ (y : Answer). packedOf y 0)
-      (q ∙ bare-graph file r hr f hf u tables ht (λ E R. closeAnswerOn E R table p) ∙ sym (close-answer-on (readOf file .graph) accepted table p)
+      (q ∙ bare-formed file r hr f hf u tables ht (λ v E R. closeAnswerOn v E R table p) w hw ∙ sym (close-answer-on (readOf file .graph) accepted table p)
       ∙ sym (on (closeAnswer (readOf file .graph) table p)))
 
-  pub close-served-table : (table′ : List ℕ) → table′ ≡ tableClosedOn (r .events) (inTables tables) table p
+  pub close-served-table : (table′ : List ℕ) → table′ ≡ tableClosedOn w (r .events) (inTables tables) table p
       → table′ ≡ deskCloseTable file table p
   unfolding deskCloseTable
   close-served-table table′ q =
       served (beforePlace file table p) there (tableClosed (readOf file .graph) table p) table table′
-      (q ∙ bare-graph file r hr f hf u tables ht (λ E R. tableClosedOn E R table p) ∙ sym (close-table-on (readOf file .graph) accepted table p))
+      (q ∙ bare-formed file r hr f hf u tables ht (λ v E R. tableClosedOn v E R table p) w hw ∙ sym (close-table-on (readOf file .graph) accepted table p))
 
 pub ruleset stepping-there = (step-no-place, step-no-place-table, step-no-file, step-no-file-table)
 

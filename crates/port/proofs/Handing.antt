@@ -13,7 +13,7 @@ use Rattle.engine.specs.declared.step.Stepped.{Stepped}
 use Rattle.engine.specs.declared.step.Verdict.{Verdict}
 use Rattle.engine.specs.declared.replay.Replayed.{Replayed}
 use Rattle.graphfile.specs.Held.{readOf}
-use Rattle.graphfile.specs.Heads.{headFrom}
+use Rattle.graphfile.specs.Heads.{wideHead, headFrom}
 use Rattle.graphfile.specs.Markings.{markingFrom}
 use Rattle.graphfile.specs.declared.reader.Reading.{Reading}
 use Rattle.plain.specs.Graphs.{plainOf, plainJudgedFor}
@@ -42,15 +42,15 @@ module _ (head : List ℕ) (h : Head) (e : h ≡ headFrom head) (c r i x : List 
   pub handed-judged : (a : Answer) (n : ℕ) → a ≡ plainJudgedFor (plainOf h c r i x) n → a ≡ plainJudgedFor (handed head c r i x) n
   handed-judged a n q = q ∙ ap (λ (y : Head). plainJudgedFor (plainOf y c r i x) n) e
 
-  module _ (bytes : List ℕ) (m : Marking) (k : m ≡ markingFrom bytes) where
+  module _ (bytes : List ℕ) (m : Marking) (k : m ≡ markingFrom (wideHead head) bytes) where
     pub handed-stepped : (a : ℕ) (s : Stepped) → s ≡ plainSteppedOf (plainOf h c r i x) m a
-        → s ≡ plainSteppedOf (handed head c r i x) (markingFrom bytes) a
+        → s ≡ plainSteppedOf (handed head c r i x) (markingFrom (wideHead head) bytes) a
     handed-stepped a s q = q ∙ ap₂ (λ (y : Head) (z : Marking). plainSteppedOf (plainOf y c r i x) z a) e k
 
     pub handed-accepting : (v : Verdict) (n : ℕ) → v ≡ plainAcceptingOf (plainOf h c r i x) m → n ≡ verdictOf (v .answer) 0 (v .accepting)
         → n
-        ≡ verdictOf (plainAcceptingOf (handed head c r i x) (markingFrom bytes) .answer) 0
-        (plainAcceptingOf (handed head c r i x) (markingFrom bytes) .accepting)
+        ≡ verdictOf (plainAcceptingOf (handed head c r i x) (markingFrom (wideHead head) bytes) .answer) 0
+        (plainAcceptingOf (handed head c r i x) (markingFrom (wideHead head) bytes) .accepting)
     handed-accepting v n q p =
         p
         ∙ ap (λ (y : Verdict). verdictOf (y .answer) 0 (y .accepting))

@@ -1,3 +1,4 @@
+pub mod Lending
 pub mod BareReading
 pub mod Packing
 pub mod Handing

@@ -32,6 +32,7 @@ use Rattle.graphfile.proofs.Writes.{unjudged-written, unjudged-after}
 use Rattle.graphfile.specs.declared.reader.Reading.{Reading}
 use Rattle.graphfile.specs.declared.reader.Bare.{Bare}
 use Rattle.graphfile.specs.declared.writer.Written.{Written}
+use Rattle.graphfile.specs.Layout.{wideIn}
 use Rattle.graphfile.specs.Markings.{markingLength, markingFrom, markingInto}
 use Rattle.rules.specs.declared.Profile.{Profile}
 use Rattle.rules.specs.declared.Profile.the-variants.{Full, Light}
@@ -41,6 +42,7 @@ use Rattle.miner.proofs.Given.{mined-judged}
 use Rattle.report.specs.declared.writer.Listed.{Listed}
 use Rattle.port.specs.Port.{packedOf, verdictOf, blockedOf, stepNumber, storedOf, putNumber, putBuffer, profileOf, inProfile, inProfileBuffer}
 use Rattle.port.specs.Port.{replayNumber, refusedStep, stepOf, openingAnswer, openingBytes}
+use Rattle.port.proofs.Lending.{short-of, room-for}
 use Rattle.port.proofs.BareReading.{bare-answer, file-done, bare-events, bare-state, bare-relations, bare-graph, read-judged}
 
 pub packed-is : (a : Answer) (n low : ℕ) → low ≡ numberOf a → low + 256 * (n % 16777216) ≡ packedOf a n
@@ -204,10 +206,10 @@ module _ (file bytes : List ℕ) (a : ℕ) where
   chosen d short =
       when non d then refusedStep (readOf file .answer)
       else when short then refusedStep BufferTooSmall
-      else steppedOf (readOf file .graph) (markingFrom bytes) a
+      else steppedOf (readOf file .graph) (markingFrom (wideIn file) bytes) a
 
   module _ (r : Bare) (d : Bool) (hr : r ≡ bareOf file) (hd : d ≡ isDone (r .answer)) where
-    choice : (t short : Bool) → d ≡ t → ltb (length bytes) markingLength ≡ short → chosen t short ≡ stepOf file bytes a
+    choice : (t short : Bool) → d ≡ t → ltb (length bytes) (markingLength (wideIn file)) ≡ short → chosen t short ≡ stepOf file bytes a
     unfolding stepOf
     choice t short e l = sym (ap₂ chosen (file-done file r hr d hd t e) l)
 
@@ -215,27 +217,29 @@ module _ (file bytes : List ℕ) (a : ℕ) where
     unfolding non
     step-refused n = ap refusedStep (bare-answer file r hr) ∙ choice false _ (not-true d n) refl
 
-    pub step-short : not d ≡ false → length bytes < markingLength → refusedStep BufferTooSmall ≡ stepOf file bytes a
+    pub step-short : (room : ℕ) → not d ≡ false → room ≡ markingLength (wideIn file) → length bytes < room
+        → refusedStep BufferTooSmall ≡ stepOf file bytes a
     unfolding non
-    step-short n l = choice true true (not-false d n) (lt-ltb (length bytes) markingLength l)
+    step-short room n e l = choice true true (not-false d n) (sym (short-of (length bytes) room (markingLength (wideIn file)) e l))
 
 -- reading has judged the graph
 pub step-taken : (file : List ℕ) → Bytes file → (bytes : List ℕ) (a : ℕ) (r : Bare) (d : Bool) → r ≡ bareOf file → d ≡ isDone (r .answer)
     → (tables : List ℕ) → tables ≡ bareTables file (noTables relationCount)
-    → (m : Marking) (s : Stepped) → not d ≡ false → markingLength ≤ length bytes → m ≡ markingFrom bytes
+    → (m : Marking) (s : Stepped) (room : ℕ) → not d ≡ false → room ≡ markingLength (wideIn file) → room ≤ length bytes
+    → m ≡ markingFrom (wideIn file) bytes
     → s ≡ steppedOn (r .events) (inTables tables) m a → s ≡ stepOf file bytes a
 unfolding non
-step-taken file small bytes a r d hr hd tables ht m s n l hm hs =
+step-taken file small bytes a r d hr hd tables ht m s room n e l hm hs =
     hs
     ∙ ap (λ (x : Marking). steppedOn (r .events) (inTables tables) x a) hm
-    ∙ bare-graph file r hr d hd n tables ht (λ E R. steppedOn E R (markingFrom bytes) a)
-    ∙ sym (stepped-on (readOf file .graph) (read-judged file r hr d hd n small) (markingFrom bytes) a)
-    ∙ choice file bytes a r d hr hd true false (not-false d n) (le-ltb (length bytes) markingLength l)
+    ∙ bare-graph file r hr d hd n tables ht (λ E R. steppedOn E R (markingFrom (wideIn file) bytes) a)
+    ∙ sym (stepped-on (readOf file .graph) (read-judged file r hr d hd n small) (markingFrom (wideIn file) bytes) a)
+    ∙ choice file bytes a r d hr hd true false (not-false d n) (sym (room-for (length bytes) room (markingLength (wideIn file)) e l))
 
 -- of any step that gives s
 module _ (s x : Stepped) (hs : s ≡ x) where
-  pub stored : (bytes bytes′ : List ℕ) → bytes′ ≡ storedOf s bytes → bytes′ ≡ storedOf x bytes
-  stored bytes bytes′ e = e ∙ ap (λ (y : Stepped). storedOf y bytes) hs
+  pub stored : (w v : Bool) (bytes bytes′ : List ℕ) → w ≡ v → bytes′ ≡ storedOf w s bytes → bytes′ ≡ storedOf v x bytes
+  stored w v bytes bytes′ hw e = e ∙ (λ i. storedOf (hw i) (hs i) bytes)
 
   pub step-number : (n : ℕ) → n ≡ stepNumber s → n ≡ stepNumber x
   step-number n e = e ∙ ap stepNumber hs
@@ -249,21 +253,21 @@ module _ (file bytes : List ℕ) (r : Reading) (d : Bool) (hr : r ≡ readOf fil
   asked a short = thenAsk a (when short then BufferTooSmall else Done)
 
   -- the answer by the file's own and by whether there is room
-  opens : (a : Answer) (short : Bool) → readOf file .answer ≡ a → ltb (length bytes) markingLength ≡ short
+  opens : (a : Answer) (short : Bool) → readOf file .answer ≡ a → ltb (length bytes) (markingLength (wideIn file)) ≡ short
       → openingAnswer file (length bytes) ≡ asked a short
   unfolding openingAnswer
   opens a short ha hs = ap₂ asked ha hs
 
   left : (a : Answer) → openingAnswer file (length bytes) ≡ a
-      → (when isDone a then markingInto (readOf file .graph .head .opening) bytes else bytes) ≡ openingBytes file bytes
+      → (when isDone a then markingInto (wideIn file) (readOf file .graph .head .opening) bytes else bytes) ≡ openingBytes file bytes
   unfolding openingBytes
-  left a e = ap (λ (x : Answer). when isDone x then markingInto (readOf file .graph .head .opening) bytes else bytes) (sym e)
+  left a e = ap (λ (x : Answer). when isDone x then markingInto (wideIn file) (readOf file .graph .head .opening) bytes else bytes) (sym e)
 
   module _ (n : not d ≡ true) where
     refused : openingAnswer file (length bytes) ≡ r .answer
     unfolding openingAnswer
     refused =
-        ap (λ (x : Reading). thenAsk (x .answer) (when ltb (length bytes) markingLength then BufferTooSmall else Done)) (sym hr)
+        ap (λ (x : Reading). thenAsk (x .answer) (when ltb (length bytes) (markingLength (wideIn file)) then BufferTooSmall else Done)) (sym hr)
         ∙ ask-stop (r .answer) _ (sym hd ∙ not-true d n)
 
     pub opening-refused : (k : ℕ) → k ≡ numberOf (r .answer) → k ≡ numberOf (openingAnswer file (length bytes))
@@ -271,27 +275,32 @@ module _ (file bytes : List ℕ) (r : Reading) (d : Bool) (hr : r ≡ readOf fil
 
     pub opening-kept : bytes ≡ openingBytes file bytes
     opening-kept =
-        ap (λ (t : Bool). when t then markingInto (readOf file .graph .head .opening) bytes else bytes) (sym (sym hd ∙ not-true d n))
+        ap (λ (t : Bool). when t then markingInto (wideIn file) (readOf file .graph .head .opening) bytes else bytes) (sym (sym hd ∙ not-true d n))
         ∙ left (r .answer) refused
 
   module _ (n : not d ≡ false) where
     read : readOf file .answer ≡ Done
     read = ap (λ (x : Reading). x .answer) (sym hr) ∙ done-is (r .answer) (sym hd ∙ not-false d n)
 
-    pub opening-short : (k : ℕ) → length bytes < markingLength → k ≡ numberOf BufferTooSmall → k ≡ numberOf (openingAnswer file (length bytes))
-    opening-short k l e = e ∙ ap numberOf (sym (opens Done true read (lt-ltb (length bytes) markingLength l)))
+    module _ (room : ℕ) (enough : room ≡ markingLength (wideIn file)) (l : length bytes < room) where
+      few : openingAnswer file (length bytes) ≡ BufferTooSmall
+      few = opens Done true read (sym (short-of (length bytes) room (markingLength (wideIn file)) enough l))
 
-    pub opening-short-kept : length bytes < markingLength → bytes ≡ openingBytes file bytes
-    opening-short-kept l = left BufferTooSmall (opens Done true read (lt-ltb (length bytes) markingLength l))
+      pub opening-short : (k : ℕ) → k ≡ numberOf BufferTooSmall → k ≡ numberOf (openingAnswer file (length bytes))
+      opening-short k e = e ∙ ap numberOf (sym few)
 
-    module _ (l : markingLength ≤ length bytes) where
+      pub opening-short-kept : bytes ≡ openingBytes file bytes
+      opening-short-kept = left BufferTooSmall few
+
+    module _ (room : ℕ) (enough : room ≡ markingLength (wideIn file)) (l : room ≤ length bytes) where
       roomy : openingAnswer file (length bytes) ≡ Done
-      roomy = opens Done false read (le-ltb (length bytes) markingLength l)
+      roomy = opens Done false read (sym (room-for (length bytes) room (markingLength (wideIn file)) enough l))
 
       pub opening-number : (k : ℕ) → k ≡ numberOf (r .answer) → k ≡ numberOf (openingAnswer file (length bytes))
       opening-number k e = e ∙ ap numberOf (ap (λ (x : Reading). x .answer) hr ∙ read ∙ sym roomy)
 
-      pub opening-given : (bytes′ : List ℕ) → bytes′ ≡ markingInto (r .graph .head .opening) bytes → bytes′ ≡ openingBytes file bytes
-      opening-given bytes′ e = e ∙ ap (λ (x : Reading). markingInto (x .graph .head .opening) bytes) hr ∙ left Done roomy
+      pub opening-given : (w : Bool) (bytes′ : List ℕ) → w ≡ wideIn file → bytes′ ≡ markingInto w (r .graph .head .opening) bytes
+          → bytes′ ≡ openingBytes file bytes
+      opening-given w bytes′ hw e = e ∙ (λ i. markingInto (hw i) (hr i .graph .head .opening) bytes) ∙ left Done roomy
 
 pub ruleset beginning = (opening-refused, opening-kept, opening-short, opening-short-kept, opening-number, opening-given)

@@ -10,7 +10,6 @@ use lib.Dec.{ltb}
 use lib.ListN.{length, take, drop, set, length-set, length-append, length-drop, take-append-drop}
 use lib.Seq.{sets, sets-eq, length-take-le, take-at, drop-at, drop-drop, drop-set-lt, take-suc-set}
 use Rattle.sets.specs.Tests.{when_then_else_}
-use Rattle.sets.specs.Members.{width}
 use Rattle.sets.specs.Answers.{numberOf, isDone, thenAsk}
 use Rattle.sets.specs.declared.set.Set.{Set}
 use Rattle.sets.specs.declared.answer.Answer.{Answer}
@@ -20,7 +19,7 @@ use Rattle.bytes.proofs.SetLaws.{length-put, put-there, length-set as set-long}
 use Rattle.engine.specs.Relations.{relationCount}
 use Rattle.rules.specs.declared.Profile.{Profile}
 use Rattle.months.specs.declared.reading.Known.{Known}
-use Rattle.months.specs.Layout.{setsFrom}
+use Rattle.months.specs.Layout.{tallyWidth, setsFrom}
 use Rattle.months.specs.Months.{knownOf}
 use Rattle.months.proofs.Packed.{put-after, length-from}
 use Rattle.port.specs.Tallies.{knownLength, rowOfAll, rowsBytes, knownBytes, relationsAnswer, relationsNumber, relationsBuffer}
@@ -28,42 +27,42 @@ use Rattle.port.specs.Tallies.{knownLength, rowOfAll, rowsBytes, knownBy
 -- ---- the rows, one after another, behind A and the events
 
 abbrev pub rowsTo : List ℕ → List ℕ → ℕ → List ℕ
-rowsTo tables out i = take 9 out ++ setsFrom i 0 (rowOfAll tables) ++ drop (9 + setLength * i) out
+rowsTo tables out i = take 9 out ++ setsFrom i 0 (rowOfAll tables) ++ drop (9 + setLength false * i) out
 
 module _ (tables out : List ℕ) where
   pub rows-begin : out ≡ rowsTo tables out 0
   unfolding setsFrom
   rows-begin = sym (ap (λ (l : List ℕ). l ++ drop 9 out) (append-nil (take 9 out)) ∙ take-append-drop 9 out)
 
-  pub rows-next : (i : ℕ) (s : Set) (held held′ : List ℕ) → knownLength ≤ length out → i < relationCount * width → s ≡ rowOfAll tables i
-      → held ≡ rowsTo tables out i → held′ ≡ setPut held (9 + setLength * i) s → held′ ≡ rowsTo tables out (i + 1)
+  pub rows-next : (i : ℕ) (s : Set) (held held′ : List ℕ) → knownLength ≤ length out → i < relationCount * tallyWidth → s ≡ rowOfAll tables i
+      → held ≡ rowsTo tables out i → held′ ≡ setPut false held (9 + setLength false * i) s → held′ ≡ rowsTo tables out (i + 1)
   rows-next i s held held′ long l hs h p =
       put-after (take 9 out) 9 i (rowOfAll tables) held held′ out (length-take-le 9 out (omega arith)) (omega arith) h
-      (p ∙ ap (setPut held (9 + setLength * i)) hs)
+      (p ∙ ap (setPut false held (9 + setLength false * i)) hs)
 
-  pub rows-long : (i : ℕ) (s : Set) (held held′ : List ℕ) → held′ ≡ setPut held (9 + setLength * i) s → length held ≡ length out
+  pub rows-long : (i : ℕ) (s : Set) (held held′ : List ℕ) → held′ ≡ setPut false held (9 + setLength false * i) s → length held ≡ length out
       → length held′ ≡ length out
-  rows-long i s held held′ p e = ap length p ∙ length-put held (9 + setLength * i) s ∙ e
+  rows-long i s held held′ p e = ap length p ∙ length-put false held (9 + setLength false * i) s ∙ e
 
-  pub rows-finish : (i : ℕ) (held : List ℕ) → relationCount * width ≤ i → i ≤ relationCount * width → held ≡ rowsTo tables out i
+  pub rows-finish : (i : ℕ) (held : List ℕ) → relationCount * tallyWidth ≤ i → i ≤ relationCount * tallyWidth → held ≡ rowsTo tables out i
       → held ≡ take 9 out ++ rowsBytes tables ++ drop knownLength out
-  rows-finish i held g l h = let same : i ≡ relationCount * width = omega arith in h ∙ ap (rowsTo tables out) same
+  rows-finish i held g l h = let same : i ≡ relationCount * tallyWidth = omega arith in h ∙ ap (rowsTo tables out) same
 
 -- ---- A and the events before them
 
-pub known-put : (k : Known) (t t₁ t₂ t₃ : List ℕ) → knownLength ≤ length t → t₁ ≡ set t 0 (k .activities) → t₂ ≡ setPut t₁ 1 (k .events)
+pub known-put : (k : Known) (t t₁ t₂ t₃ : List ℕ) → knownLength ≤ length t → t₁ ≡ set t 0 (k .activities) → t₂ ≡ setPut false t₁ 1 (k .events)
     → t₃ ≡ take 9 t₂ ++ rowsBytes (k .relations) ++ drop knownLength t₂ → t₃ ≡ knownBytes k ++ drop knownLength t
 unfolding knownBytes
 known-put k t t₁ t₂ t₃ long h₁ h₂ h₃ =
-    let first : List ℕ = k .activities ∷ setBytes (k .events) in
-    let nine : length first ≡ 9 = omega (arith, set-long (k .events)) in
+    let first : List ℕ = k .activities ∷ setBytes false (k .events) in
+    let nine : length first ≡ 9 = omega (arith, set-long false (k .events)) in
     let long₁ = length-set t 0 (k .activities) in
     let stored : t₂ ≡ first ++ drop 9 (set t 0 (k .activities)) =
-    h₂ ∙ ap (λ (l : List ℕ). setPut l 1 (k .events)) h₁
-    ∙ put-there (set t 0 (k .activities)) 1 (k .events) (omega arith)
-    ∙ sets-eq (setBytes (k .events)) (set t 0 (k .activities)) 1 (omega (arith, set-long (k .events)))
-    ∙ ap₂ (λ (x : List ℕ) (n : ℕ). x ++ setBytes (k .events) ++ drop (1 + n) (set t 0 (k .activities)))
-    (take-suc-set t 0 (k .activities) (omega arith)) (set-long (k .events)) in
+    h₂ ∙ ap (λ (l : List ℕ). setPut false l 1 (k .events)) h₁
+    ∙ put-there false (set t 0 (k .activities)) 1 (k .events) (omega arith)
+    ∙ sets-eq (setBytes false (k .events)) (set t 0 (k .activities)) 1 (omega (arith, set-long false (k .events)))
+    ∙ ap₂ (λ (x : List ℕ) (n : ℕ). x ++ setBytes false (k .events) ++ drop (1 + n) (set t 0 (k .activities)))
+    (take-suc-set t 0 (k .activities) (omega arith)) (set-long false (k .events)) in
     h₃
     ∙ ap₂ (λ (x y : List ℕ). x ++ rowsBytes (k .relations) ++ y)
     (ap (take 9) stored ∙ take-at first (drop 9 (set t 0 (k .activities))) 9 nine)
@@ -72,22 +71,22 @@ known-put k t t₁ t₂ t₃ long h₁ h₂ h₃ =
     ∙ drop-drop 2048 9 (set t 0 (k .activities))
     ∙ drop-set-lt knownLength t 0 (k .activities) (omega arith))
 
-known-long : (t t₂ : List ℕ) (A : ℕ) (s : Set) → t₂ ≡ setPut (set t 0 A) 1 s → length t₂ ≡ length t
-known-long t t₂ A s h = ap length h ∙ length-put (set t 0 A) 1 s ∙ length-set t 0 A
+known-long : (t t₂ : List ℕ) (A : ℕ) (s : Set) → t₂ ≡ setPut false (set t 0 A) 1 s → length t₂ ≡ length t
+known-long t t₂ A s h = ap length h ∙ length-put false (set t 0 A) 1 s ∙ length-set t 0 A
 
-pub known-room : (t t₂ : List ℕ) (A : ℕ) (s : Set) → knownLength ≤ length t → t₂ ≡ setPut (set t 0 A) 1 s → knownLength ≤ length t₂
+pub known-room : (t t₂ : List ℕ) (A : ℕ) (s : Set) → knownLength ≤ length t → t₂ ≡ setPut false (set t 0 A) 1 s → knownLength ≤ length t₂
 known-room t t₂ A s l h = omega (arith, known-long t t₂ A s h)
 
 pub known-same : (k : Known) (t out : List ℕ) → knownLength ≤ length t → out ≡ knownBytes k ++ drop knownLength t → length out ≡ length t
 unfolding knownBytes
 known-same k t out l h =
     ap length h
-    ∙ length-append (k .activities ∷ (setBytes (k .events) ++ rowsBytes (k .relations))) (drop knownLength t)
+    ∙ length-append (k .activities ∷ (setBytes false (k .events) ++ rowsBytes (k .relations))) (drop knownLength t)
     ∙ omega (
       arith,
-      length-append (setBytes (k .events)) (rowsBytes (k .relations)),
-      set-long (k .events),
-      length-from (relationCount * width) 0 (rowOfAll (k .relations)),
+      length-append (setBytes false (k .events)) (rowsBytes (k .relations)),
+      set-long false (k .events),
+      length-from (relationCount * tallyWidth) 0 (rowOfAll (k .relations)),
       length-drop knownLength t,
     )
 

@@ -14,6 +14,7 @@ use Rattle.sets.specs.declared.answer.Answer.the-variants.{BufferTooSmall}
 use Rattle.sets.specs.Tables.{noTables}
 use Rattle.engine.specs.Relations.{relationCount, inTables, relationsOf}
 use Rattle.engine.specs.declared.marking.Marking.{Marking}
+use Rattle.graphfile.specs.Layout.{wideIn}
 use Rattle.graphfile.specs.Held.{readOf, bareOf, bareTables}
 use Rattle.graphfile.specs.Markings.{markingLength, markingFrom}
 use Rattle.graphfile.specs.declared.reader.Reading.{Reading}
@@ -30,7 +31,8 @@ use Rattle.desk.proofs.JudgedBefore.{finished-on}
 use Rattle.desk.specs.Desk.{placeAnswer}
 use Rattle.port.specs.Desk.{beforePlace}
 use Rattle.port.specs.WayOut.{wayInto, wayAfter, finishIn, deskFinishIn, shutNumber}
-use Rattle.port.proofs.BareReading.{bare-answer, file-done, bare-graph, read-judged}
+use Rattle.port.proofs.Lending.{short-of, room-for}
+use Rattle.port.proofs.BareReading.{bare-answer, file-done, bare-graph, bare-formed, read-judged}
 use Rattle.port.proofs.Desk.{the-place, the-file-then, asked}
 
 -- ---- a way put down
@@ -56,10 +58,10 @@ module _ (file marking : List ℕ) (room : ℕ) where
       when non d then finishedBy (readOf file .answer) []
       else when short then finishedBy BufferTooSmall []
       else when narrow then finishedBy BufferTooSmall []
-      else finishOf (readOf file .graph) (markingFrom marking)
+      else finishOf (readOf file .graph) (markingFrom (wideIn file) marking)
 
   module _ (r : Bare) (d : Bool) (hr : r ≡ bareOf file) (hd : d ≡ isDone (r .answer)) where
-    choice : (t short narrow : Bool) → d ≡ t → ltb (length marking) markingLength ≡ short → ltb room 4 ≡ narrow
+    choice : (t short narrow : Bool) → d ≡ t → ltb (length marking) (markingLength (wideIn file)) ≡ short → ltb room 4 ≡ narrow
         → chosen t short narrow ≡ finishIn file marking room
     unfolding finishIn
     choice t short narrow e l n =
@@ -69,26 +71,34 @@ module _ (file marking : List ℕ) (room : ℕ) where
     unfolding non
     finish-refused n = ap (λ (x : Answer). finishedBy x []) (bare-answer file r hr) ∙ choice false _ _ (not-true d n) refl refl
 
-    pub finish-short : not d ≡ false → length marking < markingLength → finishedBy BufferTooSmall [] ≡ finishIn file marking room
-    unfolding non
-    finish-short n l = choice true true _ (not-false d n) (lt-ltb (length marking) markingLength l) refl
+    module _ (n : not d ≡ false) (least : ℕ) (e : least ≡ markingLength (wideIn file)) where
+      pub finish-short : length marking < least → finishedBy BufferTooSmall [] ≡ finishIn file marking room
+      unfolding non
+      finish-short l = choice true true _ (not-false d n) (sym (short-of (length marking) least (markingLength (wideIn file)) e l)) refl
 
-    pub finish-narrow : not d ≡ false → markingLength ≤ length marking → room < 4 → finishedBy BufferTooSmall [] ≡ finishIn file marking room
-    unfolding non
-    finish-narrow n l k = choice true false true (not-false d n) (le-ltb (length marking) markingLength l) (lt-ltb room 4 k)
+      module _ (l : least ≤ length marking) where
+        enough : ltb (length marking) (markingLength (wideIn file)) ≡ false
+        enough = sym (room-for (length marking) least (markingLength (wideIn file)) e l)
+
+        pub finish-narrow : room < 4 → finishedBy BufferTooSmall [] ≡ finishIn file marking room
+        unfolding non
+        finish-narrow k = choice true false true (not-false d n) enough (lt-ltb room 4 k)
+
+        found : 4 ≤ room → finishOf (readOf file .graph) (markingFrom (wideIn file) marking) ≡ finishIn file marking room
+        unfolding non
+        found k = choice true false false (not-false d n) enough (le-ltb room 4 k)
 
 -- reading has judged the graph
 pub finish-searched : (file : List ℕ) → Bytes file → (marking : List ℕ) (room : ℕ) (r : Bare) (d : Bool) → r ≡ bareOf file → d ≡ isDone (r .answer)
     → (tables : List ℕ) → tables ≡ bareTables file (noTables relationCount)
-    → (m : Marking) (f : Finished) → not d ≡ false → markingLength ≤ length marking → 4 ≤ room → m ≡ markingFrom marking
-    → f ≡ finishOn (r .events) (inTables tables) m → f ≡ finishIn file marking room
-unfolding non
-finish-searched file small marking room r d hr hd tables ht m f n l k hm hf =
+    → (m : Marking) (f : Finished) → not d ≡ false → (least : ℕ) → least ≡ markingLength (wideIn file) → least ≤ length marking → 4 ≤ room
+    → m ≡ markingFrom (wideIn file) marking → f ≡ finishOn (r .events) (inTables tables) m → f ≡ finishIn file marking room
+finish-searched file small marking room r d hr hd tables ht m f n least e l k hm hf =
     hf
     ∙ ap (finishOn (r .events) (inTables tables)) hm
-    ∙ bare-graph file r hr d hd n tables ht (λ E R. finishOn E R (markingFrom marking))
-    ∙ sym (finish-on (readOf file .graph) (read-judged file r hr d hd n small) (markingFrom marking))
-    ∙ choice file marking room r d hr hd true false false (not-false d n) (le-ltb (length marking) markingLength l) (le-ltb room 4 k)
+    ∙ bare-graph file r hr d hd n tables ht (λ E R. finishOn E R (markingFrom (wideIn file) marking))
+    ∙ sym (finish-on (readOf file .graph) (read-judged file r hr d hd n small) (markingFrom (wideIn file) marking))
+    ∙ found file marking room r d hr hd n least e l k
 
 pub ruleset finding = (finish-refused, finish-short, finish-narrow)
 
@@ -110,37 +120,38 @@ module _ (file table : List ℕ) (p room : ℕ) where
   unfolding non
   refused-there a same e = ap (λ (x : Answer). finishedBy x []) same ∙ by-both false _ (ap isDone (sym same) ∙ e) refl
 
-  module _ (b : Answer) (d : Bool) (hb : b ≡ placeAnswer table p) (hd : d ≡ isDone b) where
+  module _ (w : Bool) (hw : w ≡ wideIn file) (b : Answer) (d : Bool) (told : b ≡ placeAnswer w table p) (hd : d ≡ isDone b) where
     pub no-such-call : not d ≡ true → finishedBy b [] ≡ deskFinishIn file table p room
-    no-such-call t = refused-there b (the-place file table p b d hb hd t) (sym hd ∙ not-true d t)
+    no-such-call t = refused-there b (the-place file table p w hw b d told hd t) (sym hd ∙ not-true d t)
 
     module _ (t : not d ≡ false) (r : Bare) (f : Bool) (hr : r ≡ bareOf file) (hf : f ≡ isDone (r .answer)) where
       pub no-graph-there : not f ≡ true → finishedBy (r .answer) [] ≡ deskFinishIn file table p room
       no-graph-there u =
-          refused-there (r .answer) (the-file-then file table p b d hb hd t (r .answer) f (bare-answer file r hr) hf) (sym hf ∙ not-true f u)
+          refused-there (r .answer) (the-file-then file table p w hw b d told hd t (r .answer) f (bare-answer file r hr) hf) (sym hf ∙ not-true f u)
 
       module _ (u : not f ≡ false) where
         before : isDone (beforePlace file table p) ≡ true
-        before = asked file table p b d hb hd t (r .answer) f (bare-answer file r hr) hf u
+        before = asked file table p w hw b d told hd t (r .answer) f (bare-answer file r hr) hf u
 
         pub narrow-there : room < 4 → finishedBy BufferTooSmall [] ≡ deskFinishIn file table p room
         unfolding non
         narrow-there k = by-both true true before (lt-ltb room 4 k)
 
         searched : Bytes file → (tables : List ℕ) → tables ≡ bareTables file (noTables relationCount) → (x : Finished) → 4 ≤ room
-            → x ≡ finishedOn (r .events) (inTables tables) table p → x ≡ deskFinishIn file table p room
+            → x ≡ finishedOn w (r .events) (inTables tables) table p → x ≡ deskFinishIn file table p room
         unfolding non
         searched small tables ht x k e =
             e
-            ∙ bare-graph file r hr f hf u tables ht (λ E R. finishedOn E R table p)
+            ∙ bare-formed file r hr f hf u tables ht (λ v E R. finishedOn v E R table p) w hw
             ∙ sym (finished-on (readOf file .graph) (read-judged file r hr f hf u small) table p)
             ∙ by-both true false before (le-ltb room 4 k)
 
-pub searched-there : (file : List ℕ) → Bytes file → (table : List ℕ) (p room : ℕ) (b : Answer) (d : Bool) → b ≡ placeAnswer table p → d ≡ isDone b
-    → not d ≡ false → (r : Bare) (f : Bool) → r ≡ bareOf file → f ≡ isDone (r .answer) → not f ≡ false
+pub searched-there : (file : List ℕ) → Bytes file → (table : List ℕ) (p room : ℕ) (w : Bool) → w ≡ wideIn file → (b : Answer) (d : Bool)
+    → b ≡ placeAnswer w table p → d ≡ isDone b → not d ≡ false → (r : Bare) (f : Bool) → r ≡ bareOf file → f ≡ isDone (r .answer) → not f ≡ false
     → (tables : List ℕ) → tables ≡ bareTables file (noTables relationCount) → (x : Finished) → 4 ≤ room
-    → x ≡ finishedOn (r .events) (inTables tables) table p → x ≡ deskFinishIn file table p room
-searched-there file small table p room b d hb hd t r f hr hf u tables ht x k e = searched file table p room b d hb hd t r f hr hf u small tables ht x k e
+    → x ≡ finishedOn w (r .events) (inTables tables) table p → x ≡ deskFinishIn file table p room
+searched-there file small table p room w hw b d told hd t r f hr hf u tables ht x k e =
+    searched file table p room w hw b d told hd t r f hr hf u small tables ht x k e
 
 pub ruleset finding-there = (no-such-call, no-graph-there, narrow-there)
 

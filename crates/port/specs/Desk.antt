@@ -6,18 +6,19 @@ use Rattle.sets.specs.Tests.{non, when_then_else_}
 use Rattle.sets.specs.Answers.{isDone, thenAsk}
 use Rattle.sets.specs.declared.answer.Answer.{Answer}
 use Rattle.sets.specs.declared.answer.Answer.the-variants.{Done, NotOpen}
+use Rattle.graphfile.specs.Layout.{wideIn}
 use Rattle.graphfile.specs.Held.{readOf}
 use Rattle.desk.specs.Places.{isOpen}
 use Rattle.desk.specs.Desk.{onTable, placeAnswer, noPlace, openedOf, tableOpened, stepAnswer, tableStepped, closeAnswer, tableClosed}
 use Rattle.desk.specs.declared.requests.Opened.{Opened}
 use Rattle.port.specs.Port.{packedOf, blockedOf}
 
--- what is asked before there is a graph: 7, for step and close 14 too, then the file's refusals
+-- what is asked before there is a graph: 7, for step and close 14 too, then the file's refusals. The table's form is that of the file, by its edition
 unfoldable pub beforeOpen : List ℕ → List ℕ → Answer
-beforeOpen file table = onTable table (readOf file .answer)
+beforeOpen file table = onTable (wideIn file) table (readOf file .answer)
 
 unfoldable pub beforePlace : List ℕ → List ℕ → ℕ → Answer
-beforePlace file table p = thenAsk (placeAnswer table p) (readOf file .answer)
+beforePlace file table p = thenAsk (placeAnswer (wideIn file) table p) (readOf file .answer)
 
 abbrev pub refusedOpen : Answer → Opened
 refusedOpen a = record { answer = a; place = noPlace }

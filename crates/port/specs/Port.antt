@@ -12,6 +12,7 @@ use Rattle.engine.specs.Markings.{emptyMarking}
 use Rattle.engine.specs.Replay.{replayOf, steppedOf}
 use Rattle.engine.specs.declared.step.Stepped.{Stepped}
 use Rattle.engine.specs.declared.graph.Graph.{Graph}
+use Rattle.graphfile.specs.Layout.{wideIn}
 use Rattle.graphfile.specs.Held.{readOf}
 use Rattle.graphfile.specs.Writing.{writtenOf, fileAfter}
 use Rattle.graphfile.specs.Markings.{markingLength, markingFrom, markingInto}
@@ -83,30 +84,30 @@ replayNumber file trace =
 abbrev pub refusedStep : Answer → Stepped
 refusedStep a = record { answer = a; marking = emptyMarking }
 
--- a marking's bytes after a step: as they were where refused
-unfoldable pub storedOf : Stepped → List ℕ → List ℕ
-storedOf s bytes = when isDone (s .answer) then markingInto (s .marking) bytes else bytes
+-- a marking's bytes after a step, in the form of its graph's file: as they were where refused
+unfoldable pub storedOf : Bool → Stepped → List ℕ → List ℕ
+storedOf wide s bytes = when isDone (s .answer) then markingInto wide (s .marking) bytes else bytes
 
 -- the number of a step
 abbrev pub stepNumber : Stepped → ℕ
 stepNumber s = blockedOf (s .answer) 0 false
 
--- skelfora_step: the file's refusals, then 7 where the marking has too few bytes, then what the step gives
+-- skelfora_step: the file's refusals, then 7 where the marking has too few bytes for the file's form, then what the step gives
 unfoldable pub stepOf : List ℕ → List ℕ → ℕ → Stepped
 stepOf file bytes a =
     when non (isDone (readOf file .answer)) then refusedStep (readOf file .answer)
-    else when ltb (length bytes) markingLength then refusedStep BufferTooSmall
-    else steppedOf (readOf file .graph) (markingFrom bytes) a
+    else when ltb (length bytes) (markingLength (wideIn file)) then refusedStep BufferTooSmall
+    else steppedOf (readOf file .graph) (markingFrom (wideIn file) bytes) a
 
 -- the marking's bytes after it: as they were where refused
 abbrev pub stepBytes : List ℕ → List ℕ → ℕ → List ℕ
-stepBytes file bytes a = storedOf (stepOf file bytes a) bytes
+stepBytes file bytes a = storedOf (wideIn file) (stepOf file bytes a) bytes
 
 -- skelfora_opening: the file's refusals, then 7 where there are too few bytes for a marking
 unfoldable pub openingAnswer : List ℕ → ℕ → Answer
-openingAnswer file room = thenAsk (readOf file .answer) (when ltb room markingLength then BufferTooSmall else Done)
+openingAnswer file room = thenAsk (readOf file .answer) (when ltb room (markingLength (wideIn file)) then BufferTooSmall else Done)
 
 -- the lent bytes then: the opening marking of the file's graph (02, 6/12), or as they were where refused
 unfoldable pub openingBytes : List ℕ → List ℕ → List ℕ
 openingBytes file bytes =
-    when isDone (openingAnswer file (length bytes)) then markingInto (readOf file .graph .head .opening) bytes else bytes
+    when isDone (openingAnswer file (length bytes)) then markingInto (wideIn file) (readOf file .graph .head .opening) bytes else bytes

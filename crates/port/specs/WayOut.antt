@@ -9,6 +9,7 @@ use Rattle.sets.specs.Answers.{numberOf, isDone}
 use Rattle.sets.specs.declared.answer.Answer.{Answer}
 use Rattle.sets.specs.declared.answer.Answer.the-variants.{BufferTooSmall}
 use Rattle.engine.specs.Relations.{relationsOf}
+use Rattle.graphfile.specs.Layout.{wideIn}
 use Rattle.graphfile.specs.Held.{readOf}
 use Rattle.graphfile.specs.Markings.{markingLength, markingFrom}
 use Rattle.finish.specs.Ways.{finishedBy, finishOf}
@@ -37,9 +38,9 @@ wayAfter f way = when isDone (f .answer) then wayInto (f .way) way else way
 unfoldable pub finishIn : List ℕ → List ℕ → ℕ → Finished
 finishIn file marking room =
     when non (isDone (readOf file .answer)) then finishedBy (readOf file .answer) []
-    else when ltb (length marking) markingLength then finishedBy BufferTooSmall []
+    else when ltb (length marking) (markingLength (wideIn file)) then finishedBy BufferTooSmall []
     else when ltb room wayLength then finishedBy BufferTooSmall []
-    else finishOf (readOf file .graph) (markingFrom marking)
+    else finishOf (readOf file .graph) (markingFrom (wideIn file) marking)
 
 -- skelfora_finish
 abbrev pub finishNumber : List ℕ → List ℕ → ℕ → ℕ

@@ -1,9 +1,10 @@
-// The plain engine's functions (02, 1/12). The head of a graph comes as 41 bytes, A, events, executed, pending, included, enabled; its
-// relations as four lists of pairs.
+// The plain engine's functions (02, 1/12). The head of a graph comes as bytes, A, events, executed, pending, included, enabled: 41, or
+// 81 where A is above 64 (02, 10/12); its relations as four lists of pairs.
 ghost use mathlib.Core.Path.{_≡_};
 ghost use Rattle.port.specs.Port.{stepNumber};
 ghost use Rattle.port.specs.Classroom.{judgedHanded, plainStepOf, plainStepBytes, plainAcceptingNumber, plainReplayNumber};
 ghost use Rattle.port.specs.Classroom.{fillNumber, fillMemory};
+use crate::lent;
 use crate::packed;
 use crate::packed_blocker;
 use crate::packed_verdict;
@@ -25,10 +26,10 @@ fn judge_handed<'a>(
     ensures { λ r. ⌜ r ≡ judgedHanded (now (head .entry)) (now (conditions .entry)) (now (responses .entry)) (now (includes .entry))
         (now (excludes .entry)) (now (marking .entry)) ⌝ }
 {
-    if head.len() < graphfile::head::LENGTH {
+    if head.len() < lent::head_room(head) {
         return Answer::BufferTooSmall;
     }
-    if graphfile::marking::LENGTH <= marking.len() {
+    if lent::room_beside_head(head) <= marking.len() {
         return Answer::Done;
     }
     let h = graphfile::head::read_head(head);
@@ -60,11 +61,11 @@ fn plain_stepped<'a>(
         };
     }
     let h = graphfile::head::read_head(head);
-    let m = graphfile::marking::read_marking(marking);
+    let m = lent::marking_beside_head(head, marking);
     plain::step::step(h, conditions, responses, includes, excludes, m, a)
 }
 
-// One step at a marking of 32 lent bytes; they stay as they were where it is refused.
+// One step at a marking of 32 or 64 lent bytes; they stay as they were where it is refused.
 #[no_mangle]
 pub extern "C" fn skelfora_plain_step<'a, 'm>(
     head: &'a [u8],
@@ -89,10 +90,10 @@ pub extern "C" fn skelfora_plain_step<'a, 'm>(
         marking,
         Activity(activity),
     );
-    store(s, marking)
+    store(s, marking, lent::is_wide_head(head))
 }
 
-// Whether a marking of 32 bytes is accepting: the number, and 2^32 where it is.
+// Whether a marking of 32 or 64 bytes is accepting: the number, and 2^32 where it is.
 #[no_mangle]
 pub extern "C" fn skelfora_plain_accepting<'a>(
     head: &'a [u8],
@@ -110,7 +111,7 @@ pub extern "C" fn skelfora_plain_accepting<'a>(
         return packed(refusal, 0);
     }
     let h = graphfile::head::read_head(head);
-    let m = graphfile::marking::read_marking(marking);
+    let m = lent::marking_beside_head(head, marking);
     let v = plain::step::accepting(h, conditions, responses, includes, excludes, m);
     let a = v.answer;
     packed_verdict(a, 0, v.accepting)
@@ -129,7 +130,7 @@ pub extern "C" fn skelfora_plain_replay<'a>(
     ensures { λ r. ⌜ r ≡ plainReplayNumber (now (head .entry)) (now (conditions .entry)) (now (responses .entry))
         (now (includes .entry)) (now (excludes .entry)) (now (trace .entry)) ⌝ }
 {
-    if head.len() < graphfile::head::LENGTH {
+    if head.len() < lent::head_room(head) {
         return packed_blocker(Answer::BufferTooSmall, 0, false);
     }
     let h = graphfile::head::read_head(head);

@@ -14,6 +14,7 @@ ghost use Rattle.report.specs.Summary.{summaryAfter};
 
 pub mod call_desk;
 pub mod classroom;
+mod lent;
 pub mod marked;
 pub mod tallies;
 pub mod way_out;
@@ -27,7 +28,7 @@ use rules::Profile;
 use sets::Activity;
 use sets::Answer;
 use sets::Place;
-use sets::activity::WIDTH;
+use sets::rows::WORDS;
 
 // The number, and a length or place above it: 256 times. No length or place here reaches the 24 bits that it has.
 pub(crate) fn packed(answer: Answer, n: usize) -> u64
@@ -60,16 +61,16 @@ pub(crate) fn packed_blocker(answer: Answer, n: usize, accepting: bool) -> u64
 }
 
 // The marking after a step into the lent bytes, where it was done; its number and blocker.
-pub(crate) fn store(s: Stepped, marking: &mut [u8]) -> u64
+pub(crate) fn store(s: Stepped, marking: &mut [u8], wide: bool) -> u64
     ensures { λ r. ⌜ r ≡ stepNumber s ⌝ }
-    ensures { λ _. ⌜ now (marking .exit) ≡ storedOf s (now (marking .entry)) ⌝ }
+    ensures { λ _. ⌜ now (marking .exit) ≡ storedOf wide s (now (marking .entry)) ⌝ }
 {
     let answer = s.answer;
     if !answer.is_done() {
         return packed_blocker(answer, 0, false);
     }
     let after = s.marking;
-    graphfile::marking::write_marking(after, marking);
+    graphfile::marking::write_marking(after, marking, wide);
     packed_blocker(answer, 0, false)
 }
 
@@ -176,7 +177,7 @@ pub extern "C" fn skelfora_rewrite(file: &[u8], out: &mut [u8]) -> u64
 pub extern "C" fn skelfora_replay(file: &[u8], trace: &[u8]) -> u64
     ensures { λ r. ⌜ r ≡ replayNumber (now (file .entry)) (now (trace .entry)) ⌝ }
 {
-    let mut relations: Relations = [0; KINDS as usize * WIDTH];
+    let mut relations: Relations = [0; KINDS as usize * WORDS];
     let r = graphfile::read_bare(file, &mut relations);
     let answer = r.answer;
     if !answer.is_done() {
@@ -195,7 +196,7 @@ pub extern "C" fn skelfora_replay(file: &[u8], trace: &[u8]) -> u64
 fn stepped<'a>(file: &'a [u8], marking: &'a [u8], a: Activity) -> Stepped
     ensures { λ r. ⌜ r ≡ stepOf (now (file .entry)) (now (marking .entry)) (a .0) ⌝ }
 {
-    let mut relations: Relations = [0; KINDS as usize * WIDTH];
+    let mut relations: Relations = [0; KINDS as usize * WORDS];
     let r = graphfile::read_bare(file, &mut relations);
     let answer = r.answer;
     if !answer.is_done() {
@@ -204,27 +205,27 @@ fn stepped<'a>(file: &'a [u8], marking: &'a [u8], a: Activity) -> Stepped
             marking: Marking::EMPTY,
         };
     }
-    if marking.len() < graphfile::marking::LENGTH {
+    if marking.len() < lent::marking_room(file) {
         return Stepped {
             answer: Answer::BufferTooSmall,
             marking: Marking::EMPTY,
         };
     }
-    let m = graphfile::marking::read_marking(marking);
+    let m = lent::marking_beside(file, marking);
     engine::step::step_on(r.events, &relations, m, a)
 }
 
-// One step at a marking of 32 lent bytes, executed, pending, included, enabled; they stay as they were where it is refused.
+// One step at a marking of 32 lent bytes, or 64 by the file's edition: executed, pending, included, enabled; they stay as they were where it is refused.
 #[no_mangle]
 pub extern "C" fn skelfora_step(file: &[u8], marking: &mut [u8], activity: u8) -> u64
     ensures { λ r. ⌜ r ≡ stepNumber (stepOf (now (file .entry)) (now (marking .entry)) activity) ⌝ }
     ensures { λ _. ⌜ now (marking .exit) ≡ stepBytes (now (file .entry)) (now (marking .entry)) activity ⌝ }
 {
     let s = stepped(file, marking, Activity(activity));
-    store(s, marking)
+    store(s, marking, graphfile::is_wide(file))
 }
 
-// The opening marking of a graph file, with the steps enabled there, into 32 lent bytes: where a caller that steps begins.
+// The opening marking of a graph file, with the steps enabled there, into lent bytes, 32 or 64 by the file's edition: where a caller that steps begins.
 #[no_mangle]
 pub extern "C" fn skelfora_opening(file: &[u8], marking: &mut [u8]) -> u64
     ensures { λ r. ⌜ r ≡ numberOf (openingAnswer (now (file .entry)) (length (now (marking .entry)))) ⌝ }
@@ -235,10 +236,10 @@ pub extern "C" fn skelfora_opening(file: &[u8], marking: &mut [u8]) -> u64
     if !answer.is_done() {
         return answer.number() as u64;
     }
-    if marking.len() < graphfile::marking::LENGTH {
+    if marking.len() < lent::marking_room(file) {
         return Answer::BufferTooSmall.number() as u64;
     }
     let m = r.graph.head.opening;
-    graphfile::marking::write_marking(m, marking);
+    graphfile::marking::write_marking(m, marking, graphfile::is_wide(file));
     answer.number() as u64
 }

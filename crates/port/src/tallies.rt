@@ -3,9 +3,9 @@ ghost use mathlib.Core.Path.{_≡_};
 ghost use mathlib.Core.List.{_++_};
 ghost use Prim.Native.Nat.{_*_, _≤_, _<_};
 ghost use lib.ListN.{length, take, drop};
-ghost use Rattle.sets.specs.Members.{width};
 ghost use Rattle.sets.specs.Answers.{numberOf};
 ghost use Rattle.engine.specs.Relations.{relationCount};
+ghost use Rattle.months.specs.Layout.{tallyWidth};
 ghost use Rattle.months.specs.Months.{fillAnswer, filledOf, joinAnswer, joinedOf};
 ghost use Rattle.port.specs.Port.{inProfile, inProfileBuffer};
 ghost use Rattle.port.specs.Tallies.{knownLength, rowOfAll, rowsBytes, knownBytes, relationsNumber, relationsBuffer};
@@ -15,20 +15,20 @@ use bytes::set;
 use engine::Relations;
 use engine::graph::KINDS;
 use months::Known;
+use months::WIDTH;
 use rules::Profile;
 use sets::Activity;
 use sets::Answer;
 use sets::Set;
-use sets::activity::WIDTH;
 use sets::tables;
 
 // The rows of all relations, and where they begin: after A and the events.
 const ROWS: usize = KINDS as usize * WIDTH;
 
-const ROWS_START: usize = 1 + set::LENGTH;
+const ROWS_START: usize = 1 + set::NARROW;
 
 // The bytes of what a tally gives.
-const LENGTH: usize = ROWS_START + ROWS * set::LENGTH;
+const LENGTH: usize = ROWS_START + ROWS * set::NARROW;
 
 // Fills a tally with a log: the number.
 #[no_mangle]
@@ -52,7 +52,7 @@ pub extern "C" fn skelfora_tally_join(tally: &mut [u8], other: &[u8]) -> u64
 
 // Row i of all: the relations one after another.
 fn row_of_all(relations: &Relations, i: usize) -> Set
-    requires { ⌜ i < relationCount * width ⌝ }
+    requires { ⌜ i < relationCount * tallyWidth ⌝ }
     ensures { λ r. ⌜ r ≡ rowOfAll (now (relations .entry)) i ⌝ }
 {
     tables::row(relations, (i / WIDTH) as u8, Activity((i % WIDTH) as u8))
@@ -65,7 +65,12 @@ fn put_rows(relations: &Relations, out: &mut [u8])
 {
     let mut i: usize = 0;
     while i < ROWS {
-        bytes::put_set(out, ROWS_START + set::LENGTH * i, row_of_all(relations, i));
+        bytes::put_set(
+            out,
+            ROWS_START + set::NARROW * i,
+            row_of_all(relations, i),
+            false,
+        );
         i += 1;
     }
 }
@@ -76,7 +81,7 @@ fn put_known(known: Known, out: &mut [u8])
     ensures { λ _. ⌜ now (out .exit) ≡ knownBytes known ++ drop knownLength (now (out .entry)) ⌝ }
 {
     out[0] = known.activities;
-    bytes::put_set(out, 1, known.events);
+    bytes::put_set(out, 1, known.events, false);
     put_rows(&known.relations, out);
 }
 

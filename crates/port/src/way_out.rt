@@ -4,6 +4,7 @@ ghost use lib.ListN.{length};
 ghost use Rattle.sets.specs.Answers.{numberOf};
 ghost use Rattle.port.specs.WayOut.{wayInto, wayAfter, finishIn, finishNumber, finishBytes, shutNumber};
 ghost use Rattle.port.specs.WayOut.{deskFinishIn, deskFinishNumber, deskFinishBytes};
+use crate::lent;
 use crate::packed;
 use engine::Relations;
 use engine::graph::KINDS;
@@ -11,7 +12,7 @@ use finish::Finished;
 use finish::Way;
 use sets::Activity;
 use sets::Answer;
-use sets::activity::WIDTH;
+use sets::rows::WORDS;
 
 // How many bytes a way takes.
 const LENGTH: usize = 4;
@@ -49,7 +50,7 @@ fn given(f: Finished, way: &mut [u8]) -> u64
 fn finished<'a>(file: &'a [u8], marking: &'a [u8], room: usize) -> Finished
     ensures { λ r. ⌜ r ≡ finishIn (now (file .entry)) (now (marking .entry)) room ⌝ }
 {
-    let mut relations: Relations = [0; KINDS as usize * WIDTH];
+    let mut relations: Relations = [0; KINDS as usize * WORDS];
     let r = graphfile::read_bare(file, &mut relations);
     let answer = r.answer;
     if !answer.is_done() {
@@ -58,7 +59,7 @@ fn finished<'a>(file: &'a [u8], marking: &'a [u8], room: usize) -> Finished
             way: Way::NONE,
         };
     }
-    if marking.len() < graphfile::marking::LENGTH {
+    if marking.len() < lent::marking_room(file) {
         return Finished {
             answer: Answer::BufferTooSmall,
             way: Way::NONE,
@@ -70,11 +71,11 @@ fn finished<'a>(file: &'a [u8], marking: &'a [u8], room: usize) -> Finished
             way: Way::NONE,
         };
     }
-    let m = graphfile::marking::read_marking(marking);
+    let m = lent::marking_beside(file, marking);
     finish::search::way_out_on(r.events, &relations, m)
 }
 
-// The way out from a marking of 32 bytes into four lent bytes, 255 in those that are not used; they stay as they were where it is refused.
+// The way out from a marking of 32 or 64 bytes into four lent bytes, 255 in those that are not used; they stay as they were where it is refused.
 #[no_mangle]
 pub extern "C" fn skelfora_finish<'a, 'w>(
     file: &'a [u8],
@@ -92,14 +93,15 @@ pub extern "C" fn skelfora_finish<'a, 'w>(
 fn finished_at<'a>(file: &'a [u8], table: &'a [u8], place: usize, room: usize) -> Finished
     ensures { λ r. ⌜ r ≡ deskFinishIn (now (file .entry)) (now (table .entry)) place room ⌝ }
 {
-    let asked = desk::judge_place(table, place);
+    let wide = graphfile::is_wide(file);
+    let asked = desk::judge_place(table, place, wide);
     if !asked.is_done() {
         return Finished {
             answer: asked,
             way: Way::NONE,
         };
     }
-    let mut relations: Relations = [0; KINDS as usize * WIDTH];
+    let mut relations: Relations = [0; KINDS as usize * WORDS];
     let r = graphfile::read_bare(file, &mut relations);
     let answer = r.answer;
     if !answer.is_done() {
@@ -114,7 +116,7 @@ fn finished_at<'a>(file: &'a [u8], table: &'a [u8], place: usize, room: usize) -
             way: Way::NONE,
         };
     }
-    desk::finish_on(r.events, &relations, table, place)
+    desk::finish_on(r.events, &relations, table, place, wide)
 }
 
 // The same for the call at a place of the desk; the table is lent to be read.

@@ -118,10 +118,10 @@ module _ (bytes : List ℕ) (p : Profile) (before : List ℕ) (r : Listed) (afte
   chosen true h = absurd (false→F (sym h) tt)
   chosen false h = (refl, h)
 
-  taken : (ltb (length before) longestListing ≡ false) × (isDone (logOf bytes .answer) ≡ true)
+  taken : (ltb (length before) (longestListing bytes) ≡ false) × (isDone (logOf bytes .answer) ≡ true)
   unfolding listedOf
   taken =
-      chosen (ltb (length before) longestListing)
+      chosen (ltb (length before) (longestListing bytes))
       (ap (λ (x : Listed). isDone (x .answer)) (sym (write-listing-said bytes p before r after c .0)) ∙ ap (λ (n : ℕ). eqb n 0) d)
 
   abbrev rest : List ℕ

@@ -16,6 +16,7 @@
 -- FinishAtPlace, 8/12: at a place of the desk the way out is that of the place's own call; 14 exactly where there is none.
 -- ShutOut, 8/12: what is said to have shut a step out is an event of the call that excludes it.
 -- Marks, 9/12: each count is the number of traces of its kind, and they add up; the measures; 18 and 19; demand 3 in marks.
+-- Wide, 10/12: which edition goes with which A; a graph has one file; files of edition 1 are read as before; the new refusals.
 -- LightByDefault, 11/12: what the listing program's arguments mean, none being light; that nothing else moved, and what is written for each.
 -- SameTraces, 12/12: logs with the same A and the same set of non-empty traces give the same graph.
 -- Months, 12/12: what tallies of months hold, joined in any order and grouping, and the relations of steps 1 to 8 that are read from them.

@@ -1,7 +1,8 @@
 -- 02, 5/12, THE CALL DESK, as theorems about the public functions. Assumes nothing.
 --
 -- `open-gives g table r table′` says that open, by its own contract, may give r and leave table′, on the graph g and a table that holds these
--- bytes; `step-gives` and `close-gives` the same. `isOpen table p` and `markingAtPlace table p` read the bytes (desk/specs/Places).
+-- bytes; `step-gives` and `close-gives` the same. `isOpen wide table p` and `markingAtPlace wide table p` read the bytes (desk/specs/Places) in
+-- the form `formOf g` that the file of the graph has (10/12).
 --
 -- 1. One outcome, of answer, place and the whole table: Outcomes (`desk-open-once`, `desk-step-once`, `desk-close-once`). A refusal leaves the
 --    whole table as before: `open-refused`, `step-refused`, `close-refused`.
@@ -34,7 +35,7 @@ use Rattle.engine.specs.declared.graph.Graph.{Graph}
 use Rattle.graphfile.proofs.LoneMarkings.{WholeMarking}
 use Rattle.desk.specs.declared.requests.Opened.{Opened}
 use Rattle.desk.specs.Places.{placeCount, tableLength, isOpen, markingAtPlace, SameAt, lowestFree}
-use Rattle.desk.specs.Desk.{opening, openAnswer, noPlace, openedOf, tableOpened, stepAnswer, tableStepped, closeAnswer, tableClosed}
+use Rattle.desk.specs.Desk.{formOf, opening, openAnswer, noPlace, openedOf, tableOpened, stepAnswer, tableStepped, closeAnswer, tableClosed}
 use Rattle.desk.specs.Histories.{Request, Open, Step, Close, Fresh, Call, isTaken, tableServed, tableAfter, stepBy, closeBy, callAt}
 use Rattle.desk.proofs.Isolation.{step-own, close-own, open-own, lowest-own}
 use Rattle.desk.proofs.OnePlace.{step-same, close-same, opened-elsewhere, stepped-elsewhere, closed-elsewhere}
@@ -106,7 +107,7 @@ module _ (g : Graph) (before after : List ℕ) where
       let m : numberOf (openAnswer g before) ≢ 0 = λ e. n (ap (λ (x : Opened). numberOf (x .answer)) (s .0) ∙ e) in (
         s .1 ∙ kept (openAnswer g before) _ before m,
         ap (λ (x : Opened). x .place) (s .0)
-            ∙ ap (λ (t : Bool). when t then lowestFree (isOpen before) else noPlace) (refused-by (openAnswer g before) m),
+            ∙ ap (λ (t : Bool). when t then lowestFree (isOpen (formOf g) before) else noPlace) (refused-by (openAnswer g before) m),
       )
 
   pub step-refused : (p a : ℕ) (x : Answer) → step-gives g before p a x after → numberOf x ≢ 0 → after ≡ before
@@ -125,14 +126,14 @@ module _ (g : Graph) (before after : List ℕ) where
 
 -- the functions served these requests, the latest first, from a fresh desk on, and left this table
 abbrev pub Served : Graph → List Request → List ℕ → Type 0
-Served g [] table = Fresh table
+Served g [] table = Fresh (formOf g) table
 Served g (Open ∷ history) after = (before : List ℕ) × Served g history before × ((r : Opened) × open-gives g before r after)
 Served g (Step p a ∷ history) after = (before : List ℕ) × Served g history before × ((x : Answer) × step-gives g before p a x after)
 Served g (Close p ∷ history) after = (before : List ℕ) × Served g history before × ((x : Answer) × close-gives g before p x after)
 
 -- that is the table after the history
 pub served : (g : Graph) (history : List Request) (table : List ℕ) → Served g history table
-    → (first : List ℕ) × Fresh first × (table ≡ tableAfter g first history)
+    → (first : List ℕ) × Fresh (formOf g) first × (table ≡ tableAfter g first history)
 unfolding tableAfter tableServed
 served g [] table h = (table, h, refl)
 served g (Open ∷ history) table h =
@@ -191,27 +192,27 @@ module _ (g : Graph) (whole : WholeMarking (g .head .opening)) where
         answered ∙ ap (openAnswer g) (f .2) ∙ open-own g whole (f .0) (f .1) history,
         λ n.
             ap (λ (x : Opened). x .place) (s .0)
-            ∙ ap (λ (t : Bool). when t then lowestFree (isOpen table) else noPlace) (ap isDone (sym answered ∙ done-by (r .answer) n))
-            ∙ ap (λ (t : List ℕ). lowestFree (isOpen t)) (f .2)
+            ∙ ap (λ (t : Bool). when t then lowestFree (isOpen (formOf g) table) else noPlace) (ap isDone (sym answered ∙ done-by (r .answer) n))
+            ∙ ap (λ (t : List ℕ). lowestFree (isOpen (formOf g) t)) (f .2)
             ∙ lowest-own g whole (f .0) (f .1) history,
       )
 
 -- ---- a request at another place never shows, on any table
 
 module _ (g : Graph) (p : ℕ) (before after : List ℕ) where
-  pub open-elsewhere : (r : Opened) → open-gives g before r after → r .place ≢ p → SameAt p before after
+  pub open-elsewhere : (r : Opened) → open-gives g before r after → r .place ≢ p → SameAt (formOf g) p before after
   open-elsewhere r c n =
       let s = open-said g before r after c in
-      subst (SameAt p before) (sym (s .1)) (opened-elsewhere g before p (λ e. n (ap (λ (x : Opened). x .place) (s .0) ∙ e)))
+      subst (SameAt (formOf g) p before) (sym (s .1)) (opened-elsewhere g before p (λ e. n (ap (λ (x : Opened). x .place) (s .0) ∙ e)))
 
-  pub step-elsewhere : (q a : ℕ) (x : Answer) → step-gives g before q a x after → q ≢ p → SameAt p before after
-  step-elsewhere q a x c n = subst (SameAt p before) (sym (step-said g before q a x after c .1)) (stepped-elsewhere g before p q a n)
+  pub step-elsewhere : (q a : ℕ) (x : Answer) → step-gives g before q a x after → q ≢ p → SameAt (formOf g) p before after
+  step-elsewhere q a x c n = subst (SameAt (formOf g) p before) (sym (step-said g before q a x after c .1)) (stepped-elsewhere g before p q a n)
 
-  pub close-elsewhere : (q : ℕ) (x : Answer) → close-gives g before q x after → q ≢ p → SameAt p before after
-  close-elsewhere q x c n = subst (SameAt p before) (sym (close-said g before q x after c .1)) (closed-elsewhere g before p q n)
+  pub close-elsewhere : (q : ℕ) (x : Answer) → close-gives g before q x after → q ≢ p → SameAt (formOf g) p before after
+  close-elsewhere q x c n = subst (SameAt (formOf g) p before) (sym (close-said g before q x after c .1)) (closed-elsewhere g before p q n)
 
   -- and tables that are the same at a place get the same answers there
-  module _ (same : SameAt p before after) where
+  module _ (same : SameAt (formOf g) p before after) where
     pub step-unmoved : (a : ℕ) (x y : Answer) (t u : List ℕ) → step-gives g before p a x t → step-gives g after p a y u → x ≡ y
     step-unmoved a x y t u c d =
         step-said g before p a x t c .0 ∙ sym (step-same g p before after same a) ∙ sym (step-said g after p a y u d .0)
@@ -227,52 +228,52 @@ module _ (g : Graph) (before : List ℕ) (r : Opened) (after : List ℕ) (c : op
   unfolding openedOf
   answered = ap (λ (x : Opened). x .answer) (open-said g before r after c .0)
 
-  given : numberOf (r .answer) ≡ 0 → r .place ≡ lowestFree (isOpen before)
+  given : numberOf (r .answer) ≡ 0 → r .place ≡ lowestFree (isOpen (formOf g) before)
   unfolding openedOf
   given n =
       ap (λ (x : Opened). x .place) (open-said g before r after c .0)
-      ∙ ap (λ (t : Bool). when t then lowestFree (isOpen before) else noPlace) (ap isDone (sym answered ∙ done-by (r .answer) n))
+      ∙ ap (λ (t : Bool). when t then lowestFree (isOpen (formOf g) before) else noPlace) (ap isDone (sym answered ∙ done-by (r .answer) n))
 
   -- the place is one of the 32, it was free, and every lower one was taken
   pub open-lowest : numberOf (r .answer) ≡ 0
-      → (r .place < placeCount) × (isOpen before (r .place) ≡ false) × ((q : ℕ) → q < r .place → isOpen before q ≡ true)
+      → (r .place < placeCount) × (isOpen (formOf g) before (r .place) ≡ false) × ((q : ℕ) → q < r .place → isOpen (formOf g) before q ≡ true)
   open-lowest n =
       let d : openAnswer g before ≡ Done = sym answered ∙ done-by (r .answer) n in (
         subst (λ (p : ℕ). p < placeCount) (sym (given n)) (open-done before g d .1),
-        subst (λ (p : ℕ). isOpen before p ≡ false) (sym (given n)) (lowest-free g before d),
+        subst (λ (p : ℕ). isOpen (formOf g) before p ≡ false) (sym (given n)) (lowest-free g before d),
         λ q l. lower-taken g before q (subst (λ (p : ℕ). q < p) (given n) l),
       )
 
   -- 13 is given exactly where the graph is accepted and all 32 are taken
-  pub open-13 : r .answer ≡ NoPlaceFree → (tableLength ≤ length before) × (judged g ≡ Done) × ((p : ℕ) → p < placeCount → isOpen before p ≡ true)
+  pub open-13 : r .answer ≡ NoPlaceFree → (tableLength (formOf g) ≤ length before) × (judged g ≡ Done) × ((p : ℕ) → p < placeCount → isOpen (formOf g) before p ≡ true)
   open-13 e = 13-full g before (sym answered ∙ e)
 
-  pub open-full : tableLength ≤ length before → judged g ≡ Done → ((p : ℕ) → p < placeCount → isOpen before p ≡ true) → r .answer ≡ NoPlaceFree
+  pub open-full : tableLength (formOf g) ≤ length before → judged g ≡ Done → ((p : ℕ) → p < placeCount → isOpen (formOf g) before p ≡ true) → r .answer ≡ NoPlaceFree
   open-full long accepted all = answered ∙ full-13 g before long accepted all
 
   -- ================ 4. OPENED AND FREED
 
   pub open-opens : WholeMarking (g .head .opening) → numberOf (r .answer) ≡ 0
-      → (isOpen after (r .place) ≡ true) × (markingAtPlace after (r .place) ≡ g .head .opening)
+      → (isOpen (formOf g) after (r .place) ≡ true) × (markingAtPlace (formOf g) after (r .place) ≡ g .head .opening)
   open-opens whole n =
       let s = open-said g before r after c .1 in
       let d : openAnswer g before ≡ Done = sym answered ∙ done-by (r .answer) n in (
-        (λ j. isOpen (s j) (given n j)) ∙ opened-place g before d,
-        (λ j. markingAtPlace (s j) (given n j)) ∙ opened-marking g before whole d,
+        (λ j. isOpen (formOf g) (s j) (given n j)) ∙ opened-place g before d,
+        (λ j. markingAtPlace (formOf g) (s j) (given n j)) ∙ opened-marking g before whole d,
       )
 
 -- only the graph's refusal and the open places decide what open gives
-pub open-decided : (g : Graph) (table table′ : List ℕ) → tableLength ≤ length table → tableLength ≤ length table′
-    → ((p : ℕ) → isOpen table p ≡ isOpen table′ p) → (r r′ : Opened) (after after′ : List ℕ)
+pub open-decided : (g : Graph) (table table′ : List ℕ) → tableLength (formOf g) ≤ length table → tableLength (formOf g) ≤ length table′
+    → ((p : ℕ) → isOpen (formOf g) table p ≡ isOpen (formOf g) table′ p) → (r r′ : Opened) (after after′ : List ℕ)
     → open-gives g table r after → open-gives g table′ r′ after′ → r ≡ r′
 open-decided g table table′ long long′ same r r′ after after′ c c′ =
     open-said g table r after c .0 ∙ opened-ext g table table′ long long′ same ∙ sym (open-said g table′ r′ after′ c′ .0)
 
 pub close-frees : (g : Graph) (before : List ℕ) (p : ℕ) (x : Answer) (after : List ℕ) → close-gives g before p x after → numberOf x ≡ 0
-    → (isOpen after p ≡ false) × (markingAtPlace after p ≡ emptyMarking)
+    → (isOpen (formOf g) after p ≡ false) × (markingAtPlace (formOf g) after p ≡ emptyMarking)
 close-frees g before p x after c n =
     let s = close-said g before p x after c in
     let d : closeAnswer g before p ≡ Done = sym (s .0) ∙ done-by x n in (
-      ap (λ (t : List ℕ). isOpen t p) (s .1) ∙ closed-place g before p d,
-      ap (λ (t : List ℕ). markingAtPlace t p) (s .1) ∙ closed-marking g before p d,
+      ap (λ (t : List ℕ). isOpen (formOf g) t p) (s .1) ∙ closed-place g before p d,
+      ap (λ (t : List ℕ). markingAtPlace (formOf g) t p) (s .1) ∙ closed-marking g before p d,
     )

@@ -56,7 +56,7 @@ use Rattle.graphfile.proofs.LoneMarkings.{WholeMarking}
 use Rattle.rules.specs.declared.Profile.{Profile}
 use Rattle.miner.specs.declared.mining.Mined.{Mined}
 use Rattle.desk.specs.Places.{isOpen, markingAtPlace}
-use Rattle.desk.specs.Desk.{openAnswer, openedOf, stepAnswer, tableStepped}
+use Rattle.desk.specs.Desk.{formOf, openAnswer, openedOf, stepAnswer, tableStepped}
 use Rattle.desk.proofs.Serving.{open-accepted}
 use Rattle.desk.proofs.OnePlace.{stepped-marking}
 use Rattle.desk.specs.declared.requests.Opened.{Opened}
@@ -172,20 +172,20 @@ module _ (head : Head) (c r i x : List ℕ) where
 
 module _ (g : Graph) (before left : List ℕ) where
   pub open-true : WholeMarking (g .head .opening) → (r : Opened) → desk.open-gives g before r left → numberOf (r .answer) ≡ 0
-      → T (trueOn g (markingAtPlace left (r .place)))
+      → T (trueOn g (markingAtPlace (formOf g) left (r .place)))
   unfolding openedOf
   open-true w r c d =
       let said = desk.open-said g before r left c .0 in
       let done = done-is (openAnswer g before) (ap (λ (x : Opened). isDone (x .answer)) (sym said) ∙ ap (λ (n : ℕ). eqb n 0) d) in
       subst (λ (m : Marking). T (trueOn g m)) (sym (desk.open-opens g before r left c w d .1)) (judged-true g 0 (open-accepted before g done))
 
-  pub desk-step-true : (p a : ℕ) (x : Answer) → desk.step-gives g before p a x left → numberOf x ≡ 0 → T (trueOn g (markingAtPlace left p))
+  pub desk-step-true : (p a : ℕ) (x : Answer) → desk.step-gives g before p a x left → numberOf x ≡ 0 → T (trueOn g (markingAtPlace (formOf g) left p))
   desk-step-true p a x c d =
       let said = desk.step-said g before p a x left c in
       let done = done-is (stepAnswer g before p a) (ap isDone (sym (said .0)) ∙ ap (λ (n : ℕ). eqb n 0) d) in
       subst (λ (m : Marking). T (trueOn g m))
-      (sym (ap (λ (t : List ℕ). markingAtPlace t p) (said .1) ∙ stepped-marking g before p a done))
-      (marked-true (g .head .events) (relationsOf g) (after (relationsOf g) (markingAtPlace before p .state) a))
+      (sym (ap (λ (t : List ℕ). markingAtPlace (formOf g) t p) (said .1) ∙ stepped-marking g before p a done))
+      (marked-true (g .head .events) (relationsOf g) (after (relationsOf g) (markingAtPlace (formOf g) before p .state) a))
 
 -- ================ 2. 16, EXACTLY WHERE A SET IS FALSE
 

@@ -26,6 +26,7 @@ use Rattle.graphfile.proofs.LoneMarkings.{WholeMarking}
 use Rattle.finish.specs.Ways.{mostSteps, wayOf, fewest, finishedBy, shortestOf, finishOf}
 use Rattle.finish.specs.declared.search.Finished.{Finished}
 use Rattle.desk.specs.Places.{tableLength, isOpen, markingAtPlace, SameAt}
+use Rattle.desk.specs.Desk.{formOf}
 use Rattle.desk.specs.Histories.{Request, Call, none, since, callAt}
 use Rattle.desk.specs.WayOut.{finishedAt, finishBy}
 use Rattle.desk.proofs.WayOut.{finish-same, finish-own}
@@ -65,38 +66,38 @@ never-14 g m = by (isDone (judgedWith g m)) (ltb mostSteps (fewest (g .head .eve
     by false lost = found-one _ _ _ (λ (a : Answer). T (eqb (numberOf a) 14) → ⊥) (λ h. h) (λ h. h) (λ h. h) (λ h. h)
 
 module _ (g : Graph) (table : List ℕ) (p : ℕ) (f : Finished) (c : place-gives g table p f) where
-  by-tests : (short there : Bool) → ltb (length table) tableLength ≡ short → isOpen table p ≡ there
-      → f ≡ (when short then finishedBy BufferTooSmall [] else when non there then finishedBy NotOpen [] else finishOf g (markingAtPlace table p))
+  by-tests : (short there : Bool) → ltb (length table) (tableLength (formOf g)) ≡ short → isOpen (formOf g) table p ≡ there
+      → f ≡ (when short then finishedBy BufferTooSmall [] else when non there then finishedBy NotOpen [] else finishOf g (markingAtPlace (formOf g) table p))
   unfolding finishedAt
   by-tests short there s o =
       place-said g table p f c
-      ∙ ap₂ (λ (x y : Bool). when x then finishedBy BufferTooSmall [] else when non y then finishedBy NotOpen [] else finishOf g (markingAtPlace table p)) s o
+      ∙ ap₂ (λ (x y : Bool). when x then finishedBy BufferTooSmall [] else when non y then finishedBy NotOpen [] else finishOf g (markingAtPlace (formOf g) table p)) s o
 
   -- ================ 1. 7, THEN 14 EXACTLY WHERE THE PLACE IS NOT OPEN
 
-  pub place-7 : length table < tableLength → f ≡ finishedBy BufferTooSmall []
-  place-7 l = by-tests true (isOpen table p) (lt-ltb (length table) tableLength l) refl
+  pub place-7 : length table < tableLength (formOf g) → f ≡ finishedBy BufferTooSmall []
+  place-7 l = by-tests true (isOpen (formOf g) table p) (lt-ltb (length table) (tableLength (formOf g)) l) refl
 
-  module _ (long : tableLength ≤ length table) where
-    pub place-14 : isOpen table p ≡ false → f ≡ finishedBy NotOpen []
+  module _ (long : tableLength (formOf g) ≤ length table) where
+    pub place-14 : isOpen (formOf g) table p ≡ false → f ≡ finishedBy NotOpen []
     unfolding non
-    place-14 e = by-tests false false (le-ltb (length table) tableLength long) e
+    place-14 e = by-tests false false (le-ltb (length table) (tableLength (formOf g)) long) e
 
     -- ================ 2. AT AN OPEN PLACE, WHAT FINISH GIVES AT ITS MARKING
 
-    pub place-finishes : isOpen table p ≡ true → finish-gives g (markingAtPlace table p) f
+    pub place-finishes : isOpen (formOf g) table p ≡ true → finish-gives g (markingAtPlace (formOf g) table p) f
     unfolding non
-    place-finishes e = (tt, (g, (markingAtPlace table p, tt)), by-tests false true (le-ltb (length table) tableLength long) e)
+    place-finishes e = (tt, (g, (markingAtPlace (formOf g) table p, tt)), by-tests false true (le-ltb (length table) (tableLength (formOf g)) long) e)
 
-  pub 14-place : numberOf (f .answer) ≡ 14 → (tableLength ≤ length table) × (isOpen table p ≡ false)
+  pub 14-place : numberOf (f .answer) ≡ 14 → (tableLength (formOf g) ≤ length table) × (isOpen (formOf g) table p ≡ false)
   unfolding non
-  14-place e = by (ltb (length table) tableLength) (isOpen table p) refl refl
+  14-place e = by (ltb (length table) (tableLength (formOf g))) (isOpen (formOf g) table p) refl refl
     where
-      by : (short there : Bool) → ltb (length table) tableLength ≡ short → isOpen table p ≡ there
-          → (tableLength ≤ length table) × (isOpen table p ≡ false)
+      by : (short there : Bool) → ltb (length table) (tableLength (formOf g)) ≡ short → isOpen (formOf g) table p ≡ there
+          → (tableLength (formOf g) ≤ length table) × (isOpen (formOf g) table p ≡ false)
       by true there s o = absurd (subst Is14 (by-tests true there s o) (is-14 f e))
-      by false true s o = absurd (never-14 g (markingAtPlace table p) (subst Is14 (by-tests false true s o) (is-14 f e)))
-      by false false s o = (ltb-false (length table) tableLength s, o)
+      by false true s o = absurd (never-14 g (markingAtPlace (formOf g) table p) (subst Is14 (by-tests false true s o) (is-14 f e)))
+      by false false s o = (ltb-false (length table) (tableLength (formOf g)) s, o)
 
 -- ================ 3. ISOLATION
 
@@ -127,7 +128,7 @@ module _ (g : Graph) (whole : WholeMarking (g .head .opening)) where
       finish-isolated history table h p f c ∙ ap (finishBy g) agree ∙ sym (finish-isolated history′ table′ h′ p f′ c′)
 
 -- so a request at another place (Desk, `..-elsewhere`) never shows
-pub finish-unmoved : (g : Graph) (p : ℕ) (before after : List ℕ) → SameAt p before after → (f f′ : Finished)
+pub finish-unmoved : (g : Graph) (p : ℕ) (before after : List ℕ) → SameAt (formOf g) p before after → (f f′ : Finished)
     → place-gives g before p f → place-gives g after p f′ → f ≡ f′
 finish-unmoved g p before after same f f′ c c′ =
     place-said g before p f c ∙ sym (finish-same g p before after same) ∙ sym (place-said g after p f′ c′)

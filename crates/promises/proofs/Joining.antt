@@ -12,14 +12,15 @@ use lib.Dec.{ltb}
 use lib.ListN.{length, set, length-set}
 use lib.Seq.{set-getD}
 use Rattle.sets.specs.Tests.{_or_, non, when_then_else_}
-use Rattle.sets.specs.Members.{width, bitsOf, those}
+use Rattle.sets.specs.Members.{word, bitsOf, those}
 use Rattle.bytes.specs.Numbers.{littleEndian}
 use Rattle.sets.proofs.Bits.{bitsOf-lt, is-bitsOf, bit-or, bit-bitsOf}
-use Rattle.bytes.specs.Sets.{setLength, setBytes}
+use Rattle.bytes.proofs.Codec.{length-number}
+use Rattle.bytes.specs.Sets.{wordLength, setBytes}
 use Rattle.bytes.proofs.SetLaws as set-laws
 use Rattle.rules.specs.Traces.{Traces}
 use Rattle.rules.specs.Mining.{event, before, precedes, answers, chained, alternates, followed, between}
-use Rattle.months.specs.Layout.{setCount, firstRow, rowsEnd, firstPair, setsFrom, activitiesIn}
+use Rattle.months.specs.Layout.{tallyWidth, setCount, firstRow, rowsEnd, firstPair, setsFrom, activitiesIn}
 use Rattle.months.specs.Tallies.{asked, held, tallyOf}
 use Rattle.months.specs.Months.{bytesOr, joined}
 use Rattle.months.proofs.Bytewise.{length-or}
@@ -109,14 +110,17 @@ numbers-or zero x y = refl
 numbers-or (suc n) x y =
     ap₂ _∷_ (sym (or-mod x y 8)) (numbers-or n (x / 256) (y / 256) ∙ ap (littleEndian n) (sym (or-shr x y 8)))
 
-sets-or : (p q : ℕ → Bool) → bytesOr (setBytes (those p)) (setBytes (those q)) ≡ setBytes (those (λ x. p x or q x))
-unfolding setBytes those
+sets-or : (p q : ℕ → Bool) → bytesOr (setBytes false (those p)) (setBytes false (those q)) ≡ setBytes false (those (λ x. p x or q x))
+unfolding setBytes those bytesOr
 sets-or p q =
-    numbers-or setLength (bitsOf width p) (bitsOf width q)
-    ∙ ap (littleEndian setLength)
-    (is-bitsOf width (bitOr (bitsOf width p) (bitsOf width q)) (λ x. p x or q x)
-    (or-lt width (bitsOf width p) (bitsOf width q) (bitsOf-lt width p) (bitsOf-lt width q))
-    (λ x l. bit-or (bitsOf width p) (bitsOf width q) x ∙ ap₂ _or_ (bit-bitsOf width p x l) (bit-bitsOf width q x l)))
+    bytes-append (littleEndian wordLength (bitsOf word p)) (littleEndian wordLength (bitsOf word q)) [] []
+    (length-number wordLength (bitsOf word p) ∙ sym (length-number wordLength (bitsOf word q)))
+    ∙ ap (λ (l : List ℕ). l ++ [])
+    (numbers-or wordLength (bitsOf word p) (bitsOf word q)
+    ∙ ap (littleEndian wordLength)
+    (is-bitsOf word (bitOr (bitsOf word p) (bitsOf word q)) (λ x. p x or q x)
+    (or-lt word (bitsOf word p) (bitsOf word q) (bitsOf-lt word p) (bitsOf-lt word q))
+    (λ x l. bit-or (bitsOf word p) (bitsOf word q) x ∙ ap₂ _or_ (bit-bitsOf word p x l) (bit-bitsOf word q x l))))
 
 module _ (p q : ℕ → ℕ → Bool) where
   all-or : (n w : ℕ)
@@ -124,8 +128,8 @@ module _ (p q : ℕ → ℕ → Bool) where
   unfolding bytesOr setsFrom
   all-or zero w = refl
   all-or (suc n) w =
-      bytes-append (setBytes (those (p w))) (setBytes (those (q w))) _ _
-      (set-laws.length-set (those (p w)) ∙ sym (set-laws.length-set (those (q w))))
+      bytes-append (setBytes false (those (p w))) (setBytes false (those (q w))) _ _
+      (set-laws.length-set false (those (p w)) ∙ sym (set-laws.length-set false (those (q w))))
       ∙ ap₂ _++_ (sets-or (p w) (q w)) (all-or n (suc w))
 
 -- ---- what a tally holds, of the traces of both
@@ -158,16 +162,16 @@ module _ (L M : Traces) where
       at a b c d N =
           when a then false
           else when b then event N x
-          else when c then asked N ((w - firstRow) / width) ((w - firstRow) % width) x
+          else when c then asked N ((w - firstRow) / tallyWidth) ((w - firstRow) % tallyWidth) x
           else when d then false
-          else between N ((w - firstPair) / width) x ((w - firstPair) % width)
+          else between N ((w - firstPair) / tallyWidth) x ((w - firstPair) % tallyWidth)
 
       by : (a b c d : Bool) → at a b c d (L ++ M) ≡ (at a b c d L or at a b c d M)
       by true b c d = refl
       by false true c d = event-together x
-      by false false true d = asked-together ((w - firstRow) / width) ((w - firstRow) % width) x
+      by false false true d = asked-together ((w - firstRow) / tallyWidth) ((w - firstRow) % tallyWidth) x
       by false false false true = refl
-      by false false false false = between-together ((w - firstPair) / width) x ((w - firstPair) % width)
+      by false false false false = between-together ((w - firstPair) / tallyWidth) x ((w - firstPair) % tallyWidth)
 
 -- ---- tallies
 

@@ -27,3 +27,4 @@ pub mod TallyBuffers
 pub mod AbsentSteps
 pub mod Months
 pub mod SameTraces
+pub mod Wide

@@ -26,6 +26,7 @@ use Rattle.rules.specs.Traces.{Traces}
 use Rattle.rules.specs.Mining.{noRelations, event, step1, step2, step3, step4, step5, step6, step7, step8, step9, step10, afterFive, afterSix, afterSeven, afterEight, mined}
 use Rattle.rules.proofs.Acceptable.{mined-reasons}
 use Rattle.rules.proofs.FromFile.{file-accepted}
+use Rattle.report.specs.Lent.{mostIn}
 use Rattle.report.specs.Summary.{othersOf, countsOf, summaryOf, summaryLength, summaryAfter}
 use Rattle.report.proofs.SummaryLaws.{length-counts}
 use Rattle.port.specs.Port.{packedOf, inProfile}
@@ -69,9 +70,9 @@ module _ (n : ℕ) (above : 1 < n) where
 
 -- ================ THE SUMMARY
 
-count-at : (r : Relation) (s : ℕ) → s < width → getD (countsOf r) s 0 ≡ othersOf r s
+count-at : (n : ℕ) (r : Relation) (s : ℕ) → s < n → getD (countsOf n r) s 0 ≡ othersOf r s
 unfolding countsOf
-count-at r s l = getD-listFrom width 0 (othersOf r) s l ∙ ap (othersOf r) (zero-add s)
+count-at n r s l = getD-listFrom n 0 (othersOf r) s l ∙ ap (othersOf r) (zero-add s)
 
 none-below : (w : ℕ) (p : ℕ → Bool) → ((a : ℕ) → p a ≡ false) → countBelow w p ≡ 0
 unfolding countBelow
@@ -92,47 +93,47 @@ module _ (bytes : List ℕ) (p : Profile) (before : List ℕ) (r : Answer) (afte
   unfolding summaryAfter
   summary-nothing n =
       let h = write-summary-said bytes p before r after c in
-      h .1 ∙ ap (λ (b : Bool). when b then summaryOf bytes p ++ drop summaryLength before else before) (ap isDone (sym (h .0)) ∙ n)
+      h .1 ∙ ap (λ (b : Bool). when b then summaryOf bytes p ++ drop (summaryLength bytes) before else before) (ap isDone (sym (h .0)) ∙ n)
 
   module _ (d : numberOf r ≡ 0) where
-    filled : after ≡ countsOf (mined L p .conditions) ++ countsOf (mined L p .excludes) ++ drop summaryLength before
+    filled : after ≡ countsOf (mostIn bytes) (mined L p .conditions) ++ countsOf (mostIn bytes) (mined L p .excludes) ++ drop (summaryLength bytes) before
     unfolding summaryAfter summaryOf
     filled =
         let h = write-summary-said bytes p before r after c in
         h .1
-        ∙ ap (λ (b : Bool). when b then summaryOf bytes p ++ drop summaryLength before else before)
+        ∙ ap (λ (b : Bool). when b then summaryOf bytes p ++ drop (summaryLength bytes) before else before)
         (ap isDone (sym (h .0)) ∙ ap (λ (n : ℕ). eqb n 0) d)
 
-    length-both : length (countsOf (mined L p .conditions) ++ countsOf (mined L p .excludes)) ≡ width + width
+    length-both : length (countsOf (mostIn bytes) (mined L p .conditions) ++ countsOf (mostIn bytes) (mined L p .excludes)) ≡ mostIn bytes + mostIn bytes
     length-both =
-        length-append (countsOf (mined L p .conditions)) (countsOf (mined L p .excludes))
-        ∙ ap₂ _+_ (length-counts (mined L p .conditions)) (length-counts (mined L p .excludes))
+        length-append (countsOf (mostIn bytes) (mined L p .conditions)) (countsOf (mostIn bytes) (mined L p .excludes))
+        ∙ ap₂ _+_ (length-counts (mostIn bytes) (mined L p .conditions)) (length-counts (mostIn bytes) (mined L p .excludes))
 
     -- the byte of a place is that of the counts
-    at-place : (i : ℕ) → i < width + width → getD after i 0 ≡ getD (countsOf (mined L p .conditions) ++ countsOf (mined L p .excludes)) i 0
+    at-place : (i : ℕ) → i < mostIn bytes + mostIn bytes → getD after i 0 ≡ getD (countsOf (mostIn bytes) (mined L p .conditions) ++ countsOf (mostIn bytes) (mined L p .excludes)) i 0
     at-place i h =
         ap (λ (x : List ℕ). getD x i 0) filled
-        ∙ List·getD-append (countsOf (mined L p .conditions) ++ countsOf (mined L p .excludes)) _ 0 i (omega (arith, length-both))
+        ∙ List·getD-append (countsOf (mostIn bytes) (mined L p .conditions) ++ countsOf (mostIn bytes) (mined L p .excludes)) _ 0 i (omega (arith, length-both))
 
-    module _ (s : ℕ) (l : s < width) where
+    module _ (s : ℕ) (l : s < mostIn bytes) where
       -- byte s: how many pairs s to t the conditions have, with t other than s
       pub summary-conditions : getD after s 0 ≡ countBelow width (λ t. mined L p .conditions s t and non (eqb t s))
       summary-conditions =
           at-place s (omega arith)
-          ∙ List·getD-append (countsOf (mined L p .conditions)) _ 0 s (omega (arith, length-counts (mined L p .conditions)))
-          ∙ count-at (mined L p .conditions) s l
+          ∙ List·getD-append (countsOf (mostIn bytes) (mined L p .conditions)) _ 0 s (omega (arith, length-counts (mostIn bytes) (mined L p .conditions)))
+          ∙ count-at (mostIn bytes) (mined L p .conditions) s l
 
-      -- byte 64 + s: the same of the excludes
-      pub summary-excludes : getD after (width + s) 0 ≡ countBelow width (λ t. mined L p .excludes s t and non (eqb t s))
+      -- byte 64 + s, in edition 2 byte 128 + s: the same of the excludes
+      pub summary-excludes : getD after (mostIn bytes + s) 0 ≡ countBelow width (λ t. mined L p .excludes s t and non (eqb t s))
       summary-excludes =
-          at-place (width + s) (omega arith)
-          ∙ ap (λ (n : ℕ). getD (countsOf (mined L p .conditions) ++ countsOf (mined L p .excludes)) (n + s) 0)
-          (sym (length-counts (mined L p .conditions)))
-          ∙ getD-append-add (countsOf (mined L p .conditions)) (countsOf (mined L p .excludes)) s 0
-          ∙ count-at (mined L p .excludes) s l
+          at-place (mostIn bytes + s) (omega arith)
+          ∙ ap (λ (n : ℕ). getD (countsOf (mostIn bytes) (mined L p .conditions) ++ countsOf (mostIn bytes) (mined L p .excludes)) (n + s) 0)
+          (sym (length-counts (mostIn bytes) (mined L p .conditions)))
+          ∙ getD-append-add (countsOf (mostIn bytes) (mined L p .conditions)) (countsOf (mostIn bytes) (mined L p .excludes)) s 0
+          ∙ count-at (mostIn bytes) (mined L p .excludes) s l
 
       -- 0 and 0 for what is no event
-      pub summary-no-event : event L s ≡ false → (getD after s 0 ≡ 0) × (getD after (width + s) 0 ≡ 0)
+      pub summary-no-event : event L s ≡ false → (getD after s 0 ≡ 0) × (getD after (mostIn bytes + s) 0 ≡ 0)
       summary-no-event n =
           let why = mined-reasons (logOf bytes .activities) L (file-accepted bytes) p in (
             summary-conditions ∙ no-others (mined L p .conditions) s (λ t h. false→F n (why .condition s t h .0 .0)),

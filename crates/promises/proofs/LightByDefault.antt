@@ -142,11 +142,11 @@ module _ (log before : List ℕ) (r : Listed) (after : List ℕ) where
   in-default argument = listed-in 0 argument Light refl
 
   -- the program's buffer has room for any listing, and it writes out as many bytes as it is given
-  module _ (room : longestListing ≤ length before) where
+  module _ (room : longestListing log ≤ length before) where
     written : (p : Profile) → ListedIn p → take (r .length) after ≡ listingOf log p
     unfolding listedOf listingAfter
     written p h =
-        let enough = le-ltb (length before) longestListing room in
+        let enough = le-ltb (length before) (longestListing log) room in
         let given : r .length ≡ length (listingOf log p) =
         ap (λ (x : Listed). x .length) (h .0) ∙ ap (λ (b : Bool). (when b then tooSmall else whole p) .length) enough in
         let held : after ≡ listingOf log p ++ drop (length (listingOf log p)) before =
@@ -174,7 +174,7 @@ default-is-light log before r s after left argument c d =
 
 -- ================ THE LOG L
 
-module _ (before : List ℕ) (room : longestListing ≤ length before) (r : Listed) (after : List ℕ) where
+module _ (before : List ℕ) (room : longestListing file ≤ length before) (r : Listed) (after : List ℕ) where
   pub full-of-L : asked-for 1 fullWord file before r after → take (r .length) after ≡ printed
   full-of-L c = full-listing file before r after room c ∙ listing-of-L .0
 

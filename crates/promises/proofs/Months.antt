@@ -13,14 +13,14 @@ use mathlib.Core.Path.{_≡_, refl, sym, ap, subst, _∙_}
 use mathlib.Core.Bool.{Bool, true, false}
 use mathlib.Core.Logic.{_⊎_, inl, inr}
 use mathlib.Core.List.{List, [], _∷_, _++_, List·Memᴰ}
-use Prim.Native.Nat.{ℕ, max, _≤_}
+use Prim.Native.Nat.{ℕ, max, _≤_, _<_}
 use native.Mathlib.Omega.{arith}
-use borrow.Author.Tests.{le-ltb}
+use borrow.Author.Tests.{lt-ltb, le-ltb}
 use denote.Ref.{now}
 use lib.Dec.{T, eqb}
 use lib.ListN.{length, take, drop}
 use Rattle.sets.specs.Tests.{_or_, when_then_else_}
-use Rattle.sets.specs.Sizes.{mostActivities, longestTrace}
+use Rattle.sets.specs.Sizes.{longestTrace}
 use Rattle.sets.specs.Members.{noSet, those}
 use Rattle.sets.specs.Tables.{noTables}
 use Rattle.sets.specs.Answers.{numberOf, isDone, thenAsk}
@@ -45,8 +45,7 @@ use Rattle.rules.specs.Replays.{Replays}
 use Rattle.rules.proofs.Why.{Reasons, reasons-eight}
 use Rattle.rules.proofs.Acceptable.{small, acceptable-by}
 use Rattle.rules.proofs.Demand3.{demand3-eight}
-use Rattle.rules.proofs.FromFile.{file-accepted}
-use Rattle.months.specs.Layout.{tallyLength, activitiesIn, setIn}
+use Rattle.months.specs.Layout.{tallyWidth, tallyLength, activitiesIn, setIn}
 use Rattle.months.specs.Readings.{tablesIn, betweenIn, relationsFrom}
 use Rattle.months.specs.Months.{room, tooFew, tooMany, fillAnswer, filledOf, joinAnswer, joinedOf, knownAnswer, knownOf}
 use Rattle.months.specs.declared.reading.Known.{Known}
@@ -102,12 +101,19 @@ module _ (log before : List ℕ) (a : Answer) (after : List ℕ) (c : fill-gives
       ap numberOf (fill-said log before a after c .0
       ∙ ap (λ (x : Answer). thenAsk x (room (tooFew before) (tooMany (logOf log .activities)))) (log-answer log))
 
-  -- so it is done for every accepted log, where the buffer has room
-  pub fill-done : judgedLog log ≡ Done → tallyLength ≤ length before → numberOf a ≡ 0
-  fill-done d l =
+  -- of an accepted log, where the buffer has room, A alone decides
+  accepted-number : judgedLog log ≡ Done → tallyLength ≤ length before → numberOf a ≡ numberOf (room false (tooMany (logOf log .activities)))
+  accepted-number d l =
       fill-number
       ∙ ap (λ (x : Answer). numberOf (thenAsk x (room (tooFew before) (tooMany (logOf log .activities))))) d
-      ∙ (λ i. numberOf (room (le-ltb (length before) tallyLength l i) (le-ltb mostActivities (logOf log .activities) (file-accepted log .activities) i)))
+      ∙ ap (λ (few : Bool). numberOf (room few (tooMany (logOf log .activities)))) (le-ltb (length before) tallyLength l)
+
+  -- so it is done for every accepted log with A up to 64, and 3 for one with more
+  pub fill-done : judgedLog log ≡ Done → tallyLength ≤ length before → logOf log .activities ≤ tallyWidth → numberOf a ≡ 0
+  fill-done d l n = accepted-number d l ∙ ap (λ (many : Bool). numberOf (room false many)) (le-ltb tallyWidth (logOf log .activities) n)
+
+  pub fill-above : judgedLog log ≡ Done → tallyLength ≤ length before → tallyWidth < logOf log .activities → numberOf a ≡ 3
+  fill-above d l n = accepted-number d l ∙ ap (λ (many : Bool). numberOf (room false many)) (lt-ltb tallyWidth (logOf log .activities) n)
 
   pub fill-stays : Refused a → after ≡ before
   fill-stays r =

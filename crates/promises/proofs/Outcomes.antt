@@ -41,6 +41,11 @@ use Rattle.bytes.proofs.number.number_at.Reads as number-at
 use Rattle.bytes.proofs.number.put_number.Reads as put-number
 use Rattle.bytes.proofs.set.set_at.Reads as set-at
 use Rattle.bytes.proofs.set.put_set.Reads as put-set
+use Rattle.bytes.proofs.set.length.Reads as set-length
+use Rattle.bytes.proofs.edition.edition_for.Reads as edition-for
+use Rattle.bytes.proofs.edition.edition_in.Reads as edition-in
+use Rattle.bytes.proofs.edition.opens_file.Reads as opens-file
+use Rattle.bytes.proofs.edition.is_beyond.Reads as is-beyond
 use Rattle.engine.proofs.marking.State.of.Reads as State-of
 use Rattle.engine.proofs.marking.State.opening.Reads as State-opening
 use Rattle.engine.proofs.enabled.enabled_set.Reads as enabled-set
@@ -94,7 +99,12 @@ use Rattle.graphfile.proofs.marking.read_marking_at.Reads as read-marking-at
 use Rattle.graphfile.proofs.marking.write_marking_at.Reads as write-marking-at
 use Rattle.graphfile.proofs.marking.read_marking.Reads as read-marking
 use Rattle.graphfile.proofs.marking.write_marking.Reads as write-marking
+use Rattle.graphfile.proofs.marking.length.Reads as marking-length
+use Rattle.graphfile.proofs.head.length.Reads as head-length
+use Rattle.graphfile.proofs.is_wide.Reads as is-wide
+use Rattle.graphfile.proofs.wide_for.Reads as wide-for
 use Rattle.desk.proofs.requests.judge_place.Reads as desk-judge-place
+use Rattle.desk.proofs.table.length.Reads as desk-table-length
 use Rattle.desk.proofs.requests.open.Reads as desk-open
 use Rattle.desk.proofs.requests.step.Reads as desk-step
 use Rattle.desk.proofs.requests.step_on.Reads as desk-step-on
@@ -110,6 +120,8 @@ use Rattle.steps.proofs.relations.union_of.Reads as union-of
 use Rattle.steps.proofs.relations.waited.Reads as waited
 use Rattle.steps.proofs.reduce.reduced.Reads as reduced
 use Rattle.tally.proofs.log.empty.Reads as log-empty
+use Rattle.tally.proofs.in_form.Reads as in-form
+use Rattle.tally.proofs.log.note_traces_in.Reads as log-note-traces-in
 use Rattle.tally.proofs.log.note_traces.Reads as log-note-traces
 use Rattle.miner.proofs.conditions_eight.Reads as conditions-eight
 use Rattle.miner.proofs.excluded_five.Reads as excluded-five
@@ -295,6 +307,21 @@ set-at-once κ a r r′ s s′ h h′ = h ∙ sym h′
 
 pub put-set-once : OnceLeft put-set.Post (λ κ s. now (s .0))
 put-set-once κ a r r′ s s′ h h′ = h ∙ sym h′
+
+pub set-length-once : Once set-length.Post
+set-length-once κ a r r′ s s′ h h′ = h ∙ sym h′
+
+pub edition-for-once : Once edition-for.Post
+edition-for-once κ a r r′ s s′ h h′ = h ∙ sym h′
+
+pub edition-in-once : Once edition-in.Post
+edition-in-once κ a r r′ s s′ h h′ = h ∙ sym h′
+
+pub opens-file-once : Once opens-file.Post
+opens-file-once κ a r r′ s s′ h h′ = h ∙ sym h′
+
+pub is-beyond-once : Once is-beyond.Post
+is-beyond-once κ a r r′ s s′ h h′ = h ∙ sym h′
 
 -- ---- engine
 
@@ -489,10 +516,25 @@ read-marking-once κ a r r′ s s′ h h′ = h ∙ sym h′
 pub write-marking-once : OnceLeft write-marking.Post (λ κ s. now (s .1 .0))
 write-marking-once κ a r r′ s s′ h h′ = h ∙ sym h′
 
+pub marking-length-once : Once marking-length.Post
+marking-length-once κ a r r′ s s′ h h′ = h ∙ sym h′
+
+pub head-length-once : Once head-length.Post
+head-length-once κ a r r′ s s′ h h′ = h ∙ sym h′
+
+pub is-wide-once : Once is-wide.Post
+is-wide-once κ a r r′ s s′ h h′ = h ∙ sym h′
+
+pub wide-for-once : Once wide-for.Post
+wide-for-once κ a r r′ s s′ h h′ = h ∙ sym h′
+
 -- ---- desk
 
 pub desk-judge-place-once : Once desk-judge-place.Post
 desk-judge-place-once κ a r r′ s s′ h h′ = h ∙ sym h′
+
+pub desk-table-length-once : Once desk-table-length.Post
+desk-table-length-once κ a r r′ s s′ h h′ = h ∙ sym h′
 
 pub desk-open-once : OnceLent desk-open.Post (λ κ s. now (s .1 .1 .0))
 desk-open-once κ a r r′ s s′ h h′ = (h .0 ∙ sym (h′ .0), h .1 ∙ sym (h′ .1))
@@ -542,6 +584,12 @@ reduced-once κ a r r′ s s′ h h′ = h ∙ sym h′
 
 pub log-empty-once : Once log-empty.Post
 log-empty-once κ a r r′ s s′ h h′ = h ∙ sym h′
+
+pub in-form-once : Once in-form.Post
+in-form-once κ a r r′ s s′ h h′ = h ∙ sym h′
+
+pub log-note-traces-in-once : OnceLent log-note-traces-in.Post (λ κ s. now (s .1 .1 .1 .0))
+log-note-traces-in-once κ a r r′ s s′ h h′ = (h .0 ∙ sym (h′ .0), h .1 ∙ sym (h′ .1))
 
 pub log-note-traces-once : OnceLent log-note-traces.Post (λ κ s. now (s .1 .1 .0))
 log-note-traces-once κ a r r′ s s′ h h′ = (h .0 ∙ sym (h′ .0), h .1 ∙ sym (h′ .1))

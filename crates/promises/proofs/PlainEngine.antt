@@ -3,12 +3,12 @@
 -- `plain-X-gives head c r i x ..` says that X of the plain engine may give this, by its own contract, for a graph with this head whose lists of
 -- conditions, responses, includes and excludes are c, r, i, x. `X-gives` is the same of the engine on sets (Contracts).
 --
--- 1. `same-..`: any graph value, accepted or not, and any four lists of at most 4,096 pairs that hold just its pairs: enabled, step, execute,
+-- 1. `same-..`: any graph value, accepted or not, and any four lists of at most 16,384 pairs that hold just its pairs: enabled, step, execute,
 --    accepting and replay of both engines give the same answer, marking, place and verdict, for every marking, every activity from 0 to 255 and
 --    every trace.
 -- 2. `order-..`: two times four lists with the same members, in any order and however often: the same.
 -- 3. `fill-holds`: what fill puts down of a graph's relations are such lists; it answers 7 and changes nothing where the memory is too small,
---    and 4,096 numbers are always enough.
+--    and 16,384 numbers are always enough.
 use mathlib.Core.Path.{_≡_, refl, sym, ap, subst, _∙_}
 use mathlib.Core.Bool.{Bool, true, false}
 use mathlib.Core.List.{List, _++_}
@@ -220,7 +220,7 @@ module _ (tables : List ℕ) (k : ℕ) (before : List ℕ) (f : Filled) (after :
       let e = enough (F→false _ t) in
       (λ j. take (e .0 j .pairs) (e .1 j)) ∙ take-append-seam pairs (drop (length pairs) before))
 
-  -- 4,096 numbers are always enough
+  -- 16,384 numbers are always enough
   pub fill-fits : mostPairs ≤ length before → f .answer ≡ Done
   fill-fits l =
       let many = pairs-fit (relationAt tables k) in

@@ -14,11 +14,10 @@ use Rattle.sets.specs.Members.{noSet, those}
 use Rattle.sets.specs.Tables.{noTables}
 use Rattle.sets.specs.declared.set.Set.{Set}
 use Rattle.sets.specs.Answers.{isDone}
-use Rattle.sets.specs.Sizes.{mostActivities}
 use Rattle.sets.specs.declared.answer.Answer.{Answer}
 use Rattle.sets.specs.declared.answer.Answer.the-variants.{Done, AboveLimit, BufferTooSmall}
 use Rattle.sets.proofs.Tests.{neither, nor, or-comm, T→true, F→false, split, either}
-use Rattle.sets.proofs.Asking.{done-is, went}
+use Rattle.sets.proofs.Asking.{done-is, both, went}
 use Rattle.bytes.proofs.Parts.{part-room}
 use Rattle.engine.specs.Relations.{relationCount, tablesFrom}
 use Rattle.calllog.specs.Logs.{logOf}
@@ -26,14 +25,15 @@ use Rattle.rules.specs.declared.Profile.{Profile}
 use Rattle.rules.specs.Traces.{Traces}
 use Rattle.rules.specs.Mining.{event, afterEight}
 use Rattle.rules.specs.Replays.{Accepted}
+use Rattle.rules.proofs.Places.{some-trace}
 use Rattle.rules.proofs.FromFile.{file-accepted}
-use Rattle.months.specs.Layout.{tallyLength, activitiesIn, setIn}
+use Rattle.months.specs.Layout.{tallyWidth, tallyLength, activitiesIn, setIn}
 use Rattle.months.specs.Tallies.{tallyOf}
 use Rattle.months.specs.Readings.{tablesIn, betweenIn, relationsFrom}
 use Rattle.months.specs.declared.reading.Known.{Known}
 use Rattle.months.specs.Months.{room, tooFew, tooMany, fillAnswer, filledOf, joinAnswer, joined, joinedOf, knownAnswer, knownOf}
 use Rattle.months.proofs.Holding.{activities-held, length-held}
-use Rattle.months.proofs.AfterEight.{events-held, relations-held}
+use Rattle.months.proofs.AfterEight.{Held, events-held, relations-held}
 use Rattle.promises.specs.Months.{TallyOf}
 use Rattle.promises.proofs.Together.{of-either}
 use Rattle.promises.proofs.Joining.{joined-comm, joined-assoc, joined-self, joined-length, tallies-joined}
@@ -51,11 +51,16 @@ module _ {t : List ℕ} {A : ℕ} {L : Traces} (h : TallyOf t A L) where
   enough = le-ltb (length t) tallyLength has-room
 
   not-above : tooMany (activitiesIn t) ≡ false
-  not-above = ap tooMany its-activities ∙ le-ltb mostActivities A (h .limits .activities)
+  not-above = ap tooMany its-activities ∙ le-ltb tallyWidth A (h .narrow)
 
   pub known-done : knownAnswer t ≡ Done
   unfolding knownAnswer
   known-done i = room (enough i) (not-above i)
+
+  -- its traces have no activity that a tally cannot hold
+  its-traces : Held L
+  unfolding event
+  its-traces a e = let σ = some-trace L _ e in lt-of-lt-of-le (h .limits .members (σ .0) (σ .1) a (σ .2)) (h .narrow)
 
   -- ---- what is read from it
 
@@ -63,11 +68,11 @@ module _ {t : List ℕ} {A : ℕ} {L : Traces} (h : TallyOf t A L) where
   whole = sym (take-append-drop tallyLength t) ∙ ap (λ (l : List ℕ). l ++ drop tallyLength t) (h .tally)
 
   its-events : setIn t 1 ≡ those (event L)
-  its-events = ap (λ (l : List ℕ). setIn l 1) whole ∙ events-held A L (drop tallyLength t)
+  its-events = ap (λ (l : List ℕ). setIn l 1) whole ∙ events-held A L its-traces (drop tallyLength t)
 
   its-relations : (p : Profile) → relationsFrom (setIn t 1) (tablesIn t) (betweenIn t) p ≡ tablesFrom (afterEight L p)
   its-relations p =
-      ap (λ (l : List ℕ). relationsFrom (setIn l 1) (tablesIn l) (betweenIn l) p) whole ∙ relations-held A L (drop tallyLength t) p
+      ap (λ (l : List ℕ). relationsFrom (setIn l 1) (tablesIn l) (betweenIn l) p) whole ∙ relations-held A L its-traces (drop tallyLength t) p
 
   -- THE THEOREM of reading: A, the events and the relations of steps 1 to 8
   pub known-eight : (p : Profile)
@@ -170,7 +175,7 @@ module _ {t u : List ℕ} {A B : ℕ} {L M : Traces} (h : TallyOf t A L) (k : Ta
 
   -- THE THEOREM: the tally of the larger A and of the traces taken together
   pub join-together : TallyOf (joinedOf t u) (max A B) (L ++ M)
-  join-together = record { tally = first-together; limits = limits-together A B L M (h .limits) (k .limits) }
+  join-together = record { tally = first-together; limits = limits-together A B L M (h .limits) (k .limits); narrow = max-le (h .narrow) (k .narrow) }
 
 -- the tally of A 0 and no traces changes nothing
 module _ {t u : List ℕ} {A : ℕ} {L : Traces} where
@@ -201,11 +206,18 @@ module _ (log before : List ℕ) where
     unfolding filledOf
     filled = ap (λ (a : Answer). when isDone a then tallyOf A L ++ drop tallyLength before else before) d
 
+    few-enough : A ≤ tallyWidth
+    unfolding fillAnswer
+    few-enough =
+        let asked = both (logOf log .answer) (room (tooFew before) (tooMany A)) d .1 in
+        ltb-false tallyWidth A (went (tooMany A) AboveLimit Done refl (went (tooFew before) BufferTooSmall _ refl asked .1) .0)
+
     pub fill-tally : TallyOf (filledOf log before) A L
     fill-tally =
         record {
           tally = ap (take tallyLength) filled ∙ take-at (tallyOf A L) (drop tallyLength before) tallyLength (length-held L A);
           limits = file-accepted log;
+          narrow = few-enough;
         }
 
     pub fill-rest : drop tallyLength (filledOf log before) ≡ drop tallyLength before

@@ -4,3 +4,4 @@ pub mod Counted
 pub mod Redundant
 pub mod SameTraces
 pub mod Months
+pub mod Wide

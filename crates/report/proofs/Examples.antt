@@ -14,6 +14,7 @@ use Rattle.engine.specs.Relations.{relationsOf}
 use Rattle.engine.specs.Replay.{replayFrom}
 use Rattle.bytes.specs.Numbers.{valueOf, numberAt}
 use Rattle.bytes.specs.Opens.{opensWith}
+use Rattle.bytes.specs.Editions.{editionFor, opensFile, beyond}
 use Rattle.calllog.specs.Layout.{activitiesIn, tracesIn, offsetAt, lengthAt, bodiesStart, eventsBefore}
 use Rattle.sets.specs.Answers.{firstRefusal}
 use Rattle.calllog.specs.Judged.{allBelow, judgedHead, judgedEntry, judgedBodies, judgedContents, judgedLog}
@@ -96,7 +97,7 @@ graphs = (refl, refl)
 -- L is accepted, so its graphs need not be judged at each replay
 accepted : Accepted 3 L
 unfolding file L
-    _and_ _or_ non opensWith valueOf numberAt activitiesIn tracesIn offsetAt lengthAt bodiesStart eventsBefore
+    _and_ _or_ non opensWith opensFile editionFor beyond valueOf numberAt activitiesIn tracesIn offsetAt lengthAt bodiesStart eventsBefore
     firstRefusal allBelow judgedHead judgedEntry judgedBodies judgedContents judgedLog tracesFrom logOf
 accepted = file-accepted file
 
@@ -120,7 +121,7 @@ lines = (refl, refl)
 
 read : (p : Profile) → listingOf file p ≡ linesOf (minedGraph 3 L p) L
 unfolding file L
-    _and_ _or_ non opensWith valueOf numberAt activitiesIn tracesIn offsetAt lengthAt bodiesStart eventsBefore
+    _and_ _or_ non opensWith opensFile editionFor beyond valueOf numberAt activitiesIn tracesIn offsetAt lengthAt bodiesStart eventsBefore
     firstRefusal allBelow judgedHead judgedEntry judgedBodies judgedContents judgedLog tracesFrom logOf listingOf
 read p = refl
 

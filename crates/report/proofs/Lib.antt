@@ -4,6 +4,8 @@ pub mod Figures
 pub mod PairLaws
 pub mod LineLaws
 pub mod TraceLaws
+pub mod Lending
+pub mod Inside
 pub mod Longest
 pub mod WholeLaws
 pub mod Fitting

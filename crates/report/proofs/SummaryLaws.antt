@@ -2,7 +2,7 @@
 use mathlib.Core.Path.{_≡_, refl, sym, ap, ap₂, subst, _∙_}
 use mathlib.Core.Bool.{Bool, true, false, not}
 use mathlib.Core.List.{List, [], _∷_, _++_}
-use Prim.Native.Nat.{ℕ, zero, suc, _+_, _-_, _≤_, _<_}
+use Prim.Native.Nat.{ℕ, zero, suc, _+_, _*_, _-_, _≤_, _<_}
 use native.Mathlib.Nat.{zero-add, add-suc, suc-add}
 use native.Mathlib.Numerals.{add-one}
 use native.Mathlib.Omega.{arith}
@@ -32,8 +32,10 @@ use Rattle.rules.specs.Mining.{mined}
 use Rattle.rules.specs.Mined.{graphFrom, minedGraph}
 use Rattle.miner.specs.Mine.{minedOf}
 use Rattle.miner.specs.declared.mining.Mined.{Mined}
+use Rattle.report.specs.Lent.{mostIn}
 use Rattle.report.specs.Puts.{Put, bySource, rowCounts, summaryText}
 use Rattle.report.specs.Summary.{othersOf, countsOf, summaryOf, summaryLength, summaryAnswer, summaryAfter}
+use Rattle.report.proofs.Lending.{most-few}
 use Rattle.report.proofs.PutLaws.{Left, left-all, left-none, left-room, left-next, put-as, put-then, room-first, room-second}
 
 -- ---- one row
@@ -51,63 +53,66 @@ others-by row one rest tables table a n hr h1 hd hn =
 
 -- ---- one after another
 
-abbrev pub countsFrom : Relation → ℕ → List ℕ
-countsFrom r x = listFrom (width - x) x (othersOf r)
+abbrev pub countsFrom : ℕ → Relation → ℕ → List ℕ
+countsFrom most r x = listFrom (most - x) x (othersOf r)
 
-module _ (o : List ℕ) (a : ℕ) (tables : List ℕ) (table : ℕ) (o₁ : List ℕ) (a₁ x : ℕ)
-    (l : Left o a (rowCounts tables table) o₁ a₁ (countsFrom (inRow (tableAt tables table)) x)) where
-  module _ (n : ℕ) (h : x < width) (e : n ≡ othersOf (inRow (tableAt tables table)) x) where
-    counts-text : countsFrom (inRow (tableAt tables table)) x ≡ (n ∷ []) ++ countsFrom (inRow (tableAt tables table)) (x + 1)
+module _ (o : List ℕ) (a most : ℕ) (tables : List ℕ) (table : ℕ) (o₁ : List ℕ) (a₁ x : ℕ)
+    (l : Left o a (rowCounts most tables table) o₁ a₁ (countsFrom most (inRow (tableAt tables table)) x)) where
+  module _ (n : ℕ) (h : x < most) (e : n ≡ othersOf (inRow (tableAt tables table)) x) where
+    counts-text : countsFrom most (inRow (tableAt tables table)) x ≡ (n ∷ []) ++ countsFrom most (inRow (tableAt tables table)) (x + 1)
     unfolding listFrom
     counts-text =
         let f = othersOf (inRow (tableAt tables table)) in
-        let one : width - x ≡ suc (width - (x + 1)) = omega arith in
+        let one : most - x ≡ suc (most - (x + 1)) = omega arith in
         ap (λ (k : ℕ). listFrom k x f) one
-        ∙ ap₂ (λ (m k : ℕ). m ∷ listFrom (width - (x + 1)) k f) (sym e) (sym (add-one x))
+        ∙ ap₂ (λ (m k : ℕ). m ∷ listFrom (most - (x + 1)) k f) (sym e) (sym (add-one x))
 
-    pub counts-room : a + length (rowCounts tables table) ≤ length o → a₁ + 1 ≤ length o₁
+    pub counts-room : a + length (rowCounts most tables table) ≤ length o → a₁ + 1 ≤ length o₁
     counts-room room = left-room l (n ∷ []) _ counts-text room
 
     pub counts-turn : (o₂ : List ℕ) (a₂ : ℕ) → Put o₁ a₁ (n ∷ []) o₂ a₂
-        → Left o a (rowCounts tables table) o₂ a₂ (countsFrom (inRow (tableAt tables table)) (x + 1))
-    counts-turn o₂ a₂ p = left-next l (countsFrom (inRow (tableAt tables table)) (x + 1)) counts-text p
+        → Left o a (rowCounts most tables table) o₂ a₂ (countsFrom most (inRow (tableAt tables table)) (x + 1))
+    counts-turn o₂ a₂ p = left-next l (countsFrom most (inRow (tableAt tables table)) (x + 1)) counts-text p
 
-  pub counts-end : width ≤ x → Put o a (rowCounts tables table) o₁ a₁
+  pub counts-end : most ≤ x → Put o a (rowCounts most tables table) o₁ a₁
   unfolding listFrom
-  counts-end h = let none : width - x ≡ 0 = omega arith in left-none l (ap (λ (k : ℕ). listFrom k x (othersOf (inRow (tableAt tables table)))) none)
+  counts-end h = let none : most - x ≡ 0 = omega arith in left-none l (ap (λ (k : ℕ). listFrom k x (othersOf (inRow (tableAt tables table)))) none)
 
-pub counts-start : (o : List ℕ) (a : ℕ) (tables : List ℕ) (table : ℕ)
-    → Left o a (rowCounts tables table) o a (countsFrom (inRow (tableAt tables table)) 0)
+pub counts-start : (o : List ℕ) (a most : ℕ) (tables : List ℕ) (table : ℕ)
+    → Left o a (rowCounts most tables table) o a (countsFrom most (inRow (tableAt tables table)) 0)
 unfolding countsOf
-counts-start o a tables table = left-all o a (rowCounts tables table)
+counts-start o a most tables table =
+    let text = rowCounts most tables table in
+    let all : most ≡ most - 0 = omega arith in
+    subst (λ (n : ℕ). Left o a text o a (listFrom n 0 (othersOf (inRow (tableAt tables table))))) all (left-all o a text)
 
 pub ruleset count-by-count = (counts-start, counts-room, counts-turn, counts-end)
 
 -- ---- both relations
 
-module _ (tables c listed o : List ℕ) (hc : c ≡ withTable noRows 0 (tableAt tables 0)) (hl : listed ≡ rowsOf (turned c)) where
-  both-text : rowCounts listed 0 ++ rowCounts tables 3 ≡ summaryText tables
-  both-text = ap (λ (x : List ℕ). rowCounts x 0 ++ rowCounts tables 3) (hl ∙ ap (λ (x : List ℕ). rowsOf (turned x)) hc)
+module _ (most : ℕ) (tables c listed o : List ℕ) (hc : c ≡ withTable noRows 0 (tableAt tables 0)) (hl : listed ≡ rowsOf (turned c)) where
+  both-text : rowCounts most listed 0 ++ rowCounts most tables 3 ≡ summaryText most tables
+  both-text = ap (λ (x : List ℕ). rowCounts most x 0 ++ rowCounts most tables 3) (hl ∙ ap (λ (x : List ℕ). rowsOf (turned x)) hc)
 
-  module _ (room : 0 + length (summaryText tables) ≤ length o) where
-    room-both : 0 + length (rowCounts listed 0 ++ rowCounts tables 3) ≤ length o
+  module _ (room : 0 + length (summaryText most tables) ≤ length o) where
+    room-both : 0 + length (rowCounts most listed 0 ++ rowCounts most tables 3) ≤ length o
     room-both = subst (λ (x : List ℕ). 0 + length x ≤ length o) (sym both-text) room
 
-    pub summary-1 : 0 + length (rowCounts listed 0) ≤ length o
-    summary-1 = room-first o (rowCounts listed 0) (rowCounts tables 3) 0 room-both
+    pub summary-1 : 0 + length (rowCounts most listed 0) ≤ length o
+    summary-1 = room-first o (rowCounts most listed 0) (rowCounts most tables 3) 0 room-both
 
-    pub summary-2 : (o₁ : List ℕ) (a₁ : ℕ) → Put o 0 (rowCounts listed 0) o₁ a₁ → a₁ + length (rowCounts tables 3) ≤ length o₁
-    summary-2 o₁ a₁ p = room-second (rowCounts tables 3) p room-both
+    pub summary-2 : (o₁ : List ℕ) (a₁ : ℕ) → Put o 0 (rowCounts most listed 0) o₁ a₁ → a₁ + length (rowCounts most tables 3) ≤ length o₁
+    summary-2 o₁ a₁ p = room-second (rowCounts most tables 3) p room-both
 
-  pub summary-put : (o₁ o₂ : List ℕ) (a₁ a₂ : ℕ) → Put o 0 (rowCounts listed 0) o₁ a₁ → Put o₁ a₁ (rowCounts tables 3) o₂ a₂
-      → Put o 0 (summaryText tables) o₂ a₂
+  pub summary-put : (o₁ o₂ : List ℕ) (a₁ a₂ : ℕ) → Put o 0 (rowCounts most listed 0) o₁ a₁ → Put o₁ a₁ (rowCounts most tables 3) o₂ a₂
+      → Put o 0 (summaryText most tables) o₂ a₂
   summary-put o₁ o₂ a₁ a₂ p q = put-as both-text (put-then p q)
 
 -- ---- they are the rules'
 
-counts-ext : (r q : Relation) → ((s t : ℕ) → s < width → t < width → r s t ≡ q s t) → countsOf r ≡ countsOf q
+counts-ext : (most : ℕ) → most ≤ width → (r q : Relation) → ((s t : ℕ) → s < width → t < width → r s t ≡ q s t) → countsOf most r ≡ countsOf most q
 unfolding countsOf listFrom
-counts-ext r q e = from width 0 (omega arith)
+counts-ext most few r q e = from most 0 (omega arith)
   where
     from : (n i : ℕ) → i + n ≤ width → listFrom n i (othersOf r) ≡ listFrom n i (othersOf q)
     from zero i l = refl
@@ -115,31 +120,31 @@ counts-ext r q e = from width 0 (omega arith)
         ap₂ _∷_ (count-ext width _ _ (λ t lt. ap (λ (b : Bool). b and non (eqb t i)) (e i t (omega (arith, add-suc i n)) lt)))
         (from n (suc i) (omega (arith, add-suc i n, suc-add i n)))
 
-module _ (A : ℕ) (L : Traces) (p : Profile) where
-  pub text-is : summaryText (minedGraph A L p .relations) ≡ countsOf (mined L p .conditions) ++ countsOf (mined L p .excludes)
+module _ (most : ℕ) (few : most ≤ width) (A : ℕ) (L : Traces) (p : Profile) where
+  pub text-is : summaryText most (minedGraph A L p .relations) ≡ countsOf most (mined L p .conditions) ++ countsOf most (mined L p .excludes)
   unfolding minedGraph graphFrom turned inRow
   text-is =
       let tables = minedGraph A L p .relations in
       let taken = withTable noRows 0 (tableAt tables 0) in
       ap₂ _++_
-      (ap (λ (rows : List ℕ). countsOf (inRow rows)) (table-rowsOf (turned taken))
-      ∙ counts-ext (inRow (rowsOf (turned taken))) (mined L p .conditions)
+      (ap (λ (rows : List ℕ). countsOf most (inRow rows)) (table-rowsOf (turned taken))
+      ∙ counts-ext most few (inRow (rowsOf (turned taken))) (mined L p .conditions)
       (λ s t ls lt.
       in-rowsOf (turned taken) s t ls lt
       ∙ ap (λ (r : Set). mem r s) (row-taken (tableAt tables 0) t lt)
       ∙ in-tablesOf relationCount (kept (mined L p)) 0 t s (lit≤ tt) lt ls))
-      (counts-ext (inRow (tableAt tables 3)) (mined L p .excludes)
+      (counts-ext most few (inRow (tableAt tables 3)) (mined L p .excludes)
       (λ s t ls lt. in-tablesOf relationCount (kept (mined L p)) 3 s t (lit≤ tt) ls lt))
 
-pub length-counts : (r : Relation) → length (countsOf r) ≡ width
+pub length-counts : (most : ℕ) (r : Relation) → length (countsOf most r) ≡ most
 unfolding countsOf
-length-counts r = length-listFrom width 0 (othersOf r)
+length-counts most r = length-listFrom most 0 (othersOf r)
 
-pub length-text : (tables : List ℕ) → length (summaryText tables) ≡ summaryLength
-length-text tables =
+pub length-text : (most : ℕ) (tables : List ℕ) → length (summaryText most tables) ≡ 2 * most
+length-text most tables =
     let c = inRow (tableAt (bySource tables) 0) in
     let x = inRow (tableAt tables 3) in
-    omega (arith, length-append (countsOf c) (countsOf x), length-counts c, length-counts x)
+    omega (arith, length-append (countsOf most c) (countsOf most x), length-counts most c, length-counts most x)
 
 -- ---- the three ways out
 
@@ -152,9 +157,9 @@ module _ (log : List ℕ) (p : Profile) (out : List ℕ) (mined : Mined) (r : Bo
   ended b e = ap isDone (sym answer-is) ∙ sym hr ∙ e
 
   kept-by : (b : Bool) → isDone (summaryAnswer log (length out)) ≡ b
-      → summaryAfter log p out ≡ when b then summaryOf log p ++ drop summaryLength out else out
+      → summaryAfter log p out ≡ when b then summaryOf log p ++ drop (summaryLength log) out else out
   unfolding summaryAfter
-  kept-by b e = ap (λ (t : Bool). when t then summaryOf log p ++ drop summaryLength out else out) e
+  kept-by b e = ap (λ (t : Bool). when t then summaryOf log p ++ drop (summaryLength log) out else out) e
 
   module _ (t : not r ≡ true) where
     pub refused-answer : mined .answer ≡ summaryAnswer log (length out)
@@ -165,42 +170,44 @@ module _ (log : List ℕ) (p : Profile) (out : List ℕ) (mined : Mined) (r : Bo
     refused-kept = sym (kept-by false (ap isDone (sym refused-answer) ∙ sym hr ∙ not-true r t))
 
   module _ (t : not r ≡ false) where
-    asked-room : (b : Bool) → ltb (length out) summaryLength ≡ b → summaryAnswer log (length out) ≡ when b then BufferTooSmall else Done
+    asked-room : (b : Bool) → ltb (length out) (summaryLength log) ≡ b → summaryAnswer log (length out) ≡ when b then BufferTooSmall else Done
     unfolding summaryAnswer
     asked-room b e =
         ask-on (logOf log .answer) _ (done-is _ (ended true (not-false r t))) ∙ ap (λ (x : Bool). when x then BufferTooSmall else Done) e
 
-    module _ (small : length out < summaryLength) where
-      pub small-answer : BufferTooSmall ≡ summaryAnswer log (length out)
-      small-answer = sym (asked-room true (lt-ltb (length out) summaryLength small))
+    module _ (most : ℕ) (said : most ≡ mostIn log) where
+      module _ (small : length out < 2 * most) where
+        pub small-answer : BufferTooSmall ≡ summaryAnswer log (length out)
+        small-answer = sym (asked-room true (lt-ltb (length out) (summaryLength log) (omega (arith, said))))
 
-      pub small-kept : out ≡ summaryAfter log p out
-      small-kept = sym (kept-by false (ap isDone (sym small-answer)))
+        pub small-kept : out ≡ summaryAfter log p out
+        small-kept = sym (kept-by false (ap isDone (sym small-answer)))
 
-    module _ (big : summaryLength ≤ length out) where
-      big-answer : summaryAnswer log (length out) ≡ Done
-      big-answer = asked-room false (le-ltb (length out) summaryLength big)
+      module _ (big : 2 * most ≤ length out) where
+        big-answer : summaryAnswer log (length out) ≡ Done
+        big-answer = asked-room false (le-ltb (length out) (summaryLength log) (omega (arith, said)))
 
-      pub summary-fits : 0 + length (summaryText (mined .graph .relations)) ≤ length out
-      summary-fits = omega (arith, length-text (mined .graph .relations))
+        pub summary-fits : 0 + length (summaryText most (mined .graph .relations)) ≤ length out
+        summary-fits = omega (arith, length-text most (mined .graph .relations))
 
-      pub summary-answer : mined .answer ≡ summaryAnswer log (length out)
-      summary-answer = done-is _ (sym hr ∙ not-false r t) ∙ sym big-answer
+        pub summary-answer : mined .answer ≡ summaryAnswer log (length out)
+        summary-answer = done-is _ (sym hr ∙ not-false r t) ∙ sym big-answer
 
-      summary-is : summaryText (mined .graph .relations) ≡ summaryOf log p
-      unfolding minedOf summaryOf
-      summary-is =
-          ap (λ (g : Graph). summaryText (g .relations))
-          (ap (λ (x : Mined). x .graph) hm
-          ∙ ap (λ (b : Bool). when b then minedGraph (logOf log .activities) (logOf log .traces) p else emptyGraph) (ended true (not-false r t)))
-          ∙ text-is (logOf log .activities) (logOf log .traces) p
+        summary-is : summaryText most (mined .graph .relations) ≡ summaryOf log p
+        unfolding minedOf summaryOf
+        summary-is =
+            ap₂ (λ (n : ℕ) (g : Graph). summaryText n (g .relations)) said
+            (ap (λ (x : Mined). x .graph) hm
+            ∙ ap (λ (b : Bool). when b then minedGraph (logOf log .activities) (logOf log .traces) p else emptyGraph) (ended true (not-false r t)))
+            ∙ text-is (mostIn log) (most-few log) (logOf log .activities) (logOf log .traces) p
 
-      pub summary-held : (out′ : List ℕ) (n : ℕ) → Put out 0 (summaryText (mined .graph .relations)) out′ n → out′ ≡ summaryAfter log p out
-      summary-held out′ n put =
-          let text = summaryText (mined .graph .relations) in
-          put .bytes
-          ∙ sets-eq text out 0 summary-fits
-          ∙ ap₂ (λ (x : List ℕ) (k : ℕ). x ++ drop k out) summary-is (zero-add (length text) ∙ length-text (mined .graph .relations))
-          ∙ sym (kept-by true (ap isDone big-answer))
+        pub summary-held : (out′ : List ℕ) (n : ℕ) → Put out 0 (summaryText most (mined .graph .relations)) out′ n → out′ ≡ summaryAfter log p out
+        summary-held out′ n put =
+            let text = summaryText most (mined .graph .relations) in
+            put .bytes
+            ∙ sets-eq text out 0 summary-fits
+            ∙ ap₂ (λ (x : List ℕ) (k : ℕ). x ++ drop k out) summary-is
+            (zero-add (length text) ∙ length-text most (mined .graph .relations) ∙ ap (λ (k : ℕ). 2 * k) said)
+            ∙ sym (kept-by true (ap isDone big-answer))
 
 pub ruleset summarizing = (refused-answer, refused-kept, small-answer, small-kept, summary-fits, summary-answer, summary-held)

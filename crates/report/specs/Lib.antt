@@ -1,3 +1,4 @@
+pub mod Lent
 pub mod Lines
 pub mod Pairs
 pub mod Listing

@@ -15,7 +15,7 @@ unfoldable pub figures : ℕ → ℕ → List ℕ
 figures zero n = []
 figures (suc k) n = (when ltb n 10 then [] else figures k (n / 10)) ++ (figure n ∷ [])
 
--- a number in decimal, with no zero in front: no number of a listing is above 4,096, so five figures are more than enough
+-- a number in decimal, with no zero in front: no number of a listing is above 16,384, so five figures are enough
 abbrev pub decimal : ℕ → List ℕ
 decimal n = figures 5 n
 

@@ -17,6 +17,7 @@ use Rattle.rules.specs.declared.Profile.{Profile}
 use Rattle.rules.specs.Traces.{Traces}
 use Rattle.rules.specs.Mined.{minedGraph}
 use Rattle.report.specs.declared.writer.Listed.{Listed}
+use Rattle.report.specs.Lent.{wideIn}
 use Rattle.report.specs.Lines.{decimal, line, eventsWord, tracesWord, refusedWord, C, R, I, E, T}
 use Rattle.report.specs.Pairs.{Pair, pairsOf, pairCount}
 
@@ -70,10 +71,19 @@ listingOf bytes p =
     when isDone (logOf bytes .answer) then linesOf (minedGraph (logOf bytes .activities) (logOf bytes .traces) p) (logOf bytes .traces)
     else refusedLine (logOf bytes .answer)
 
--- no listing is longer: 50 bytes for the first line (events 64 C 4096 R 4096 I 4096 E 4096 traces 1024), 8 for each of 4 × 4,096 pairs
--- (C 63 63), 16 for each of 1,024 traces (T 1023 512 10 1): 50 + 131,072 + 16,384
-abbrev pub longestListing : ℕ
-longestListing = 147506
+-- no listing is longer. With up to 64 activities: 50 bytes for the first line (events 64 C 4096 R 4096 I 4096 E 4096 traces 1024), 8 for each of
+-- 4 × 4,096 pairs (C 63 63), 16 for each of 1,024 traces (T 1023 512 10 1): 50 + 131,072 + 16,384
+abbrev pub longestNarrow : ℕ
+longestNarrow = 147506
+
+-- with up to 128: 55 bytes (events 128 C 16384 R 16384 I 16384 E 16384 traces 1024), 10 for each of 4 × 16,384 pairs (C 127 127), 16 for each of
+-- 1,024 traces: 55 + 655,360 + 16,384
+abbrev pub longestWide : ℕ
+longestWide = 671799
+
+-- by the log's edition (02, 10/12)
+unfoldable pub longestListing : List ℕ → ℕ
+longestListing bytes = when wideIn bytes then longestWide else longestNarrow
 
 -- the line of a refusal has a number of at most two figures: refused 12
 abbrev pub longestRefused : ℕ
@@ -83,10 +93,10 @@ longestRefused = 11
 
 unfoldable pub listedOf : List ℕ → Profile → ℕ → Listed
 listedOf bytes p room =
-    when ltb room longestListing then record { answer = BufferTooSmall; length = 0 }
+    when ltb room (longestListing bytes) then record { answer = BufferTooSmall; length = 0 }
     else record { answer = logOf bytes .answer; length = length (listingOf bytes p) }
 
 -- the listing, then what was there
 unfoldable pub listingAfter : List ℕ → Profile → List ℕ → List ℕ
 listingAfter bytes p buffer =
-    when ltb (length buffer) longestListing then buffer else listingOf bytes p ++ drop (length (listingOf bytes p)) buffer
+    when ltb (length buffer) (longestListing bytes) then buffer else listingOf bytes p ++ drop (length (listingOf bytes p)) buffer

@@ -77,9 +77,9 @@ linesText head tables log n =
 abbrev pub graphText : Graph → List ℕ → List ℕ
 graphText g log = linesText (g .head) (g .relations) log (tracesIn log)
 
--- the counts of a table's rows, and of a graph's conditions and excludes
-abbrev pub rowCounts : List ℕ → ℕ → List ℕ
-rowCounts tables table = countsOf (inRow (tableAt tables table))
+-- the counts of a table's first n rows, and of a graph's conditions and excludes
+abbrev pub rowCounts : ℕ → List ℕ → ℕ → List ℕ
+rowCounts n tables table = countsOf n (inRow (tableAt tables table))
 
-abbrev pub summaryText : List ℕ → List ℕ
-summaryText tables = rowCounts (bySource tables) 0 ++ rowCounts tables 3
+abbrev pub summaryText : ℕ → List ℕ → List ℕ
+summaryText n tables = rowCounts n (bySource tables) 0 ++ rowCounts n tables 3

@@ -13,28 +13,30 @@ use Rattle.sets.specs.declared.answer.Answer.the-variants.{Done, BufferTooSmall
 use Rattle.calllog.specs.Logs.{logOf}
 use Rattle.rules.specs.declared.Profile.{Profile}
 use Rattle.rules.specs.Mining.{mined}
+use Rattle.report.specs.Lent.{mostIn}
 
 -- how many pairs s to t there are with t other than s
 abbrev pub othersOf : Relation → ℕ → ℕ
 othersOf r s = countBelow width (λ t. r s t and non (eqb t s))
 
--- the counts of all activities, one byte each. What is no event stands in no pair: its count is 0
-unfoldable pub countsOf : Relation → List ℕ
-countsOf r = listFrom width 0 (othersOf r)
+-- the counts of the first n activities, one byte each. What is no event stands in no pair: its count is 0
+unfoldable pub countsOf : ℕ → Relation → List ℕ
+countsOf n r = listFrom n 0 (othersOf r)
 
--- first those of the conditions, then those of the excludes
+-- first those of the conditions, then those of the excludes, of as many activities as a log of its edition may have (02, 10/12)
 unfoldable pub summaryOf : List ℕ → Profile → List ℕ
-summaryOf bytes p = countsOf (mined (logOf bytes .traces) p .conditions) ++ countsOf (mined (logOf bytes .traces) p .excludes)
+summaryOf bytes p =
+    countsOf (mostIn bytes) (mined (logOf bytes .traces) p .conditions) ++ countsOf (mostIn bytes) (mined (logOf bytes .traces) p .excludes)
 
-abbrev pub summaryLength : ℕ
-summaryLength = 2 * width
+abbrev pub summaryLength : List ℕ → ℕ
+summaryLength bytes = 2 * mostIn bytes
 
 -- ---- what `write_summary` gives and leaves in a buffer of so many bytes: the log's refusals, then 7
 
 unfoldable pub summaryAnswer : List ℕ → ℕ → Answer
-summaryAnswer bytes room = thenAsk (logOf bytes .answer) (when ltb room summaryLength then BufferTooSmall else Done)
+summaryAnswer bytes room = thenAsk (logOf bytes .answer) (when ltb room (summaryLength bytes) then BufferTooSmall else Done)
 
 -- the summary, then what was there; no byte changed where it is refused
 unfoldable pub summaryAfter : List ℕ → Profile → List ℕ → List ℕ
 summaryAfter bytes p buffer =
-    when isDone (summaryAnswer bytes (length buffer)) then summaryOf bytes p ++ drop summaryLength buffer else buffer
+    when isDone (summaryAnswer bytes (length buffer)) then summaryOf bytes p ++ drop (summaryLength bytes) buffer else buffer

@@ -1,6 +1,7 @@
 // The listing of a log, its summary and the text of marks, as bytes in a lent buffer, and which listing the program's arguments ask for.
 pub mod choice;
 mod heading;
+pub mod lent;
 pub mod marked;
 mod relations;
 mod replays;

@@ -6,6 +6,7 @@ ghost use Rattle.sets.specs.Rows.{inRow};
 ghost use Rattle.sets.specs.Tables.{tableAt};
 ghost use Rattle.report.specs.Puts.{Put, rowCounts, summaryText};
 ghost use Rattle.report.specs.Summary.{othersOf, summaryAnswer, summaryAfter};
+use crate::lent;
 use crate::text;
 use engine::Relations;
 use engine::graph::CONDITIONS;
@@ -14,12 +15,8 @@ use rules::Profile;
 use sets::Activity;
 use sets::Answer;
 use sets::Set;
-use sets::activity::WIDTH;
 use sets::rows;
 use sets::tables;
-
-// A byte for each activity and relation.
-pub const LENGTH: usize = 2 * WIDTH;
 
 // How many others stand in the activity's row of a table.
 fn others(tables: &[u64], table: u8, a: Activity) -> u8
@@ -30,14 +27,14 @@ fn others(tables: &[u64], table: u8, a: Activity) -> u8
     rest.count()
 }
 
-// The same of each activity, a byte each.
-fn put_counts(out: &mut [u8], at: usize, tables: &[u64], table: u8) -> usize
-    requires { ⌜ at + length (rowCounts (now tables) table) ≤ length (now out) ⌝ }
-    ensures { λ r. ⌜ Put (now (out .entry)) at (rowCounts (now (tables .entry)) table) (now (out .exit)) r ⌝ }
+// The same of the first activities, a byte each.
+fn put_counts(out: &mut [u8], at: usize, most: u8, tables: &[u64], table: u8) -> usize
+    requires { ⌜ at + length (rowCounts most (now tables) table) ≤ length (now out) ⌝ }
+    ensures { λ r. ⌜ Put (now (out .entry)) at (rowCounts most (now (tables .entry)) table) (now (out .exit)) r ⌝ }
 {
     let mut next = at;
     let mut a: u8 = 0;
-    while a < Activity::LIMIT {
+    while a < most {
         let n = others(tables, table, Activity(a));
         next = text::put_byte(out, next, n);
         a += 1;
@@ -46,17 +43,17 @@ fn put_counts(out: &mut [u8], at: usize, tables: &[u64], table: u8) -> usize
 }
 
 // The counts of the conditions by source, then those of the excludes.
-fn put_summary(out: &mut [u8], relations: &Relations) -> usize
-    requires { ⌜ 0 + length (summaryText (now relations)) ≤ length (now out) ⌝ }
-    ensures { λ r. ⌜ Put (now (out .entry)) 0 (summaryText (now (relations .entry))) (now (out .exit)) r ⌝ }
+fn put_summary(out: &mut [u8], most: u8, relations: &Relations) -> usize
+    requires { ⌜ 0 + length (summaryText most (now relations)) ≤ length (now out) ⌝ }
+    ensures { λ r. ⌜ Put (now (out .entry)) 0 (summaryText most (now (relations .entry))) (now (out .exit)) r ⌝ }
 {
     let conditions = tables::taken(relations, CONDITIONS);
     let listed = rows::turned(&conditions);
-    let at = put_counts(out, 0, &listed, 0);
-    put_counts(out, at, relations, EXCLUDES)
+    let at = put_counts(out, 0, most, &listed, 0);
+    put_counts(out, at, most, relations, EXCLUDES)
 }
 
-// Summarizes a log's graph: the log's answer, or 7 where the buffer has fewer than `LENGTH` bytes.
+// Summarizes a log's graph, two bytes for each activity that the log may have: the log's answer, or 7 where the buffer has fewer.
 pub fn write_summary(log: &[u8], profile: Profile, out: &mut [u8]) -> Answer
     ensures { λ r. ⌜ r ≡ summaryAnswer (now (log .entry)) (length (now (out .entry))) ⌝ }
     ensures { λ _. ⌜ now (out .exit) ≡ summaryAfter (now (log .entry)) profile (now (out .entry)) ⌝ }
@@ -66,9 +63,10 @@ pub fn write_summary(log: &[u8], profile: Profile, out: &mut [u8]) -> Answer
     if !answer.is_done() {
         return answer;
     }
-    if out.len() < LENGTH {
+    let most = lent::most_in(log);
+    if out.len() < 2 * most as usize {
         return Answer::BufferTooSmall;
     }
-    put_summary(out, &mined.graph.relations);
+    put_summary(out, most, &mined.graph.relations);
     answer
 }

@@ -5,6 +5,7 @@ ghost use lib.ListN.{length};
 ghost use Rattle.report.specs.Listing.{refusedLine, listedOf, listingAfter};
 ghost use Rattle.report.specs.Puts.{Put, linesText, graphText};
 use crate::heading;
+use crate::lent;
 use crate::relations;
 use crate::replays;
 use crate::text;
@@ -17,12 +18,9 @@ use sets::Answer;
 use sets::rows;
 use sets::tables;
 
-// No listing has more bytes: a buffer of this size is always enough.
-pub const LONGEST: usize = 147506;
-
 const REFUSED: [u8; 7] = *b"refused";
 
-// The log's answer, and the length of its listing; 7 and 0 where the buffer is smaller than `LONGEST`.
+// The log's answer, and the length of its listing; 7 and 0 where the buffer is smaller than the longest listing.
 pub struct Listed {
     pub answer: Answer,
     pub length: usize,
@@ -70,7 +68,7 @@ pub fn write_listing(log: &[u8], profile: Profile, out: &mut [u8]) -> Listed
     ensures { λ r. ⌜ r ≡ listedOf (now (log .entry)) profile (length (now (out .entry))) ⌝ }
     ensures { λ _. ⌜ now (out .exit) ≡ listingAfter (now (log .entry)) profile (now (out .entry)) ⌝ }
 {
-    if out.len() < LONGEST {
+    if out.len() < lent::longest_in(log) {
         return Listed {
             answer: Answer::BufferTooSmall,
             length: 0,

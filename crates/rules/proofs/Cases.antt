@@ -1,6 +1,6 @@
 -- The cases of 01, "Calls to try", that are marked (P), with the blockers of 02, 2/12, the light graph of L (02, 3/12), and where the step 7 of
 -- 02, 7/12, gives more than that of 01: one table, computed by antt.
-use lib.Dec.{ltb, lit≤}
+use lib.Dec.{T, ltb, lit≤}
 use mathlib.Core.Path.{ap}
 use Prim.Native.Nat.{_≤_}
 use lib.ListN.{length}
@@ -11,7 +11,7 @@ use Rattle.engine.specs.Relations.{relationsOf}
 use Rattle.engine.specs.Enabled.{marked, graphAt}
 use Rattle.engine.proofs.Acceptable.{judged-at, replay-judged, stepped-judged, opening-kept}
 use Rattle.engine.proofs.Examples.{table-judged}
-use mathlib.Core.Path.{_≡_, refl}
+use mathlib.Core.Path.{_≡_, refl, _∙_}
 use mathlib.Core.Bool.{true, false}
 use mathlib.Core.List.{List, [], _∷_, _++_, map}
 use Prim.Native.Nat.{ℕ}
@@ -27,6 +27,7 @@ use Rattle.engine.specs.Replay.{enabledOf, steppedOf, replayFrom, replayOf}
 use Rattle.engine.proofs.Examples.{table3, table3-after}
 use Rattle.bytes.specs.Numbers.{valueOf, numberAt}
 use Rattle.bytes.specs.Opens.{opensWith}
+use Rattle.bytes.specs.Editions.{editionFor, opensFile, beyond}
 use Rattle.calllog.specs.Layout.{activitiesIn, tracesIn, offsetAt, lengthAt, bodiesStart, eventsBefore}
 use Rattle.sets.specs.Answers.{firstRefusal}
 use Rattle.calllog.specs.Judged.{allBelow, judgedHead, judgedEntry, judgedBodies, judgedContents, judgedLog}
@@ -35,6 +36,7 @@ use Rattle.rules.specs.declared.Profile.the-variants.{Full, Light}
 use Rattle.rules.specs.Traces.{Traces, _has_, _beginsWith_, atEachFrom, atSomeFrom, everyTrace, someTrace}
 use Rattle.rules.specs.Mining.{noPair, noRelations, smallestSource, _without_, event, someEvent, _with_, atMostOnce, precedes, answers, chained, together, before, followed, between, alternates, beforeFirst, step1, step2, directlyBefore, step3, neverTogether, step4, closes, step5, step6, letInBetween, makesRedundant, step7, reduced, step8, includedAfter, neverMissed, step9, step10, afterFive, afterSix, afterSeven, afterEight, mined}
 use Rattle.rules.specs.Mined.{graphFrom, minedGraph}
+use Rattle.rules.proofs.ByPairs.{same, few, fewPairs, agree, agrees, by-pairs}
 use Rattle.rules.proofs.Listed.{Pair, _to_, listed, rows, Case, _gives_, reading, mining, replaying, stepping, log, graph, ended, stepped, end, step, asked, wanted}
 
 -- the log L, and all bytes of its file
@@ -155,7 +157,7 @@ same0 : map asked part0 ≡ map wanted part0
 unfolding part0 file L listing G
     _and_ _or_ non bit mem those bitsOf someBelow leastBelow everyBelow isEmpty within rowAt tableAt withRowIn inRow listFrom rowsOf tablesOf
     waits blocker enabled after accepting stateWithin rowWithin rowsWithin relationsWithin graphWithin judgedFor judgedWith enabledOf steppedOf replayFrom replayOf
-    opensWith valueOf numberAt activitiesIn tracesIn offsetAt lengthAt bodiesStart eventsBefore
+    opensWith opensFile editionFor beyond valueOf numberAt activitiesIn tracesIn offsetAt lengthAt bodiesStart eventsBefore
     firstRefusal allBelow judgedHead judgedEntry judgedBodies judgedContents judgedLog tracesFrom logOf
     _has_ _beginsWith_ atEachFrom atSomeFrom everyTrace someTrace
     noPair noRelations smallestSource _without_ event someEvent _with_ atMostOnce precedes answers chained together before followed between alternates beforeFirst
@@ -163,29 +165,31 @@ unfolding part0 file L listing G
     afterFive afterSix afterSeven afterEight mined graphFrom minedGraph
 same0 = refl
 
-same1 : map asked part1 ≡ map wanted part1
-unfolding part1 file L listing G
-    _and_ _or_ non bit mem those bitsOf someBelow leastBelow everyBelow isEmpty within rowAt tableAt withRowIn inRow listFrom rowsOf tablesOf
-    waits blocker enabled after accepting stateWithin rowWithin rowsWithin relationsWithin graphWithin judgedFor judgedWith enabledOf steppedOf replayFrom replayOf
-    opensWith valueOf numberAt activitiesIn tracesIn offsetAt lengthAt bodiesStart eventsBefore
-    firstRefusal allBelow judgedHead judgedEntry judgedBodies judgedContents judgedLog tracesFrom logOf
+-- the computed tests stand by themselves: each is what refuses a wrong rule
+L-agrees : T (agrees 3 3 (lit≤ tt) L Full (0 ∷ 1 ∷ 2 ∷ []) (0 to 1 ∷ 0 to 2 ∷ []) (0 to 2 ∷ 1 to 2 ∷ []) (0 to 1 ∷ []) (0 to 0 ∷ 1 to 1 ∷ 2 to 1 ∷ 2 to 2 ∷ []))
+unfolding L
+    _and_ _or_ non someBelow everyBelow listFrom
     _has_ _beginsWith_ atEachFrom atSomeFrom everyTrace someTrace
     noPair noRelations smallestSource _without_ event someEvent _with_ atMostOnce precedes answers chained together before followed between alternates beforeFirst
     step1 step2 directlyBefore step3 neverTogether step4 closes step5 step6 letInBetween makesRedundant step7 reduced step8 includedAfter neverMissed step9 step10
-    afterFive afterSix afterSeven afterEight mined graphFrom minedGraph
-same1 = refl
+    afterFive afterSix afterSeven afterEight mined same few fewPairs agree agrees
+L-agrees = tt
+
+L-graph : minedGraph 3 L Full ≡ listing (0 to 0 ∷ 1 to 1 ∷ 2 to 1 ∷ 2 to 2 ∷ [])
+unfolding listing
+L-graph = by-pairs 3 3 (lit≤ tt) L Full (0 ∷ 1 ∷ 2 ∷ []) (0 to 1 ∷ 0 to 2 ∷ []) (0 to 2 ∷ 1 to 2 ∷ []) (0 to 1 ∷ []) (0 to 0 ∷ 1 to 1 ∷ 2 to 1 ∷ 2 to 2 ∷ []) L-agrees
+
+same1 : map asked part1 ≡ map wanted part1
+unfolding part1
+same1 = λ j. graph (L-graph j) ∷ []
+
+G-listed : listing (0 to 0 ∷ 1 to 1 ∷ 2 to 1 ∷ 2 to 2 ∷ []) ≡ G
+unfolding listing G those bitsOf _has_ _and_ _or_ tablesOf rowsOf listFrom
+G-listed = refl
 
 same2 : map asked part2 ≡ map wanted part2
-unfolding part2 file L listing G
-    _and_ _or_ non bit mem those bitsOf someBelow leastBelow everyBelow isEmpty within rowAt tableAt withRowIn inRow listFrom rowsOf tablesOf
-    waits blocker enabled after accepting stateWithin rowWithin rowsWithin relationsWithin graphWithin judgedFor judgedWith enabledOf steppedOf replayFrom replayOf
-    opensWith valueOf numberAt activitiesIn tracesIn offsetAt lengthAt bodiesStart eventsBefore
-    firstRefusal allBelow judgedHead judgedEntry judgedBodies judgedContents judgedLog tracesFrom logOf
-    _has_ _beginsWith_ atEachFrom atSomeFrom everyTrace someTrace
-    noPair noRelations smallestSource _without_ event someEvent _with_ atMostOnce precedes answers chained together before followed between alternates beforeFirst
-    step1 step2 directlyBefore step3 neverTogether step4 closes step5 step6 letInBetween makesRedundant step7 reduced step8 includedAfter neverMissed step9 step10
-    afterFive afterSix afterSeven afterEight mined graphFrom minedGraph
-same2 = refl
+unfolding part2
+same2 = λ j. graph ((L-graph ∙ G-listed) j) ∷ []
 
 pub judged-G : judged G ≡ Done
 unfolding G graphWithin relationsWithin rowsWithin rowWithin stateWithin within isEmpty everyBelow bitsOf bit mem those _and_ _or_ non rowAt tableAt listFrom
@@ -203,68 +207,56 @@ unfolding part4 replayFrom enabled waits blocker after accepting someBelow least
 same4 = λ i. on-G (2 ∷ []) (lit≤ tt) i ∷ on-G (0 ∷ 0 ∷ []) (lit≤ tt) i ∷ on-G (0 ∷ 2 ∷ 1 ∷ []) (lit≤ tt) i ∷ on-G (3 ∷ []) (lit≤ tt) i ∷ []
 
 same5 : map asked part5 ≡ map wanted part5
-unfolding part5 file L listing G
-    _and_ _or_ non bit mem those bitsOf someBelow leastBelow everyBelow isEmpty within rowAt tableAt withRowIn inRow listFrom rowsOf tablesOf
-    waits blocker enabled after accepting stateWithin rowWithin rowsWithin relationsWithin graphWithin judgedFor judgedWith enabledOf steppedOf replayFrom replayOf
-    opensWith valueOf numberAt activitiesIn tracesIn offsetAt lengthAt bodiesStart eventsBefore
-    firstRefusal allBelow judgedHead judgedEntry judgedBodies judgedContents judgedLog tracesFrom logOf
+unfolding part5
+    _and_ _or_ non someBelow everyBelow listFrom
     _has_ _beginsWith_ atEachFrom atSomeFrom everyTrace someTrace
     noPair noRelations smallestSource _without_ event someEvent _with_ atMostOnce precedes answers chained together before followed between alternates beforeFirst
     step1 step2 directlyBefore step3 neverTogether step4 closes step5 step6 letInBetween makesRedundant step7 reduced step8 includedAfter neverMissed step9 step10
-    afterFive afterSix afterSeven afterEight mined graphFrom minedGraph
-same5 = refl
+    afterFive afterSix afterSeven afterEight mined same few fewPairs agree agrees
+same5 = λ j. graph (by-pairs 2 2 (lit≤ tt) ((0 ∷ 1 ∷ 0 ∷ []) ∷ []) Full (0 ∷ 1 ∷ []) (0 to 1 ∷ []) (1 to 0 ∷ []) (0 to 1 ∷ 1 to 0 ∷ []) (0 to 0 ∷ 1 to 1 ∷ []) tt j) ∷ []
 
 same6 : map asked part6 ≡ map wanted part6
-unfolding part6 file L listing G
-    _and_ _or_ non bit mem those bitsOf someBelow leastBelow everyBelow isEmpty within rowAt tableAt withRowIn inRow listFrom rowsOf tablesOf
-    waits blocker enabled after accepting stateWithin rowWithin rowsWithin relationsWithin graphWithin judgedFor judgedWith enabledOf steppedOf replayFrom replayOf
-    opensWith valueOf numberAt activitiesIn tracesIn offsetAt lengthAt bodiesStart eventsBefore
-    firstRefusal allBelow judgedHead judgedEntry judgedBodies judgedContents judgedLog tracesFrom logOf
+unfolding part6
+    _and_ _or_ non someBelow everyBelow listFrom
     _has_ _beginsWith_ atEachFrom atSomeFrom everyTrace someTrace
     noPair noRelations smallestSource _without_ event someEvent _with_ atMostOnce precedes answers chained together before followed between alternates beforeFirst
     step1 step2 directlyBefore step3 neverTogether step4 closes step5 step6 letInBetween makesRedundant step7 reduced step8 includedAfter neverMissed step9 step10
-    afterFive afterSix afterSeven afterEight mined graphFrom minedGraph
-same6 = refl
+    afterFive afterSix afterSeven afterEight mined same few fewPairs agree agrees
+same6 = λ j. graph (by-pairs 2 2 (lit≤ tt) ((0 ∷ []) ∷ (1 ∷ []) ∷ []) Full (0 ∷ 1 ∷ []) [] [] [] (0 to 0 ∷ 0 to 1 ∷ 1 to 0 ∷ 1 to 1 ∷ []) tt j) ∷ []
 
 same7 : map asked part7 ≡ map wanted part7
-unfolding part7 file L listing G
-    _and_ _or_ non bit mem those bitsOf someBelow leastBelow everyBelow isEmpty within rowAt tableAt withRowIn inRow listFrom rowsOf tablesOf
-    waits blocker enabled after accepting stateWithin rowWithin rowsWithin relationsWithin graphWithin judgedFor judgedWith enabledOf steppedOf replayFrom replayOf
-    opensWith valueOf numberAt activitiesIn tracesIn offsetAt lengthAt bodiesStart eventsBefore
-    firstRefusal allBelow judgedHead judgedEntry judgedBodies judgedContents judgedLog tracesFrom logOf
+unfolding part7
+    _and_ _or_ non someBelow everyBelow listFrom
     _has_ _beginsWith_ atEachFrom atSomeFrom everyTrace someTrace
     noPair noRelations smallestSource _without_ event someEvent _with_ atMostOnce precedes answers chained together before followed between alternates beforeFirst
     step1 step2 directlyBefore step3 neverTogether step4 closes step5 step6 letInBetween makesRedundant step7 reduced step8 includedAfter neverMissed step9 step10
-    afterFive afterSix afterSeven afterEight mined graphFrom minedGraph
-same7 = refl
+    afterFive afterSix afterSeven afterEight mined same few fewPairs agree agrees
+same7 = λ j. graph (by-pairs 1 1 (lit≤ tt) ((0 ∷ 0 ∷ []) ∷ []) Full (0 ∷ []) [] [] [] [] tt j) ∷ []
 
 same8 : map asked part8 ≡ map wanted part8
 unfolding part8 replayFrom enabled waits blocker after accepting someBelow leastBelow bitsOf bit mem those _and_ _or_ non rowAt tableAt withRowIn inRow G listFrom
 same8 = λ i. step (stepped-judged table3 table-judged (table3 .head .opening) (opening-kept table3 table-judged) 4 i) ∷ []
 
 same9 : map asked part9 ≡ map wanted part9
-unfolding part9 file L listing G
-    _and_ _or_ non bit mem those bitsOf someBelow everyBelow isEmpty within rowAt tableAt withRowIn inRow listFrom rowsOf tablesOf
-    waits enabled after accepting stateWithin rowWithin rowsWithin relationsWithin graphWithin judgedFor judgedWith enabledOf steppedOf replayFrom replayOf
-    opensWith valueOf numberAt activitiesIn tracesIn offsetAt lengthAt bodiesStart eventsBefore
-    firstRefusal allBelow judgedHead judgedEntry judgedBodies judgedContents judgedLog tracesFrom logOf
+unfolding part9 L listing
+    _and_ _or_ non someBelow everyBelow listFrom
     _has_ _beginsWith_ atEachFrom atSomeFrom everyTrace someTrace
     noPair noRelations smallestSource _without_ event someEvent _with_ atMostOnce precedes answers chained together before followed between alternates beforeFirst
     step1 step2 directlyBefore step3 neverTogether step4 closes step5 step6 letInBetween makesRedundant step7 reduced step8 includedAfter neverMissed step9 step10
-    afterFive afterSix afterSeven afterEight mined graphFrom minedGraph
-same9 = refl
+    afterFive afterSix afterSeven afterEight mined same few fewPairs agree agrees
+same9 = λ j. graph (by-pairs 3 3 (lit≤ tt) L Light (0 ∷ 1 ∷ 2 ∷ []) (0 to 1 ∷ 0 to 2 ∷ []) (0 to 2 ∷ 1 to 2 ∷ []) (0 to 1 ∷ []) (0 to 0 ∷ 1 to 1 ∷ 2 to 2 ∷ []) tt j) ∷ []
+
+shortest-agrees : T (agrees 3 3 (lit≤ tt) ((0 ∷ 1 ∷ 2 ∷ []) ∷ []) Full (0 ∷ 1 ∷ 2 ∷ []) (0 to 1 ∷ 1 to 2 ∷ []) (0 to 1 ∷ 1 to 2 ∷ []) (0 to 1 ∷ 1 to 2 ∷ []) (0 to 0 ∷ 0 to 2 ∷ 1 to 1 ∷ 2 to 2 ∷ []))
+unfolding _and_ _or_ non someBelow everyBelow listFrom
+    _has_ _beginsWith_ atEachFrom atSomeFrom everyTrace someTrace
+    noPair noRelations smallestSource _without_ event someEvent _with_ atMostOnce precedes answers chained together before followed between alternates beforeFirst
+    step1 step2 directlyBefore step3 neverTogether step4 closes step5 step6 letInBetween makesRedundant step7 reduced step8 includedAfter neverMissed step9 step10
+    afterFive afterSix afterSeven afterEight mined same few fewPairs agree agrees
+shortest-agrees = tt
 
 same10 : map asked part10 ≡ map wanted part10
-unfolding part10 file L listing G
-    _and_ _or_ non bit mem those bitsOf someBelow leastBelow everyBelow isEmpty within rowAt tableAt withRowIn inRow listFrom rowsOf tablesOf
-    waits blocker enabled after accepting stateWithin rowWithin rowsWithin relationsWithin graphWithin judgedFor judgedWith enabledOf steppedOf replayFrom replayOf
-    opensWith valueOf numberAt activitiesIn tracesIn offsetAt lengthAt bodiesStart eventsBefore
-    firstRefusal allBelow judgedHead judgedEntry judgedBodies judgedContents judgedLog tracesFrom logOf
-    _has_ _beginsWith_ atEachFrom atSomeFrom everyTrace someTrace
-    noPair noRelations smallestSource _without_ event someEvent _with_ atMostOnce precedes answers chained together before followed between alternates beforeFirst
-    step1 step2 directlyBefore step3 neverTogether step4 closes step5 step6 letInBetween makesRedundant step7 reduced step8 includedAfter neverMissed step9 step10
-    afterFive afterSix afterSeven afterEight mined graphFrom minedGraph
-same10 = refl
+unfolding part10
+same10 = λ j. graph (by-pairs 3 3 (lit≤ tt) ((0 ∷ 1 ∷ 2 ∷ []) ∷ []) Full (0 ∷ 1 ∷ 2 ∷ []) (0 to 1 ∷ 1 to 2 ∷ []) (0 to 1 ∷ 1 to 2 ∷ []) (0 to 1 ∷ 1 to 2 ∷ []) (0 to 0 ∷ 0 to 2 ∷ 1 to 1 ∷ 2 to 2 ∷ []) shortest-agrees j) ∷ []
 
 same11 : map asked part11 ≡ map wanted part11
 unfolding part11 story storyG

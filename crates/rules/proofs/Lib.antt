@@ -5,6 +5,7 @@ pub mod InTurn
 pub mod Acceptable
 pub mod Demand3
 pub mod Listed
+pub mod ByPairs
 pub mod Cases
 pub mod Readings
 pub mod Slips

@@ -44,9 +44,9 @@ listed A events c r i e =
     graphAt A (setOf events) (stateOf (setOf []) (setOf []) (setOf events))
     (tablesFrom (record { conditions = oneOf c; responses = oneOf r; includes = oneOf i; excludes = oneOf e }))
 
--- the first rows, each as the number of its set; the others are empty
+-- the first rows, each as the number of its low word; the others are empty, and so are all high words
 abbrev pub rows : List ℕ → List ℕ
-rows xs = listFrom width 0 (λ a. getD xs a 0)
+rows xs = listFrom width 0 (λ a. getD xs a 0) ++ replicate width 0
 
 -- ---- a table: what is asked, and what it gives
 

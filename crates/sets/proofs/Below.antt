@@ -2,17 +2,18 @@
 use mathlib.Core.Path.{_≡_, refl, sym, ap, ap₂, _∙_}
 use mathlib.Core.Bool.{Bool, true, false}
 use mathlib.Core.Logic.{_⊎_, inl, inr}
-use Prim.Native.Nat.{ℕ, zero, suc, _+_, _*_, _/_, _%_, _^_, _≤_, _<_, suc-le-suc}
-use native.Mathlib.Nat.{not-suc-le-zero, le-of-suc-le-suc, mod-lt, zero-lt-suc, add-assoc}
+use Prim.Native.Nat.{ℕ, zero, suc, _+_, _-_, _*_, _/_, _%_, _^_, _≤_, _<_, suc-le-suc}
+use native.Mathlib.Nat.{not-suc-le-zero, le-of-suc-le-suc, mod-lt, zero-lt-suc, zero-add, suc-add, add-assoc}
 use native.Mathlib.Omega.{arith}
-use borrow.Author.Tests.{ne-eqb, lt-ltb, ltb-true, ltb-false}
+use borrow.Author.Tests.{ne-eqb, eqb-true, eqb-false, lt-ltb, ltb-true, ltb-false}
 use lib.Arith.{lt-one}
 use lib.Dec.{T, eqb, ltb, eqb·suc-zero, eqb·zero-suc, eqb·suc-suc}
+use lib.Bits.{bitAnd, and-shr}
 use lib.Count.{ones, ones-step, trailingZeros, under}
 use Rattle.sets.specs.Tests.{_and_, _or_, non}
 use Rattle.sets.specs.Members.{digit, bit, bitsOf, someBelow, everyBelow, countBelow, leastBelow, orNext}
-use Rattle.sets.proofs.Tests.{and-l, and-r, and-i, or-e, or-l, or-r, T-ext, non-i, non-e, and-true, T→true, true→T, F→false, false→F, split, either}
-use Rattle.sets.proofs.Bits.{bit-first, bit-next, digit-first, half-lt}
+use Rattle.sets.proofs.Tests.{and-l, and-r, and-i, or-e, or-l, or-r, T-ext, non-i, non-e, and-true, and-assoc, T→true, true→T, F→false, false→F, split, either}
+use Rattle.sets.proofs.Bits.{bit-first, bit-next, bit-and, digit-first, half-lt}
 
 -- ---- some and every, number by number
 
@@ -213,3 +214,99 @@ trailing-least zero x = refl
 trailing-least (suc w) x =
     under-digit (x % 2) (trailingZeros w (x / 2)) (mod-lt x (zero-lt-suc 1))
     ∙ ap₂ orNext (sym (bit-first x)) (trailing-least w (x / 2) ∙ least-ext w (bit (x / 2)) (λ a. bit x (suc a)) (λ a l. sym (bit-next x a)))
+
+-- ---- the numbers below k + m: those below k, then k more than those below m
+
+pub every-split : (k m : ℕ) (p : ℕ → Bool) → everyBelow (k + m) p ≡ (everyBelow k p and everyBelow m (λ a. p (k + a)))
+unfolding everyBelow _and_
+every-split zero m p = ap (λ (n : ℕ). everyBelow n p) (zero-add m) ∙ every-ext m p (λ a. p (0 + a)) (λ a l. ap p (sym (zero-add a)))
+every-split (suc k) m p =
+    ap (λ (n : ℕ). everyBelow n p) (suc-add k m)
+    ∙ ap (λ (t : Bool). p 0 and t) (every-split k m (λ b. p (suc b)))
+    ∙ sym (and-assoc (p 0) (everyBelow k (λ b. p (suc b))) (everyBelow m (λ a. p (suc (k + a)))))
+    ∙ ap (λ (t : Bool). p 0 and everyBelow k (λ b. p (suc b)) and t)
+    (every-ext m (λ a. p (suc (k + a))) (λ a. p (suc k + a)) (λ a l. ap p (sym (suc-add k a))))
+
+pub count-split : (k m : ℕ) (p : ℕ → Bool) → countBelow (k + m) p ≡ countBelow k p + countBelow m (λ a. p (k + a))
+unfolding countBelow
+count-split zero m p =
+    ap (λ (n : ℕ). countBelow n p) (zero-add m)
+    ∙ count-ext m p (λ a. p (0 + a)) (λ a l. ap p (sym (zero-add a)))
+    ∙ sym (zero-add (countBelow m (λ a. p (0 + a))))
+count-split (suc k) m p =
+    let rest : countBelow m (λ a. p (suc (k + a))) ≡ countBelow m (λ a. p (suc k + a)) =
+    count-ext m (λ a. p (suc (k + a))) (λ a. p (suc k + a)) (λ a l. ap p (sym (suc-add k a))) in
+    ap (λ (n : ℕ). countBelow n p) (suc-add k m) ∙ omega (arith, count-split k m (λ b. p (suc b)))
+
+-- the least: among the first k where one of them passes, else among the m after them
+pub least-here : (k m : ℕ) (p : ℕ → Bool) → T (someBelow k p) → leastBelow (k + m) p ≡ leastBelow k p
+unfolding someBelow leastBelow _or_
+least-here zero m p t = absurd t
+least-here (suc k) m p t = ap (λ (n : ℕ). leastBelow n p) (suc-add k m) ∙ by (λ h. least-here k m (λ b. p (suc b)) h) (p 0) t
+  where
+    by : (T (someBelow k (λ b. p (suc b))) → leastBelow (k + m) (λ b. p (suc b)) ≡ leastBelow k (λ b. p (suc b)))
+        → (x : Bool) → T (x or someBelow k (λ b. p (suc b))) → orNext x (leastBelow (k + m) (λ b. p (suc b))) ≡ orNext x (leastBelow k (λ b. p (suc b)))
+    by ih true h = refl
+    by ih false h = ap suc (ih h)
+
+pub least-past : (k m : ℕ) (p : ℕ → Bool) → ((a : ℕ) → a < k → p a ≡ false) → leastBelow (k + m) p ≡ k + leastBelow m (λ a. p (k + a))
+unfolding leastBelow
+least-past zero m p e =
+    ap (λ (n : ℕ). leastBelow n p) (zero-add m)
+    ∙ least-ext m p (λ a. p (0 + a)) (λ a l. ap p (sym (zero-add a)))
+    ∙ sym (zero-add (leastBelow m (λ a. p (0 + a))))
+least-past (suc k) m p e =
+    ap (λ (n : ℕ). leastBelow n p) (suc-add k m)
+    ∙ ap (λ (t : Bool). orNext t (leastBelow (k + m) (λ b. p (suc b)))) (e 0 (zero-lt-suc k))
+    ∙ ap suc (least-past k m (λ b. p (suc b)) (λ a l. e (suc a) (suc-le-suc l)))
+    ∙ ap (λ (n : ℕ). suc (k + n)) (least-ext m (λ a. p (suc (k + a))) (λ a. p (suc k + a)) (λ a l. ap p (sym (suc-add k a))))
+    ∙ sym (suc-add k (leastBelow m (λ a. p (suc k + a))))
+
+-- ---- `x & (x - 1)`: the digits of x without the least that is 1
+
+and-same : (t : Bool) → (t and t) ≡ t
+unfolding _and_
+and-same true = refl
+and-same false = refl
+
+-- its first digit is 0, whatever x is
+cleared-first : (x : ℕ) → 0 < x → (t : Bool) → eqb (x % 2) 1 ≡ t → bit (bitAnd x (x - 1)) 0 ≡ false
+unfolding _and_
+cleared-first x p true e =
+    let o = eqb-true (x % 2) 1 e in
+    bit-and x (x - 1) 0 ∙ ap₂ _and_ (bit-first x ∙ e) (bit-first (x - 1) ∙ ne-eqb ((x - 1) % 2) 1 (λ q. omega arith))
+cleared-first x p false e = bit-and x (x - 1) 0 ∙ ap (λ (t : Bool). t and bit (x - 1) 0) (bit-first x ∙ e)
+
+cleared-next : (x a : ℕ) → bit (bitAnd x (x - 1)) (suc a) ≡ bit (bitAnd (x / 2) ((x - 1) / 2)) a
+cleared-next x a = bit-next (bitAnd x (x - 1)) a ∙ ap (λ (n : ℕ). bit n a) (and-shr x (x - 1) 1)
+
+pub cleared : (w x : ℕ) → 0 < x → x < 2 ^ w → (a : ℕ) → a < w → bit (bitAnd x (x - 1)) a ≡ (bit x a and non (eqb a (leastBelow w (bit x))))
+unfolding leastBelow _and_ non
+cleared zero x p h a l = absurd (not-suc-le-zero l)
+cleared (suc w) x p h a l = by (λ q. cleared w (x / 2) q (half-lt w x h)) (bit x 0) refl a l
+  where
+    least : ℕ
+    least = leastBelow w (λ b. bit x (suc b))
+
+    by : (0 < x / 2 → (a : ℕ) → a < w → bit (bitAnd (x / 2) (x / 2 - 1)) a ≡ (bit (x / 2) a and non (eqb a (leastBelow w (bit (x / 2))))))
+        → (t : Bool) → bit x 0 ≡ t → (a : ℕ) → a < suc w → bit (bitAnd x (x - 1)) a ≡ (bit x a and non (eqb a (orNext (bit x 0) least)))
+    by ih true e zero l = cleared-first x p true (sym (bit-first x) ∙ e) ∙ sym (ap₂ (λ (s t : Bool). s and non (eqb 0 (orNext t least))) e e)
+    by ih true e (suc a) l =
+        let o = eqb-true (x % 2) 1 (sym (bit-first x) ∙ e) in
+        let half : (x - 1) / 2 ≡ x / 2 = omega arith in
+        cleared-next x a
+        ∙ bit-and (x / 2) ((x - 1) / 2) a
+        ∙ ap (λ (n : ℕ). bit (x / 2) a and bit n a) half
+        ∙ and-same (bit (x / 2) a)
+        ∙ sym (bit-next x a)
+        ∙ sym (kept (bit x (suc a)) (eqb (suc a) (orNext (bit x 0) least)) (ap (λ (t : Bool). eqb (suc a) (orNext t least)) e ∙ eqb·suc-zero a))
+    by ih false e zero l = cleared-first x p false (sym (bit-first x) ∙ e) ∙ sym (ap (λ (t : Bool). t and non (eqb 0 (orNext (bit x 0) least))) e)
+    by ih false e (suc a) l =
+        let z = eqb-false (x % 2) 1 (sym (bit-first x) ∙ e) in
+        let half : (x - 1) / 2 ≡ x / 2 - 1 = omega arith in
+        let tail : least ≡ leastBelow w (bit (x / 2)) = least-ext w (λ b. bit x (suc b)) (bit (x / 2)) (λ b k. bit-next x b) in
+        cleared-next x a
+        ∙ ap (λ (n : ℕ). bit (bitAnd (x / 2) n) a) half
+        ∙ ih (omega arith) a (le-of-suc-le-suc l)
+        ∙ ap₂ (λ (s : Bool) (k : ℕ). s and non (eqb a k)) (sym (bit-next x a)) (sym tail)
+        ∙ ap (λ (t : Bool). bit x (suc a) and non t) (sym (ap (λ (t : Bool). eqb (suc a) (orNext t least)) e ∙ eqb·suc-suc a least))

@@ -10,12 +10,12 @@ use borrow.Author.Tests.{lt-ltb, le-ltb, ltb-true, ltb-false, eqb-true, eqb-fals
 use lib.Arith.{lt-of-le-ne}
 use lib.Dec.{eqb, ltb, eqb-refl, eqb→eq, lt→ltb, ltb→lt}
 use lib.ListN.{length, getD, set, take, drop, length-set, length-append, length-drop, length-replicate, getD-replicate, take-append-drop}
-use lib.ListN.{List·getD-eq-default}
 use lib.Seq.{ext-getD, length-take-le, drop-set-add, drop-set-lt, take-set-le, take-set-lt, drop-drop, drop-at, take-at, getD-take}
+use lib.ListN.{List·getD-eq-default}
 use lib.Seq.{getD-drop, set-out, take-all}
 use Rattle.sets.specs.Tests.{_and_, _or_, when_then_else_}
-use Rattle.sets.specs.Members.{width, mem, those, noSet}
-use Rattle.sets.specs.Rows.{Relation, noRows, rowAt, withRow, inRow, rowsOf}
+use Rattle.sets.specs.Members.{width, word, mem, those, noSet}
+use Rattle.sets.specs.Rows.{Relation, rowWords, noRows, rowAt, withRow, inRow, rowsOf}
 use Rattle.sets.specs.Tables.{noTables, tableAt, withRowIn, gainedIn, withRowsIn, withTable, tablesOf}
 use Rattle.sets.specs.declared.set.Set.{Set}
 use Rattle.sets.proofs.Tests.{T→true, F→false, T-ext, eqb-of, split, either, or-false, true-and, false-and}
@@ -23,86 +23,117 @@ use Rattle.sets.proofs.Members.{Whole, those-mem}
 use Rattle.sets.proofs.RowLaws.{row-in, row-out, put-in, put-out, length-rowsOf, row-rowsOf, rowsOf-ext, empty-rowsOf, put-rowsOf}
 use Rattle.sets.proofs.RowLaws.{gain-rowsOf, in-rowsOf, row-put-same, row-put-other}
 
--- ---- what the code reads and writes: place k * width + a, where there is one
+-- ---- a word past the end is 0, and is put nowhere
+
+module _ (tables : List ℕ) (i : ℕ) (h : length tables ≤ i) where
+  pub word-past : 0 ≡ getD tables i 0
+  word-past = sym (List·getD-eq-default tables 0 h)
+
+  pub word-put-past : (x : ℕ) → tables ≡ set tables i x
+  word-put-past x = sym (set-out tables i x h)
+
+-- ---- what the code reads and writes: the places k * rowWords + a and width further, where there are such
 
 module _ (tables : List ℕ) (k a : ℕ) where
-  read-at : a < width → getD (tableAt tables k) a 0 ≡ getD tables (k * width + a) 0
+  read-at : (i : ℕ) → i < rowWords → getD (tableAt tables k) i 0 ≡ getD tables (k * rowWords + i) 0
   unfolding tableAt
-  read-at l = getD-take width (drop (k * width) tables) a 0 l ∙ getD-drop (k * width) tables a 0
+  read-at i l = getD-take rowWords (drop (k * rowWords) tables) i 0 l ∙ getD-drop (k * rowWords) tables i 0
 
-  pub table-row : a < width → _≡_ {A = Set} (record { bits = getD tables (k * width + a) 0 }) (rowAt (tableAt tables k) a)
-  table-row l = ap (λ (n : ℕ). record { bits = n }) (sym (read-at l)) ∙ row-in (tableAt tables k) a l
+  pub table-row : a < width → _≡_ {A = Set} (record { low = getD tables (k * rowWords + a) 0; high = getD tables (k * rowWords + a + width) 0 }) (rowAt (tableAt tables k) a)
+  table-row l =
+      let further : k * rowWords + a + width ≡ k * rowWords + (width + a) = omega arith in
+      let high = ap (λ (n : ℕ). getD tables n 0) further ∙ sym (read-at (width + a) (omega arith)) in
+      (λ i. record { low = sym (read-at a (omega arith)) i; high = high i }) ∙ row-in (tableAt tables k) a l
+
+  pub table-row-is : (x y : ℕ) → a < width → x ≡ getD tables (k * rowWords + a) 0 → y ≡ getD tables (k * rowWords + a + width) 0
+      → _≡_ {A = Set} (record { low = x; high = y }) (rowAt (tableAt tables k) a)
+  table-row-is x y l ex ey = (λ i. record { low = ex i; high = ey i }) ∙ table-row l
 
   pub table-row-above : width ≤ a → noSet ≡ rowAt (tableAt tables k) a
   table-row-above l = row-out (tableAt tables k) a l
 
-  pub table-row-past : a < width → length tables ≤ k * width + a → noSet ≡ rowAt (tableAt tables k) a
-  table-row-past l h = ap (λ (n : ℕ). record { bits = n }) (sym (List·getD-eq-default tables 0 h)) ∙ table-row l
-
   -- tables of the code's numbers hold whole sets
-  pub table-whole : ((i : ℕ) → getD tables i 0 < 2 ^ width) → Whole (rowAt (tableAt tables k) a)
+  pub table-whole : ((i : ℕ) → getD tables i 0 < 2 ^ word) → Whole (rowAt (tableAt tables k) a)
   table-whole small =
       either (split (ltb a width))
       (λ t. subst Whole (table-row (ltb-true a width (T→true _ t)))
-      (those-mem (record { bits = getD tables (k * width + a) 0 }) (small (k * width + a))))
-      (λ f. subst Whole (table-row-above (ltb-false a width (F→false _ f))) (those-mem noSet (omega arith)))
+      (those-mem (record { low = getD tables (k * rowWords + a) 0; high = getD tables (k * rowWords + a + width) 0 })
+      (small (k * rowWords + a), small (k * rowWords + a + width))))
+      (λ f. subst Whole (table-row-above (ltb-false a width (F→false _ f))) (those-mem noSet (omega arith, omega arith)))
 
   module _ (s : Set) where
-    pub table-put : a < width → set tables (k * width + a) (s .bits) ≡ withRowIn tables k a s
+    pub table-put : a < width → set (set tables (k * rowWords + a) (s .low)) (k * rowWords + a + width) (s .high) ≡ withRowIn tables k a s
     unfolding withRowIn
     table-put l = rw (lt-ltb a width l)
+
+    pub table-put-is : (one out : List ℕ) → a < width → one ≡ set tables (k * rowWords + a) (s .low) → out ≡ set one (k * rowWords + a + width) (s .high)
+        → out ≡ withRowIn tables k a s
+    table-put-is one out l e h = h ∙ ap (λ (q : List ℕ). set q (k * rowWords + a + width) (s .high)) e ∙ table-put l
 
     pub table-put-above : width ≤ a → tables ≡ withRowIn tables k a s
     unfolding withRowIn
     table-put-above l = rw (le-ltb a width l)
 
-    pub table-put-past : a < width → length tables ≤ k * width + a → tables ≡ withRowIn tables k a s
-    table-put-past l h = sym (set-out tables (k * width + a) (s .bits) h) ∙ table-put l
-
     pub length-put-in : length (withRowIn tables k a s) ≡ length tables
     unfolding withRowIn
     length-put-in = by (ltb a width)
       where
-        by : (t : Bool) → length (when t then set tables (k * width + a) (s .bits) else tables) ≡ length tables
-        by true = length-set tables (k * width + a) (s .bits)
+        by : (t : Bool) → length (when t then set (set tables (k * rowWords + a) (s .low)) (k * rowWords + a + width) (s .high) else tables) ≡ length tables
+        by true = length-set (set tables (k * rowWords + a) (s .low)) (k * rowWords + a + width) (s .high) ∙ length-set tables (k * rowWords + a) (s .low)
         by false = refl
 
-    -- the table that is put to
-    pub table-put-same : tableAt (withRowIn tables k a s) k ≡ withRow (tableAt tables k) a s
-    unfolding tableAt
-    table-put-same =
-        either (split (ltb a width))
-        (λ t.
-        let l : a < width = ltb-true a width (T→true _ t) in
-        ap (λ (q : List ℕ). tableAt q k) (sym (table-put l))
-        ∙ ap (take width) (drop-set-add (k * width) tables a (s .bits))
-        ∙ take-set-lt width (drop (k * width) tables) a (s .bits) l
-        ∙ put-in (tableAt tables k) a s l)
-        (λ f.
-        let g = ltb-false a width (F→false _ f) in
-        ap (λ (q : List ℕ). tableAt q k) (sym (table-put-above g)) ∙ put-out (tableAt tables k) a s g)
+-- one word of a table is put: in its own table it is put, the others stay
+module _ (k i x : ℕ) (l : i < rowWords) where
+  word-same : (tables : List ℕ) → tableAt (set tables (k * rowWords + i) x) k ≡ set (tableAt tables k) i x
+  unfolding tableAt
+  word-same tables = ap (take rowWords) (drop-set-add (k * rowWords) tables i x) ∙ take-set-lt rowWords (drop (k * rowWords) tables) i x l
 
-    -- the others stay
-    pub table-put-other : (j : ℕ) → (j ≡ k → ⊥) → tableAt (withRowIn tables k a s) j ≡ tableAt tables j
-    unfolding tableAt
-    table-put-other j n =
-        either (split (ltb a width))
-        (λ t.
-        let l : a < width = ltb-true a width (T→true _ t) in
-        ap (λ (q : List ℕ). tableAt q j) (sym (table-put l))
-        ∙ either (split (ltb j k))
-        (λ b. before l (ltb-true j k (T→true _ b)))
-        (λ b. let h = ltb-false j k (F→false _ b) in ap (take width)
-        (drop-set-lt (j * width) tables (k * width + a) (s .bits) (omega arith))))
-        (λ f. ap (λ (q : List ℕ). tableAt q j) (sym (table-put-above (ltb-false a width (F→false _ f)))))
-      where
-        before : a < width → j < k → tableAt (set tables (k * width + a) (s .bits)) j ≡ tableAt tables j
-        before l h =
-            let d : ℕ = (k * width + a) - j * width in
-            let e : k * width + a ≡ j * width + d = omega arith in
-            ap (λ (i : ℕ). take width (drop (j * width) (set tables i (s .bits)))) e
-            ∙ ap (take width) (drop-set-add (j * width) tables d (s .bits))
-            ∙ take-set-le width (drop (j * width) tables) d (s .bits) (omega arith)
+  word-other : (tables : List ℕ) (j : ℕ) → (j ≡ k → ⊥) → tableAt (set tables (k * rowWords + i) x) j ≡ tableAt tables j
+  unfolding tableAt
+  word-other tables j n =
+      either (split (ltb j k))
+      (λ b. before (ltb-true j k (T→true _ b)))
+      (λ b. let h = ltb-false j k (F→false _ b) in ap (take rowWords) (drop-set-lt (j * rowWords) tables (k * rowWords + i) x (omega arith)))
+    where
+      before : j < k → tableAt (set tables (k * rowWords + i) x) j ≡ tableAt tables j
+      before h =
+          let d : ℕ = (k * rowWords + i) - j * rowWords in
+          let e : k * rowWords + i ≡ j * rowWords + d = omega arith in
+          ap (λ (m : ℕ). take rowWords (drop (j * rowWords) (set tables m x))) e
+          ∙ ap (take rowWords) (drop-set-add (j * rowWords) tables d x)
+          ∙ take-set-le rowWords (drop (j * rowWords) tables) d x (omega arith)
+
+module _ (tables : List ℕ) (k a : ℕ) (s : Set) where
+  -- both words, the second counted from the table's start
+  both : a < width → set (set tables (k * rowWords + a) (s .low)) (k * rowWords + (width + a)) (s .high) ≡ withRowIn tables k a s
+  both l =
+      let further : k * rowWords + (width + a) ≡ k * rowWords + a + width = omega arith in
+      ap (λ (n : ℕ). set (set tables (k * rowWords + a) (s .low)) n (s .high)) further ∙ table-put tables k a s l
+
+  -- the table that is put to
+  pub table-put-same : tableAt (withRowIn tables k a s) k ≡ withRow (tableAt tables k) a s
+  table-put-same =
+      either (split (ltb a width))
+      (λ t.
+      let l : a < width = ltb-true a width (T→true _ t) in
+      ap (λ (q : List ℕ). tableAt q k) (sym (both l))
+      ∙ word-same k (width + a) (s .high) (omega arith) (set tables (k * rowWords + a) (s .low))
+      ∙ ap (λ (q : List ℕ). set q (width + a) (s .high)) (word-same k a (s .low) (omega arith) tables)
+      ∙ put-in (tableAt tables k) a s l)
+      (λ f.
+      let g = ltb-false a width (F→false _ f) in
+      ap (λ (q : List ℕ). tableAt q k) (sym (table-put-above tables k a s g)) ∙ put-out (tableAt tables k) a s g)
+
+  -- the others stay
+  pub table-put-other : (j : ℕ) → (j ≡ k → ⊥) → tableAt (withRowIn tables k a s) j ≡ tableAt tables j
+  table-put-other j n =
+      either (split (ltb a width))
+      (λ t.
+      let l : a < width = ltb-true a width (T→true _ t) in
+      ap (λ (q : List ℕ). tableAt q j) (sym (both l))
+      ∙ word-other k (width + a) (s .high) (omega arith) (set tables (k * rowWords + a) (s .low)) j n
+      ∙ word-other k a (s .low) (omega arith) tables j n)
+      (λ f. ap (λ (q : List ℕ). tableAt q j) (sym (table-put-above tables k a s (ltb-false a width (F→false _ f)))))
 
 -- a row that is joined with a set
 pub table-join : (tables : List ℕ) (k a : ℕ) (s old new : Set) (out : List ℕ)
@@ -110,7 +141,7 @@ pub table-join : (tables : List ℕ) (k a : ℕ) (s old new : Set) (out : List �
     → out ≡ gainedIn tables k a s
 table-join tables k a s old new out ho hn h = h ∙ ap (withRowIn tables k a) (hn ∙ ap (λ (u : Set). those (λ b. mem u b or mem s b)) ho)
 
-pub ruleset placing = (table-row, table-row-above, table-row-past, table-put, table-put-above, table-put-past)
+pub ruleset placing = (word-past, word-put-past, table-row-is, table-row-above, table-put-is, table-put-above)
 
 -- a loop that puts row after row
 module _ (tables : List ℕ) (k : ℕ) (rows : List ℕ) where
@@ -141,11 +172,14 @@ pub ruleset putting = (rows-begin, rows-next, rows-end, rows-length)
 
 pub table-rowsOf : (r : Relation) → tableAt (rowsOf r) 0 ≡ rowsOf r
 unfolding tableAt
-table-rowsOf r = take-all width (rowsOf r) (omega (arith, length-rowsOf r))
+table-rowsOf r = take-all rowWords (rowsOf r) (omega (arith, length-rowsOf r))
 
 one-table : (rows : List ℕ) (a : ℕ) (s : Set) → withRowIn rows 0 a s ≡ withRow rows a s
 unfolding withRowIn withRow
-one-table rows a s = let same : 0 * width + a ≡ a = omega arith in ap (λ (i : ℕ). when ltb a width then set rows i (s .bits) else rows) same
+one-table rows a s =
+    let low : 0 * rowWords + a ≡ a = omega arith in
+    let high : 0 * rowWords + a + width ≡ width + a = omega arith in
+    λ i. when ltb a width then set (set rows (low i) (s .low)) (high i) (s .high) else rows
 
 -- rows that were put down row by row are there
 rows-there : (rows : List ℕ) (m : ℕ) → m ≤ width → (a : ℕ) → a < m → rowAt (withRowsIn noRows 0 rows m) a ≡ rowAt rows a
@@ -153,7 +187,7 @@ unfolding withRowsIn
 rows-there rows zero l a h = absurd (not-suc-le-zero h)
 rows-there rows (suc m) l a h =
     let held = withRowsIn noRows 0 rows m in
-    let long : length held ≡ width = length-rows-in noRows 0 rows m ∙ length-replicate {A = ℕ} width 0 in
+    let long : length held ≡ rowWords = length-rows-in noRows 0 rows m ∙ length-replicate {A = ℕ} rowWords 0 in
     ap (λ (x : List ℕ). rowAt x a) (one-table held m (rowAt rows m))
     ∙ either (split (eqb a m))
     (λ t.
@@ -167,29 +201,29 @@ row-taken rows a l = rows-there rows width (omega arith) a l
 
 -- ---- tables are known by their rows
 
-next-table : (x : List ℕ) (k : ℕ) → tableAt (drop width x) k ≡ tableAt x (suc k)
+next-table : (x : List ℕ) (k : ℕ) → tableAt (drop rowWords x) k ≡ tableAt x (suc k)
 unfolding tableAt
 next-table x k =
-    let same : width + k * width ≡ suc k * width = omega arith in
-    ap (take width) (drop-drop (k * width) width x ∙ ap (λ (n : ℕ). drop n x) same)
+    let same : rowWords + k * rowWords ≡ suc k * rowWords = omega arith in
+    ap (take rowWords) (drop-drop (k * rowWords) rowWords x ∙ ap (λ (n : ℕ). drop n x) same)
 
 no-rows : (x : List ℕ) → length x ≡ 0 → x ≡ []
 no-rows [] e = refl
 no-rows (a ∷ x) e = absurd (omega arith)
 
-pub tables-ext : (n : ℕ) (x y : List ℕ) → length x ≡ n * width → length y ≡ n * width → ((k : ℕ) → k < n → tableAt x k ≡ tableAt y k)
+pub tables-ext : (n : ℕ) (x y : List ℕ) → length x ≡ n * rowWords → length y ≡ n * rowWords → ((k : ℕ) → k < n → tableAt x k ≡ tableAt y k)
     → x ≡ y
 unfolding tableAt
 tables-ext zero x y hx hy e = no-rows x (omega arith) ∙ sym (no-rows y (omega arith))
 tables-ext (suc n) x y hx hy e =
     let rest =
-    tables-ext n (drop width x) (drop width y) (length-drop width x ∙ omega arith) (length-drop width y ∙ omega arith)
+    tables-ext n (drop rowWords x) (drop rowWords y) (length-drop rowWords x ∙ omega arith) (length-drop rowWords y ∙ omega arith)
     (λ k l. next-table x k ∙ e (suc k) (omega arith) ∙ sym (next-table y k)) in
-    sym (take-append-drop width x) ∙ (λ i. e 0 (omega arith) i ++ rest i) ∙ take-append-drop width y
+    sym (take-append-drop rowWords x) ∙ (λ i. e 0 (omega arith) i ++ rest i) ∙ take-append-drop rowWords y
 
 -- ---- the tables of relations
 
-pub length-tablesOf : (n : ℕ) (r : ℕ → Relation) → length (tablesOf n r) ≡ n * width
+pub length-tablesOf : (n : ℕ) (r : ℕ → Relation) → length (tablesOf n r) ≡ n * rowWords
 unfolding tablesOf
 length-tablesOf zero r = refl
 length-tablesOf (suc n) r =
@@ -201,17 +235,17 @@ length-tablesOf (suc n) r =
 pub table-tablesOf : (n : ℕ) (r : ℕ → Relation) (k : ℕ) → k < n → tableAt (tablesOf n r) k ≡ rowsOf (r k)
 unfolding tablesOf tableAt
 table-tablesOf zero r k l = absurd (not-suc-le-zero l)
-table-tablesOf (suc n) r zero l = take-at (rowsOf (r 0)) (tablesOf n (λ k. r (suc k))) width (length-rowsOf (r 0))
+table-tablesOf (suc n) r zero l = take-at (rowsOf (r 0)) (tablesOf n (λ k. r (suc k))) rowWords (length-rowsOf (r 0))
 table-tablesOf (suc n) r (suc k) l =
     sym (next-table (rowsOf (r 0) ++ tablesOf n (λ j. r (suc j))) k)
-    ∙ ap (λ (x : List ℕ). tableAt x k) (drop-at (rowsOf (r 0)) (tablesOf n (λ j. r (suc j))) width (length-rowsOf (r 0)))
+    ∙ ap (λ (x : List ℕ). tableAt x k) (drop-at (rowsOf (r 0)) (tablesOf n (λ j. r (suc j))) rowWords (length-rowsOf (r 0)))
     ∙ table-tablesOf n (λ j. r (suc j)) k (le-of-suc-le-suc l)
 
 pub in-tablesOf : (n : ℕ) (r : ℕ → Relation) (k a b : ℕ) → k < n → a < width → b < width → inRow (tableAt (tablesOf n r) k) a b ≡ r k a b
 in-tablesOf n r k a b l la lb = ap (λ (rows : List ℕ). inRow rows a b) (table-tablesOf n r k l) ∙ in-rowsOf (r k) a b la lb
 
 -- tables of the right length whose rows are those of relations are their tables
-pub is-tablesOf : (n : ℕ) (x : List ℕ) (r : ℕ → Relation) → length x ≡ n * width → ((k : ℕ) → k < n → tableAt x k ≡ rowsOf (r k))
+pub is-tablesOf : (n : ℕ) (x : List ℕ) (r : ℕ → Relation) → length x ≡ n * rowWords → ((k : ℕ) → k < n → tableAt x k ≡ rowsOf (r k))
     → x ≡ tablesOf n r
 is-tablesOf n x r h e = tables-ext n x (tablesOf n r) h (length-tablesOf n r) (λ k l. e k l ∙ sym (table-tablesOf n r k l))
 
@@ -221,31 +255,31 @@ tablesOf-ext n r q e =
     is-tablesOf n (tablesOf n r) q (length-tablesOf n r)
     (λ k l. table-tablesOf n r k l ∙ rowsOf-ext (r k) (q k) (λ a b la lb. e k a b l la lb))
 
-pub length-table : (n : ℕ) (tables : List ℕ) (k : ℕ) → length tables ≡ n * width → k < n → length (tableAt tables k) ≡ width
+pub length-table : (n : ℕ) (tables : List ℕ) (k : ℕ) → length tables ≡ n * rowWords → k < n → length (tableAt tables k) ≡ rowWords
 unfolding tableAt
 length-table n tables k h l =
-    let rest = length-drop (k * width) tables in
-    length-take-le width (drop (k * width) tables) (omega arith)
+    let rest = length-drop (k * rowWords) tables in
+    length-take-le rowWords (drop (k * rowWords) tables) (omega arith)
 
 -- a table of tables without a member
 pub table-none : (n k : ℕ) → k < n → tableAt (noTables n) k ≡ noRows
 unfolding tableAt
 table-none n k l =
-    let long = length-replicate {A = ℕ} (n * width) 0 in
+    let long = length-replicate {A = ℕ} (n * rowWords) 0 in
     let is = length-table n (noTables n) k long l in
-    ext-getD 0 (tableAt (noTables n) k) noRows (is ∙ sym (length-replicate {A = ℕ} width 0))
+    ext-getD 0 (tableAt (noTables n) k) noRows (is ∙ sym (length-replicate {A = ℕ} rowWords 0))
     (λ i h.
-    let low : i < width = omega arith in
-    getD-take width (drop (k * width) (noTables n)) i 0 low
-    ∙ getD-drop (k * width) (noTables n) i 0
-    ∙ getD-replicate (n * width) (k * width + i) 0 0 (omega arith)
-    ∙ sym (getD-replicate width i 0 0 low))
+    let low : i < rowWords = omega arith in
+    getD-take rowWords (drop (k * rowWords) (noTables n)) i 0 low
+    ∙ getD-drop (k * rowWords) (noTables n) i 0
+    ∙ getD-replicate (n * rowWords) (k * rowWords + i) 0 0 (omega arith)
+    ∙ sym (getD-replicate rowWords i 0 0 low))
 
 -- tables without a member are those of relations without a pair
 pub empty-tablesOf : (n : ℕ) (r : ℕ → Relation) → ((k a b : ℕ) → k < n → a < width → b < width → r k a b ≡ false)
     → noTables n ≡ tablesOf n r
 empty-tablesOf n r e =
-    is-tablesOf n (noTables n) r (length-replicate {A = ℕ} (n * width) 0)
+    is-tablesOf n (noTables n) r (length-replicate {A = ℕ} (n * rowWords) 0)
     (λ k l. table-none n k l ∙ empty-rowsOf (r k) (λ a b la lb. e k a b l la lb))
 
 -- a row that is put into relations' tables: it is enough to know what becomes of its own table

@@ -1,13 +1,17 @@
--- Sets of activities, said by their members (01, "Sizes": a set is 8 bytes, bit a for activity a).
+-- Sets of activities, said by their members (01, "Sizes": bit a for activity a; 02, 10/12: up to 128).
 use mathlib.Core.Bool.{Bool, true, false}
-use Prim.Native.Nat.{ℕ, zero, suc, _+_, _*_, _/_, _%_, _^_}
+use Prim.Native.Nat.{ℕ, zero, suc, _+_, _-_, _*_, _/_, _%_, _^_}
 use lib.Dec.{eqb, ltb}
-use Rattle.sets.specs.Tests.{_and_, _or_, non}
+use Rattle.sets.specs.Tests.{_and_, _or_, non, when_then_else_}
 use Rattle.sets.specs.declared.set.Set.{Set}
 
 -- how many activities a set can hold: the one place in the definitions where the width stands
 abbrev pub width : ℕ
-width = 64
+width = 128
+
+-- how many of them a machine word holds
+abbrev pub word : ℕ
+word = 64
 
 abbrev pub digit : Bool → ℕ
 digit true = 1
@@ -22,17 +26,17 @@ unfoldable pub bitsOf : ℕ → (ℕ → Bool) → ℕ
 bitsOf zero p = 0
 bitsOf (suc w) p = digit (p 0) + 2 * bitsOf w (λ a. p (suc a))
 
--- a is a member of s
+-- a is a member of s: the low word's digit a, and from 64 on the high word's digit a - 64
 unfoldable pub mem : Set → ℕ → Bool
-mem s a = bit (s .bits) a
+mem s a = when ltb a word then bit (s .low) a else bit (s .high) (a - word)
 
 -- the set of the activities that pass
 unfoldable pub those : (ℕ → Bool) → Set
-those p = record { bits = bitsOf width p }
+those p = record { low = bitsOf word p; high = bitsOf word (λ a. p (word + a)) }
 
 -- the set without a member
 abbrev pub noSet : Set
-noSet = record { bits = 0 }
+noSet = record { low = 0; high = 0 }
 
 -- some number below w passes
 unfoldable pub someBelow : ℕ → (ℕ → Bool) → Bool

@@ -1,9 +1,9 @@
--- The greatest sizes (01, "Sizes").
+-- The greatest sizes (01, "Sizes"; 02, 10/12).
 use Prim.Native.Nat.{ℕ}
 
 -- A
 abbrev pub mostActivities : ℕ
-mostActivities = 64
+mostActivities = 128
 
 -- T
 abbrev pub mostTraces : ℕ

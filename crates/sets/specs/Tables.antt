@@ -5,20 +5,20 @@ use lib.Dec.{ltb}
 use lib.ListN.{take, drop, set, replicate}
 use Rattle.sets.specs.Tests.{_or_, when_then_else_}
 use Rattle.sets.specs.Members.{width, mem, those}
-use Rattle.sets.specs.Rows.{Relation, rowAt, rowsOf}
+use Rattle.sets.specs.Rows.{Relation, rowWords, rowAt, rowsOf}
 use Rattle.sets.specs.declared.set.Set.{Set}
 
 -- n tables without a member
 abbrev pub noTables : ℕ → List ℕ
-noTables n = replicate (n * width) 0
+noTables n = replicate (n * rowWords) 0
 
 -- the rows of table k
 unfoldable pub tableAt : List ℕ → ℕ → List ℕ
-tableAt tables k = take width (drop (k * width) tables)
+tableAt tables k = take rowWords (drop (k * rowWords) tables)
 
 -- the tables with s in row a of table k; the same where there is no such row
 unfoldable pub withRowIn : List ℕ → ℕ → ℕ → Set → List ℕ
-withRowIn tables k a s = when ltb a width then set tables (k * width + a) (s .bits) else tables
+withRowIn tables k a s = when ltb a width then set (set tables (k * rowWords + a) (s .low)) (k * rowWords + a + width) (s .high) else tables
 
 -- the tables where row a of table k has gained the members of s
 abbrev pub gainedIn : List ℕ → ℕ → ℕ → Set → List ℕ

@@ -8,13 +8,16 @@ use crate::activity::Activity;
 use crate::activity::WIDTH;
 use crate::set::Set;
 
-pub type Rows = [u64; WIDTH];
+// How many words the rows of one relation are: the low words of all rows, then the high ones.
+pub const WORDS: usize = WIDTH * 2;
+
+pub type Rows = [u64; WORDS];
 
 // Rows that are all empty.
 pub fn empty() -> Rows
     ensures { λ r. ⌜ r ≡ noRows ⌝ }
 {
-    [0; WIDTH]
+    [0; WORDS]
 }
 
 // The activity's row; empty past the last.
@@ -23,7 +26,10 @@ pub fn row(rows: &Rows, a: Activity) -> Set
 {
     let i = a.0 as usize;
     if i < WIDTH {
-        Set { bits: rows[i] }
+        Set {
+            low: rows[i],
+            high: rows[WIDTH + i],
+        }
     } else {
         Set::EMPTY
     }
@@ -35,7 +41,8 @@ pub fn put(rows: &mut Rows, a: Activity, s: Set)
 {
     let i = a.0 as usize;
     if i < WIDTH {
-        rows[i] = s.bits;
+        rows[i] = s.low;
+        rows[WIDTH + i] = s.high;
     }
 }
 
@@ -45,9 +52,13 @@ pub fn join(rows: &mut Rows, a: Activity, s: Set)
 {
     let i = a.0 as usize;
     if i < WIDTH {
-        let old = Set { bits: rows[i] };
+        let old = Set {
+            low: rows[i],
+            high: rows[WIDTH + i],
+        };
         let new = old.union(s);
-        rows[i] = new.bits;
+        rows[i] = new.low;
+        rows[WIDTH + i] = new.high;
     }
 }
 

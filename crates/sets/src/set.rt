@@ -1,26 +1,38 @@
-// A set of activities, bit a for activity a (01, "Sizes"). Every operation is said by its members.
+// A set of activities in two words, bit a for activity a (01, "Sizes"; 02, 10/12). Every operation is said by its members.
 ghost use mathlib.Core.Path.{_≡_};
 ghost use lib.Dec.{eqb, ltb};
 ghost use Rattle.sets.specs.Tests.{_and_, _or_, non};
 ghost use Rattle.sets.specs.Members.{width, mem, those, within, isEmpty, leastBelow, nextAbove, countBelow};
 use crate::activity::Activity;
+use crate::activity::WORD;
 
 pub struct Set {
-    pub bits: u64,
+    // Activities 0 to 63.
+    pub low: u64,
+    // Activities 64 to 127.
+    pub high: u64,
 }
 
 impl Set {
-    pub const EMPTY: Set = Set { bits: 0 };
+    pub const EMPTY: Set = Set { low: 0, high: 0 };
 
     // The set of one activity; empty where its number is above every set's reach.
     pub fn one(a: Activity) -> Set
         ensures { λ r. ⌜ r ≡ those (λ b. eqb b (a .0)) ⌝ }
     {
         let n = a.0;
-        if n < Activity::LIMIT {
-            Set { bits: 1 << n }
+        if n < WORD {
+            Set {
+                low: 1 << n,
+                high: 0,
+            }
+        } else if n < Activity::LIMIT {
+            Set {
+                low: 0,
+                high: 1 << (n - WORD),
+            }
         } else {
-            Set { bits: 0 }
+            Set { low: 0, high: 0 }
         }
     }
 
@@ -35,10 +47,18 @@ impl Set {
     pub fn below(n: u8) -> Set
         ensures { λ r. ⌜ r ≡ those (λ a. ltb a n) ⌝ }
     {
-        if n < Activity::LIMIT {
-            Set { bits: (1 << n) - 1 }
+        if n < WORD {
+            Set {
+                low: (1 << n) - 1,
+                high: 0,
+            }
+        } else if n < Activity::LIMIT {
+            Set {
+                low: !0,
+                high: (1 << (n - WORD)) - 1,
+            }
         } else {
-            Set { bits: !0 }
+            Set { low: !0, high: !0 }
         }
     }
 
@@ -47,8 +67,10 @@ impl Set {
         ensures { λ r. ⌜ r ≡ mem self (a .0) ⌝ }
     {
         let n = a.0;
-        if n < Activity::LIMIT {
-            self.bits >> n & 1 == 1
+        if n < WORD {
+            self.low >> n & 1 == 1
+        } else if n < Activity::LIMIT {
+            self.high >> (n - WORD) & 1 == 1
         } else {
             false
         }
@@ -58,7 +80,8 @@ impl Set {
         ensures { λ r. ⌜ r ≡ those (λ a. mem self a or mem other a) ⌝ }
     {
         Set {
-            bits: self.bits | other.bits,
+            low: self.low | other.low,
+            high: self.high | other.high,
         }
     }
 
@@ -66,7 +89,8 @@ impl Set {
         ensures { λ r. ⌜ r ≡ those (λ a. mem self a and mem other a) ⌝ }
     {
         Set {
-            bits: self.bits & other.bits,
+            low: self.low & other.low,
+            high: self.high & other.high,
         }
     }
 
@@ -74,7 +98,8 @@ impl Set {
         ensures { λ r. ⌜ r ≡ those (λ a. mem self a and non (mem other a)) ⌝ }
     {
         Set {
-            bits: self.bits & !other.bits,
+            low: self.low & !other.low,
+            high: self.high & !other.high,
         }
     }
 
@@ -82,41 +107,63 @@ impl Set {
     pub fn complement(self) -> Set
         ensures { λ r. ⌜ r ≡ those (λ a. non (mem self a)) ⌝ }
     {
-        Set { bits: !self.bits }
+        Set {
+            low: !self.low,
+            high: !self.high,
+        }
     }
 
     pub fn is_empty(self) -> bool
         ensures { λ r. ⌜ r ≡ isEmpty self ⌝ }
     {
-        self.bits == 0
+        self.low | self.high == 0
     }
 
     // Whether every member is a member of the other.
     pub fn is_within(self, other: Set) -> bool
         ensures { λ r. ⌜ r ≡ within self other ⌝ }
     {
-        self.bits & !other.bits == 0
+        self.difference(other).is_empty()
     }
 
     // How many members.
     pub fn count(self) -> u8
         ensures { λ r. ⌜ r ≡ countBelow width (mem self) ⌝ }
     {
-        u64::count_ones(self.bits) as u8
+        (u64::count_ones(self.low) + u64::count_ones(self.high)) as u8
     }
 
     // The least member; the width where there is none.
     pub fn least(self) -> Activity
         ensures { λ r. ⌜ r .0 ≡ leastBelow width (mem self) ⌝ }
     {
-        Activity(u64::trailing_zeros(self.bits) as u8)
+        let low = self.low;
+        if low != 0 {
+            Activity(u64::trailing_zeros(low) as u8)
+        } else {
+            Activity(WORD + u64::trailing_zeros(self.high) as u8)
+        }
     }
 
     // The set less its least member: what is left of a set that is passed member by member.
     pub fn without_least(self) -> Set
         ensures { λ r. ⌜ r ≡ those (λ b. mem self b and non (eqb b (leastBelow width (mem self)))) ⌝ }
     {
-        self.difference(Set::one(self.least()))
+        let low = self.low;
+        let high = self.high;
+        if low != 0 {
+            return Set {
+                low: low & (low - 1),
+                high,
+            };
+        }
+        if high != 0 {
+            return Set {
+                low,
+                high: high & (high - 1),
+            };
+        }
+        Set { low, high }
     }
 
     // The least member above a; the width where there is none.

@@ -1,6 +1,7 @@
 // Several relations kept in one array: the rows of table 0, then those of table 1, and so on. Rows past the end are empty, and
 // a put there changes nothing, so the length is no concern of a caller.
 ghost use mathlib.Core.Path.{_≡_};
+ghost use lib.ListN.{getD, set};
 ghost use Rattle.sets.specs.Rows.{noRows, rowAt};
 ghost use Rattle.sets.specs.Tables.{tableAt, withRowIn, gainedIn, withTable};
 use crate::activity::Activity;
@@ -8,6 +9,25 @@ use crate::activity::WIDTH;
 use crate::rows;
 use crate::rows::Rows;
 use crate::set::Set;
+
+// The word at a place; 0 where there is none.
+fn word_at(tables: &[u64], i: usize) -> u64
+    ensures { λ r. ⌜ r ≡ getD (now (tables .entry)) i 0 ⌝ }
+{
+    if tables.len() <= i {
+        return 0;
+    }
+    tables[i]
+}
+
+// Puts a word at a place; where there is none, nothing changes.
+fn put_word(tables: &mut [u64], i: usize, x: u64)
+    ensures { λ _. ⌜ now (tables .exit) ≡ set (now (tables .entry)) i x ⌝ }
+{
+    if i < tables.len() {
+        tables[i] = x;
+    }
+}
 
 // The activity's row of a table.
 pub fn row(tables: &[u64], table: u8, a: Activity) -> Set
@@ -17,11 +37,11 @@ pub fn row(tables: &[u64], table: u8, a: Activity) -> Set
     if WIDTH <= n {
         return Set::EMPTY;
     }
-    let i = table as usize * WIDTH + n;
-    if tables.len() <= i {
-        return Set::EMPTY;
+    let i = table as usize * rows::WORDS + n;
+    Set {
+        low: word_at(tables, i),
+        high: word_at(tables, i + WIDTH),
     }
-    Set { bits: tables[i] }
 }
 
 // Puts a set into the activity's row of a table.
@@ -30,10 +50,9 @@ pub fn put(tables: &mut [u64], table: u8, a: Activity, s: Set)
 {
     let n = a.0 as usize;
     if n < WIDTH {
-        let i = table as usize * WIDTH + n;
-        if i < tables.len() {
-            tables[i] = s.bits;
-        }
+        let i = table as usize * rows::WORDS + n;
+        put_word(tables, i, s.low);
+        put_word(tables, i + WIDTH, s.high);
     }
 }
 

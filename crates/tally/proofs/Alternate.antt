@@ -2,63 +2,65 @@
 -- nothing.
 use mathlib.Core.Path.{_≡_, refl, sym, ap, _∙_}
 use mathlib.Core.Bool.{Bool, true, false}
-use mathlib.Core.List.{List, []}
+use mathlib.Core.List.{List, [], reverseAux}
 use Prim.Native.Nat.{ℕ, _+_, _*_, _≤_, _<_}
 use borrow.Author.Tests.{ltb-true, ltb-false}
-use lib.Dec.{ltb}
-use lib.ListN.{getD}
+use lib.Dec.{T, ltb}
+use lib.ListN.{getD, set}
 use lib.Seq.{set-getD}
 use Rattle.sets.specs.Tests.{_and_, _or_, non, when_then_else_}
 use Rattle.sets.specs.Members.{width, mem, those, isEmpty}
-use Rattle.sets.specs.Rows.{rowAt}
+use Rattle.sets.specs.Rows.{rowAt, rowWords}
 use Rattle.sets.specs.Tables.{tableAt, withRowIn, gainedIn}
 use Rattle.sets.specs.declared.set.Set.{Set}
-use Rattle.sets.proofs.Tests.{T→true, F→false, true→T, T-eq, non-i, split, either}
+use Rattle.sets.proofs.Tests.{T→true, F→false, true→T, T-eq, split, either}
+use Rattle.sets.proofs.Tautologies.{by3}
 use Rattle.sets.proofs.Members.{those-ext, those-of, mem-those, empty-e}
 use Rattle.sets.proofs.MadeSets.{is-those}
 use Rattle.sets.proofs.TableLaws.{table-row, table-put, table-put-above}
 use Rattle.rules.specs.Traces.{_has_}
-use Rattle.tally.specs.Passes.{notedIn, notSince}
+use Rattle.tally.specs.Passes.{notedIn, notSince, reaches, cut}
+use Rattle.tally.specs.Tallies.{unalternatedTable, noteSinceIn, sinceBy}
 use Rattle.tally.proofs.Turns.{seenIn}
 use Rattle.tally.proofs.Since.{since, since-all}
 
 -- what the row lacks and is not met, joined to the row, is what is not met joined to it
-absorb : (a n : Bool) → (a or (non a and n)) ≡ (a or n)
+absorb : (a r n : Bool) → (a or (r and non a and n)) ≡ (a or (r and n))
 unfolding _and_ _or_ non
-absorb true n = refl
-absorb false n = refl
+absorb = by3 (λ a r n. a or (r and non a and n)) (λ a r n. a or (r and n)) tt
 
-module _ (tables : List ℕ) (k e : ℕ) (past : List ℕ) (seen : Set) (r : Bool) (hr : r ≡ mem seen e) (out : List ℕ) where
+module _ (wide : Bool) (tables : List ℕ) (k e : ℕ) (past : List ℕ) (seen : Set) (r : Bool) (hr : r ≡ mem seen e) (out : List ℕ) where
+  abbrev old : ℕ → Bool
+  old x = mem (rowAt (tableAt tables k) e) x
+
   abbrev choice : ℕ → Bool
   choice x = when mem seen e then notSince e past [] x else non (mem seen x)
 
-  pub note-repeat : (row wanted left : Set) → r ≡ true → row ≡ rowAt (tableAt tables k) e → wanted ≡ those (λ x. non (mem row x))
-      → left ≡ those (λ x. mem wanted x and notSince e past [] x)
-      → out ≡ gainedIn tables k e left
-      → out ≡ notedIn tables k e (λ x. when mem seen e then notSince e past [] x else non (mem seen x))
+  pub note-repeat : (row lacked wanted left : Set) → r ≡ true → row ≡ rowAt (tableAt tables k) e → lacked ≡ those (λ x. non (mem row x))
+      → wanted ≡ those (λ x. reaches wide x and mem lacked x) → left ≡ those (λ x. mem wanted x and notSince e past [] x)
+      → out ≡ gainedIn tables k e left → out ≡ notedIn tables k e (λ x. reaches wide x and choice x)
   unfolding notedIn
-  note-repeat row wanted left ht hrow hw hl h =
+  note-repeat row lacked wanted left ht hrow hk hw hl h =
       h
       ∙ ap (withRowIn tables k e)
-      (those-of left (λ x. mem wanted x and notSince e past [] x) (λ x t. mem (rowAt (tableAt tables k) e) x or t) hl
-      ∙ those-of wanted (λ x. non (mem row x)) (λ x t. mem (rowAt (tableAt tables k) e) x or (t and notSince e past [] x)) hw
-      ∙ ap (λ (s : Set). those (λ x. mem (rowAt (tableAt tables k) e) x or (non (mem s x) and notSince e past [] x))) hrow
-      ∙ those-ext (λ x. mem (rowAt (tableAt tables k) e) x or (non (mem (rowAt (tableAt tables k) e) x) and notSince e past [] x))
-      (λ x. mem (rowAt (tableAt tables k) e) x or choice x)
+      (those-of left (λ x. mem wanted x and notSince e past [] x) (λ x t. old x or t) hl
+      ∙ those-of wanted (λ x. reaches wide x and mem lacked x) (λ x t. old x or (t and notSince e past [] x)) hw
+      ∙ those-of lacked (λ x. non (mem row x)) (λ x t. old x or (reaches wide x and t and notSince e past [] x)) hk
+      ∙ ap (λ (s : Set). those (λ x. old x or (reaches wide x and non (mem s x) and notSince e past [] x))) hrow
+      ∙ those-ext (λ x. old x or (reaches wide x and non (old x) and notSince e past [] x)) (λ x. old x or (reaches wide x and choice x))
       (λ x l.
-      absorb (mem (rowAt (tableAt tables k) e) x) (notSince e past [] x)
-      ∙ ap (λ (t : Bool). mem (rowAt (tableAt tables k) e) x or (when t then notSince e past [] x else non (mem seen x))) (sym ht ∙ hr)))
+      absorb (old x) (reaches wide x) (notSince e past [] x)
+      ∙ ap (λ (t : Bool). old x or (reaches wide x and (when t then notSince e past [] x else non (mem seen x)))) (sym ht ∙ hr)))
 
-  pub note-first : (others : Set) → r ≡ false → others ≡ those (λ x. non (mem seen x))
-      → out ≡ gainedIn tables k e others
-      → out ≡ notedIn tables k e (λ x. when mem seen e then notSince e past [] x else non (mem seen x))
+  pub note-first : (unseen others : Set) → r ≡ false → unseen ≡ those (λ x. non (mem seen x)) → others ≡ those (λ x. reaches wide x and mem unseen x)
+      → out ≡ gainedIn tables k e others → out ≡ notedIn tables k e (λ x. reaches wide x and choice x)
   unfolding notedIn
-  note-first others ht ho h =
+  note-first unseen others ht hu ho h =
       h
       ∙ ap (withRowIn tables k e)
-      (those-of others (λ x. non (mem seen x)) (λ x t. mem (rowAt (tableAt tables k) e) x or t) ho
-      ∙ ap (λ (t : Bool). those (λ x. mem (rowAt (tableAt tables k) e) x or (when t then notSince e past [] x else non (mem seen x))))
-      (sym ht ∙ hr))
+      (those-of others (λ x. reaches wide x and mem unseen x) (λ x t. old x or t) ho
+      ∙ those-of unseen (λ x. non (mem seen x)) (λ x t. old x or (reaches wide x and t)) hu
+      ∙ ap (λ (t : Bool). those (λ x. old x or (reaches wide x and (when t then notSince e past [] x else non (mem seen x))))) (sym ht ∙ hr))
 
 -- a row that has all gains nothing
 put-back : (tables : List ℕ) (k e : ℕ) → withRowIn tables k e (rowAt (tableAt tables k) e) ≡ tables
@@ -67,54 +69,66 @@ put-back tables k e =
     (λ t.
     let l = ltb-true e width (T→true _ t) in
     ap (withRowIn tables k e) (sym (table-row tables k e l))
-    ∙ sym (table-put tables k e (record { bits = getD tables (k * width + e) 0 }) l)
-    ∙ set-getD tables (k * width + e) 0)
+    ∙ sym (table-put tables k e (record { low = getD tables (k * rowWords + e) 0; high = getD tables (k * rowWords + e + width) 0 }) l)
+    ∙ ap (λ (t : List ℕ). set t (k * rowWords + e + width) (getD tables (k * rowWords + e + width) 0)) (set-getD tables (k * rowWords + e) 0)
+    ∙ set-getD tables (k * rowWords + e + width) 0)
     (λ f. sym (table-put-above tables k e _ (ltb-false e width (F→false _ f))))
 
-pub note-full : (tables : List ℕ) (k e : ℕ) (p : ℕ → Bool) (row wanted : Set) (r : Bool) → those (mem row) ≡ row
-    → row ≡ rowAt (tableAt tables k) e → wanted ≡ those (λ x. non (mem row x)) → r ≡ isEmpty wanted → r ≡ true → tables ≡ notedIn tables k e p
-unfolding notedIn _or_
-note-full tables k e p row wanted r whole hrow hw hr ht =
-    sym (ap (λ (s : Set). withRowIn tables k e (those (λ x. mem s x or p x))) (sym hrow)
-    ∙ ap (withRowIn tables k e) (those-ext (λ x. mem row x or p x) (mem row)
-    (λ x l. ap (λ (t : Bool). t or p x) (full x l) ∙ sym (full x l)) ∙ whole ∙ hrow)
+gains-none : (a g b : Bool) → (T (g and non a) → ⊥) → (a or (g and b)) ≡ a
+unfolding _and_ _or_ non
+gains-none true g b h = refl
+gains-none false true b h = absurd (h tt)
+gains-none false false b h = refl
+
+pub note-full : (wide : Bool) (tables : List ℕ) (k e : ℕ) (p : ℕ → Bool) (row lacked wanted : Set) (r : Bool) → those (mem row) ≡ row
+    → row ≡ rowAt (tableAt tables k) e → lacked ≡ those (λ x. non (mem row x)) → wanted ≡ those (λ x. reaches wide x and mem lacked x)
+    → r ≡ isEmpty wanted → r ≡ true → tables ≡ notedIn tables k e (λ x. reaches wide x and p x)
+unfolding notedIn
+note-full wide tables k e p row lacked wanted r whole hrow hk hw hr ht =
+    sym (ap (λ (s : Set). withRowIn tables k e (those (λ x. mem s x or (reaches wide x and p x)))) (sym hrow)
+    ∙ ap (withRowIn tables k e) (those-ext (λ x. mem row x or (reaches wide x and p x)) (mem row)
+    (λ x l. gains-none (mem row x) (reaches wide x) (p x) (full x l)) ∙ whole ∙ hrow)
     ∙ put-back tables k e)
   where
-    full : (x : ℕ) → x < width → mem row x ≡ true
-    full x l =
-        T→true _ (either (split (mem row x)) (λ t. t)
-        (λ f. absurd (empty-e wanted (true→T (sym hr ∙ ht)) x l (T-eq (sym (is-those wanted (λ y. non (mem row y)) hw x l)) (non-i _ f)))))
+    -- nothing that the form holds is lacked
+    full : (x : ℕ) → x < width → T (reaches wide x and non (mem row x)) → ⊥
+    full x l t =
+        empty-e wanted (true→T (sym hr ∙ ht)) x l
+        (T-eq (sym (is-those wanted _ hw x l ∙ ap (λ (b : Bool). reaches wide x and b) (is-those lacked _ hk x l))) t)
 
 -- either way the row gains the fact of the place
-pub since-noted : (tables : List ℕ) (k e : ℕ) (past rest : List ℕ) (seen : Set) (out : List ℕ) → seen ≡ seenIn past
-    → out ≡ notedIn tables k e (λ x. when mem seen e then notSince e past [] x else non (mem seen x)) → out
-    ≡ notedIn tables k e (notSince e past rest)
-unfolding notedIn notSince
-since-noted tables k e past rest seen out hs h =
-    h ∙ either (split (ltb e width)) (λ l. inside (ltb-true e width (T→true _ l))) (λ g. outside (ltb-false e width (F→false _ g)))
-  where
-    member : (x : ℕ) → x < width → mem seen x ≡ past has x
-    member x l = ap (λ (s : Set). mem s x) hs ∙ mem-those (λ y. past has y) x l
+module _ (wide : Bool) (tables : List ℕ) (e : ℕ) (σ rest : List ℕ) (seen : Set) (hs : seen ≡ seenIn (reverseAux σ [])) where
+  abbrev past : List ℕ
+  past = reverseAux σ []
 
-    pick : (x : ℕ) → x < width → (t : Bool) → past has e ≡ t → (when t then non (since e x [] past) else non (mem seen x))
-        ≡ non (since e x [] past)
-    pick x l true q = refl
-    pick x l false q = ap non (member x l ∙ sym (since-all e x [] past none q))
-      where
-        none : [] has e ≡ false
-        none = unfold _has_ in refl
+  member : (x : ℕ) → x < width → mem seen x ≡ past has x
+  member x l = ap (λ (s : Set). mem s x) hs ∙ mem-those (λ y. past has y) x l
 
-    inside : e < width → withRowIn tables k e
-        (those (λ x. mem (rowAt (tableAt tables k) e) x or (when mem seen e then non (since e x [] past) else non (mem seen x))))
-        ≡ withRowIn tables k e (those (λ x. mem (rowAt (tableAt tables k) e) x or non (since e x [] past)))
-    inside l =
-        ap (withRowIn tables k e)
-        (those-ext (λ x. mem (rowAt (tableAt tables k) e) x or (when mem seen e then non (since e x [] past) else non (mem seen x)))
-        (λ x. mem (rowAt (tableAt tables k) e) x or non (since e x [] past))
-        (λ x lx. ap (λ (t : Bool). mem (rowAt (tableAt tables k) e) x or t)
-        (ap (λ (t : Bool). when t then non (since e x [] past) else non (mem seen x)) (member e l) ∙ pick x lx (past has e) refl)))
+  pick : (x : ℕ) → x < width → (t : Bool) → past has e ≡ t → (when t then non (since e x [] past) else non (mem seen x)) ≡ non (since e x [] past)
+  pick x l true q = refl
+  pick x l false q = ap non (member x l ∙ sym (since-all e x [] past none q))
+    where
+      none : [] has e ≡ false
+      none = unfold _has_ in refl
 
-    outside : width ≤ e → withRowIn tables k e
-        (those (λ x. mem (rowAt (tableAt tables k) e) x or (when mem seen e then non (since e x [] past) else non (mem seen x))))
-        ≡ withRowIn tables k e (those (λ x. mem (rowAt (tableAt tables k) e) x or non (since e x [] past)))
-    outside g = sym (table-put-above tables k e _ g) ∙ table-put-above tables k e _ g
+  pub since-is : sinceBy wide tables e σ seen ≡ noteSinceIn wide tables e past rest
+  unfolding sinceBy noteSinceIn notedIn cut notSince
+  since-is = either (split (ltb e width)) (λ l. inside (ltb-true e width (T→true _ l))) (λ g. outside (ltb-false e width (F→false _ g)))
+    where
+      k : ℕ
+      k = unalternatedTable
+
+      inside : e < width → withRowIn tables k e
+          (those (λ x. mem (rowAt (tableAt tables k) e) x or (reaches wide x and (when mem seen e then non (since e x [] past) else non (mem seen x)))))
+          ≡ withRowIn tables k e (those (λ x. mem (rowAt (tableAt tables k) e) x or (reaches wide x and non (since e x [] past))))
+      inside l =
+          ap (withRowIn tables k e)
+          (those-ext (λ x. mem (rowAt (tableAt tables k) e) x or (reaches wide x and (when mem seen e then non (since e x [] past) else non (mem seen x))))
+          (λ x. mem (rowAt (tableAt tables k) e) x or (reaches wide x and non (since e x [] past)))
+          (λ x lx. ap (λ (t : Bool). mem (rowAt (tableAt tables k) e) x or (reaches wide x and t))
+          (ap (λ (t : Bool). when t then non (since e x [] past) else non (mem seen x)) (member e l) ∙ pick x lx (past has e) refl)))
+
+      outside : width ≤ e → withRowIn tables k e
+          (those (λ x. mem (rowAt (tableAt tables k) e) x or (reaches wide x and (when mem seen e then non (since e x [] past) else non (mem seen x)))))
+          ≡ withRowIn tables k e (those (λ x. mem (rowAt (tableAt tables k) e) x or (reaches wide x and non (since e x [] past))))
+      outside g = sym (table-put-above tables k e _ g) ∙ table-put-above tables k e _ g

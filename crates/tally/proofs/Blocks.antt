@@ -13,7 +13,6 @@ use lib.Seq.{getD-take, length-take-le}
 use Rattle.sets.specs.Tests.{_and_, _or_, non}
 use Rattle.sets.specs.Members.{width, mem, those, isEmpty, someBelow}
 use Rattle.sets.specs.Rows.{Relation, rowAt, withRow, noRows, rowsOf}
-use Rattle.sets.specs.Sizes.{longestTrace}
 use Rattle.sets.specs.declared.set.Set.{Set}
 use Rattle.sets.proofs.Tests.{and-i, and-l, and-r, and-true, or-e, or-l, or-r, or-false, non-e, T-ext, T-eq, true→T, F→false, split, either}
 use Rattle.sets.proofs.Below.{some-i, some-e}
@@ -183,7 +182,7 @@ module _ (blocks : List ℕ) (e at : ℕ) where
       ∙ ap (λ (l : List ℕ). withRow l (at / 8) (those (λ b. mem (rowAt l (at / 8)) b or eqb b e))) hb
       ∙ gain-rowsOf r (at / 8) (λ x. eqb x e)
 
-  pub put-nowhere : longestTrace ≤ at → (r : Relation) → blocks ≡ rowsOf r → blocks ≡ rowsOf (λ j x. r j x or eqb j (at / 8) and eqb x e)
+  pub put-nowhere : width * 8 ≤ at → (r : Relation) → blocks ≡ rowsOf r → blocks ≡ rowsOf (λ j x. r j x or eqb j (at / 8) and eqb x e)
   unfolding _and_
   put-nowhere h r hb =
       hb ∙ rowsOf-ext r (λ j x. r j x or eqb j (at / 8) and eqb x e)

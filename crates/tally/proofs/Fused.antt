@@ -10,13 +10,14 @@ use lib.ListN.{set}
 use lib.Seq.{set-comm}
 use Rattle.sets.specs.Tests.{_or_}
 use Rattle.sets.specs.Members.{width, mem, those}
-use Rattle.sets.specs.Rows.{rowAt}
+use Rattle.sets.specs.Rows.{rowAt, rowWords}
 use Rattle.sets.specs.Tables.{tableAt, withRowIn}
 use Rattle.sets.specs.declared.set.Set.{Set}
 use Rattle.sets.proofs.Tests.{T→true, F→false, split, either}
 use Rattle.sets.proofs.TableLaws.{table-put, table-put-above, table-put-other}
-use Rattle.tally.specs.Passes.{Turn, notedIn, forward, isEarlier, notEarlier, notDirectly, notSince}
-use Rattle.tally.specs.Tallies.{beforeTable, unprecededTable, unchainedTable, unalternatedTable, notePast, noteSince}
+use Rattle.tally.specs.Passes.{Turn, notedIn, forward, cut, isEarlier, notEarlier, notDirectly, notSince}
+use Rattle.tally.specs.Tallies.{beforeTable, unprecededTable, unchainedTable, unalternatedTable, notePastIn, noteSinceIn, pastBy}
+use Rattle.tally.specs.Tallies.{sinceBy}
 
 -- ---- puts into different tables, in either order
 
@@ -30,16 +31,23 @@ put-comm tables j k a b s t ne =
     (λ x. let g = ltb-false a width (F→false _ x) in ap (λ (l : List ℕ). withRowIn l k b t) (sym (table-put-above tables j a s g))
     ∙ table-put-above (withRowIn tables k b t) j a s g)
   where
-    apart : a < width → b < width → j * width + a ≡ k * width + b → ⊥
-    apart la lb q = ne (omega (arith, la, lb, q))
+    -- one word, put before a row of another table or after it
+    one-word : (l : List ℕ) (i x : ℕ) → a < width → (j * rowWords + a ≡ i → ⊥) → (j * rowWords + a + width ≡ i → ⊥)
+        → set (withRowIn l j a s) i x ≡ withRowIn (set l i x) j a s
+    one-word l i x la low high =
+        ap (λ (q : List ℕ). set q i x) (sym (table-put l j a s la))
+        ∙ set-comm (set l (j * rowWords + a) (s .low)) (j * rowWords + a + width) i (s .high) x high
+        ∙ ap (λ (q : List ℕ). set q (j * rowWords + a + width) (s .high)) (set-comm l (j * rowWords + a) i (s .low) x low)
+        ∙ table-put (set l i x) j a s la
 
     both : a < width → b < width → withRowIn (withRowIn tables j a s) k b t ≡ withRowIn (withRowIn tables k b t) j a s
     both la lb =
         sym (table-put (withRowIn tables j a s) k b t lb)
-        ∙ ap (λ (l : List ℕ). set l (k * width + b) (t .bits)) (sym (table-put tables j a s la))
-        ∙ set-comm tables (j * width + a) (k * width + b) (s .bits) (t .bits) (apart la lb)
-        ∙ ap (λ (l : List ℕ). set l (j * width + a) (s .bits)) (table-put tables k b t lb)
-        ∙ table-put (withRowIn tables k b t) j a s la
+        ∙ ap (λ (l : List ℕ). set l (k * rowWords + b + width) (t .high))
+        (one-word tables (k * rowWords + b) (t .low) la (λ q. ne (omega (arith, la, lb, q))) (λ q. ne (omega (arith, la, lb, q))))
+        ∙ one-word (set tables (k * rowWords + b) (t .low)) (k * rowWords + b + width) (t .high) la (λ q. ne (omega (arith, la, lb, q)))
+        (λ q. ne (omega (arith, la, lb, q)))
+        ∙ ap (λ (l : List ℕ). withRowIn l j a s) (table-put tables k b t lb)
 
 noted-comm : (tables : List ℕ) (j k a b : ℕ) (p q : ℕ → Bool) → (j ≡ k → ⊥) → notedIn (notedIn tables j a p) k b q
     ≡ notedIn (notedIn tables k b q) j a p
@@ -51,39 +59,47 @@ noted-comm tables j k a b p q ne =
     ∙ ap (λ (l : List ℕ). withRowIn (notedIn tables k b q) j a (those (λ x. mem (rowAt l a) x or p x)))
     (sym (table-put-other tables k b (those (λ x. mem (rowAt (tableAt tables k) b) x or q x)) j ne))
 
+-- what a place puts down, one after the other
+pub both-noted : (wide : Bool) (t one out : List ℕ) (e : ℕ) (past : List ℕ) (seen last : Set) → one ≡ pastBy wide t e seen last
+    → out ≡ sinceBy wide one e past seen → out ≡ sinceBy wide (pastBy wide t e seen last) e past seen
+both-noted wide t one out e past seen last h1 h2 = h2 ∙ ap (λ (x : List ℕ). sinceBy wide x e past seen) h1
+
 -- ---- the turns of the past and of a look back
 
-since-past : (tally : List ℕ) (e f : ℕ) (past rest back on : List ℕ) → notePast (noteSince tally e past rest) f back on
-    ≡ noteSince (notePast tally f back on) e past rest
-unfolding notePast noteSince
-since-past tally e f past rest back on =
-    let since = notSince e past rest in
-    let seen = isEarlier f back on in
-    let unseen = notEarlier f back on in
-    let apart = notDirectly f back on in
-    ap (λ (l : List ℕ). notedIn (notedIn l unprecededTable f unseen) unchainedTable f apart)
-    (noted-comm tally unalternatedTable beforeTable e f since seen (λ q. omega (arith, q)))
-    ∙ ap (λ (l : List ℕ). notedIn l unchainedTable f apart)
-    (noted-comm (notedIn tally beforeTable f seen) unalternatedTable unprecededTable e f since unseen (λ q. omega (arith, q)))
-    ∙ noted-comm (notedIn (notedIn tally beforeTable f seen) unprecededTable f unseen) unalternatedTable unchainedTable e f since apart
-    (λ q. omega (arith, q))
+module _ (wide : Bool) where
+  since-past : (tally : List ℕ) (e f : ℕ) (past rest back on : List ℕ) → notePastIn wide (noteSinceIn wide tally e past rest) f back on
+      ≡ noteSinceIn wide (notePastIn wide tally f back on) e past rest
+  unfolding notePastIn noteSinceIn
+  since-past tally e f past rest back on =
+      let since = cut wide notSince e past rest in
+      let seen = cut wide isEarlier f back on in
+      let unseen = cut wide notEarlier f back on in
+      let apart = cut wide notDirectly f back on in
+      ap (λ (l : List ℕ). notedIn (notedIn l unprecededTable f unseen) unchainedTable f apart)
+      (noted-comm tally unalternatedTable beforeTable e f since seen (λ q. omega (arith, q)))
+      ∙ ap (λ (l : List ℕ). notedIn l unchainedTable f apart)
+      (noted-comm (notedIn tally beforeTable f seen) unalternatedTable unprecededTable e f since unseen (λ q. omega (arith, q)))
+      ∙ noted-comm (notedIn (notedIn tally beforeTable f seen) unprecededTable f unseen) unalternatedTable unchainedTable e f since apart
+      (λ q. omega (arith, q))
 
--- a turn of the one may come before all turns of the other
-since-first : (tally : List ℕ) (e : ℕ) (past rest back on : List ℕ) → forward notePast (noteSince tally e past rest) back on
-    ≡ noteSince (forward notePast tally back on) e past rest
-unfolding forward
-since-first tally e past rest back [] = refl
-since-first tally e past rest back (f ∷ on) =
-    ap (λ (l : List ℕ). forward notePast l (f ∷ back) on) (since-past tally e f past rest back on)
-    ∙ since-first (notePast tally f back on) e past rest (f ∷ back) on
+  -- a turn of the one may come before all turns of the other
+  since-first : (tally : List ℕ) (e : ℕ) (past rest back on : List ℕ) → forward (notePastIn wide) (noteSinceIn wide tally e past rest) back on
+      ≡ noteSinceIn wide (forward (notePastIn wide) tally back on) e past rest
+  unfolding forward
+  since-first tally e past rest back [] = refl
+  since-first tally e past rest back (f ∷ on) =
+      ap (λ (l : List ℕ). forward (notePastIn wide) l (f ∷ back) on) (since-past tally e f past rest back on)
+      ∙ since-first (notePastIn wide tally f back on) e past rest (f ∷ back) on
 
--- both turns of a place
-unfoldable pub noteBoth : Turn
-noteBoth tally e past rest = noteSince (notePast tally e past rest) e past rest
+  -- both turns of a place
+  unfoldable pub noteBoth : Turn
+  noteBoth tally e past rest = noteSinceIn wide (notePastIn wide tally e past rest) e past rest
 
-pub fused : (tally past rest : List ℕ) → forward noteBoth tally past rest ≡ forward noteSince (forward notePast tally past rest) past rest
-unfolding forward noteBoth
-fused tally past [] = refl
-fused tally past (e ∷ rest) =
-    fused (noteSince (notePast tally e past rest) e past rest) (e ∷ past) rest
-    ∙ ap (λ (l : List ℕ). forward noteSince l (e ∷ past) rest) (since-first (notePast tally e past rest) e past rest (e ∷ past) rest)
+  pub fused : (tally past rest : List ℕ) → forward noteBoth tally past rest
+      ≡ forward (noteSinceIn wide) (forward (notePastIn wide) tally past rest) past rest
+  unfolding forward noteBoth
+  fused tally past [] = refl
+  fused tally past (e ∷ rest) =
+      fused (noteSinceIn wide (notePastIn wide tally e past rest) e past rest) (e ∷ past) rest
+      ∙ ap (λ (l : List ℕ). forward (noteSinceIn wide) l (e ∷ past) rest)
+      (since-first (notePastIn wide tally e past rest) e past rest (e ∷ past) rest)

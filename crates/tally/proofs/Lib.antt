@@ -5,7 +5,10 @@ pub mod Since
 pub mod Blocks
 pub mod Fused
 pub mod Alternate
+pub mod Onward
+pub mod Homeward
 pub mod Walks
 pub mod LogLaws
 pub mod Heard
+pub mod WholeForm
 pub mod Tallying

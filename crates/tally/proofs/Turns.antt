@@ -6,19 +6,22 @@ use mathlib.Core.List.{List, [], _∷_, _++_, reverseAux}
 use Prim.Native.Nat.{ℕ, _+_, _≤_, _<_}
 use native.Mathlib.Omega.{arith}
 use native.Mathlib.Numerals.{add-one}
-use lib.Dec.{eqb}
+use lib.Dec.{eqb, ltb}
 use lib.ListN.{length, getD, take, drop, drop-of-length-le}
 use lib.Seq.{take-suc, take-all, drop-cons}
-use Rattle.sets.specs.Tests.{_or_, non}
-use Rattle.sets.specs.Members.{width, mem, those}
+use Rattle.sets.specs.Tests.{_and_, _or_, non}
+use Rattle.sets.specs.Members.{width, word, mem, those}
 use Rattle.sets.specs.Rows.{rowAt, withRow}
 use Rattle.sets.specs.Tables.{tableAt, withRowIn, gainedIn}
 use Rattle.sets.specs.declared.set.Set.{Set}
-use Rattle.sets.proofs.Tests.{or-comm, or-false}
+use Rattle.sets.proofs.Tests.{and-comm, or-comm, or-false}
 use Rattle.sets.proofs.Members.{none-those, those-ext, those-of}
 use Rattle.sets.proofs.MadeSets.{Is, is-those}
 use Rattle.rules.specs.Traces.{_has_, _beginsWith_}
-use Rattle.tally.specs.Passes.{Fact, Turn, gained, gains, notedIn, forward, backward}
+use Rattle.tally.specs.Passes.{Fact, Turn, gained, gains, notedIn, forward, backward, reaches, cut, isEarlier, notEarlier, notDirectly}
+use Rattle.tally.specs.Passes.{isLater, notLater, isNext}
+use Rattle.tally.specs.Tallies.{beforeTable, laterTable, unprecededTable, unansweredTable, unchainedTable, followedTable, notePastIn}
+use Rattle.tally.specs.Tallies.{noteRestIn, pastBy, restBy}
 
 -- what stands before place i, the nearest first
 abbrev pub pastAt : List ℕ → ℕ → List ℕ
@@ -131,26 +134,70 @@ module _ (tables : List ℕ) (j k l e : ℕ) where
       ∙ ap (λ (x : List ℕ). notedIn x l e r) (noted-by one k e u q two hu h2
       ∙ ap (λ (x : List ℕ). notedIn x k e q) (noted-by tables j e s p one hs h1))
 
-  pub thrice-as : (p q r p′ q′ r′ : ℕ → Bool) → ((x : ℕ) → x < width → p x ≡ p′ x) → ((x : ℕ) → x < width → q x ≡ q′ x)
+  thrice-as : (p q r p′ q′ r′ : ℕ → Bool) → ((x : ℕ) → x < width → p x ≡ p′ x) → ((x : ℕ) → x < width → q x ≡ q′ x)
       → ((x : ℕ) → x < width → r x ≡ r′ x) → thrice p q r ≡ thrice p′ q′ r′
   thrice-as p q r p′ q′ r′ hp hq hr =
       noted-as (notedIn (notedIn tables j e p) k e q) l e r r′ hr
       ∙ ap (λ (x : List ℕ). notedIn x l e r′)
       (noted-as (notedIn tables j e p) k e q q′ hq ∙ ap (λ (x : List ℕ). notedIn x k e q′) (noted-as tables j e p p′ hp))
 
-  -- a set, what is not in it, and another or what is not in that
-  pub past-joined : (s u c d : Set) (one two out : List ℕ) → one ≡ gainedIn tables j e s → c ≡ those (λ a. non (mem s a)) → two
-      ≡ gainedIn one k e c
-      → d ≡ those (λ a. non (mem u a)) → out ≡ gainedIn two l e d → out ≡ thrice (mem s) (λ x. non (mem s x)) (λ x. non (mem u x))
-  past-joined s u c d one two out h1 hc h2 hd h3 =
-      joined-thrice s c d (mem s) (λ x. non (mem s x)) (λ x. non (mem u x)) one two out (λ x l. refl) (is-those c _ hc)
-      (is-those d _ hd) h1 h2 h3
+-- ---- in a form
 
-  pub rest-joined : (s u c : Set) (one two out : List ℕ) → one ≡ gainedIn tables j e s → c ≡ those (λ a. non (mem s a)) → two
-      ≡ gainedIn one k e c
-      → out ≡ gainedIn two l e u → out ≡ thrice (mem s) (λ x. non (mem s x)) (mem u)
-  rest-joined s u c one two out h1 hc h2 h3 =
-      joined-thrice s c u (mem s) (λ x. non (mem s x)) (mem u) one two out (λ x l. refl) (is-those c _ hc) (λ x l. refl) h1 h2 h3
+-- what a form holds of a set: in the wide one all, in the narrow one what is below 64
+pub all-held : (wide : Bool) (s : Set) → those (mem s) ≡ s → wide ≡ true → s ≡ those (λ x. reaches wide x and mem s x)
+unfolding reaches _and_ _or_
+all-held wide s whole t = sym whole ∙ ap (λ (b : Bool). those (λ x. (b or ltb x word) and mem s x)) (sym t)
+
+pub low-held : (wide : Bool) (s low r : Set) → wide ≡ false → low ≡ those (λ a. ltb a word) → r ≡ those (λ a. mem s a and mem low a)
+    → r ≡ those (λ x. reaches wide x and mem s x)
+unfolding reaches _or_
+low-held wide s low r t hl hr =
+    hr
+    ∙ those-of low (λ a. ltb a word) (λ a b. mem s a and b) hl
+    ∙ those-ext (λ a. mem s a and ltb a word) (λ x. ltb x word and mem s x) (λ a l. and-comm (mem s a) (ltb a word))
+    ∙ ap (λ (b : Bool). those (λ x. (b or ltb x word) and mem s x)) (sym t)
+
+-- what the form holds of a set that is known
+formed : (wide : Bool) (s c : Set) (p : ℕ → Bool) → Is s p → c ≡ those (λ x. reaches wide x and mem s x) → Is c (λ x. reaches wide x and p x)
+formed wide s c p hs hc x l = is-those c _ hc x l ∙ ap (λ (t : Bool). reaches wide x and t) (hs x l)
+
+-- a place of either pass, as its function puts it down: a set, what is not in it, and another or what is not in that
+module _ (wide : Bool) (tables : List ℕ) (e : ℕ) where
+  pub past-put : (seen last s c c′ d d′ : Set) (one two out : List ℕ) → s ≡ those (λ x. reaches wide x and mem seen x)
+      → one ≡ gainedIn tables beforeTable e s → c ≡ those (λ a. non (mem seen a)) → c′ ≡ those (λ x. reaches wide x and mem c x)
+      → two ≡ gainedIn one unprecededTable e c′ → d ≡ those (λ a. non (mem last a)) → d′ ≡ those (λ x. reaches wide x and mem d x)
+      → out ≡ gainedIn two unchainedTable e d′ → out ≡ pastBy wide tables e seen last
+  unfolding pastBy
+  past-put seen last s c c′ d d′ one two out hs h1 hc hc′ h2 hd hd′ h3 =
+      joined-thrice tables beforeTable unprecededTable unchainedTable e s c′ d′ _ _ _ one two out (is-those s _ hs)
+      (formed wide c c′ _ (is-those c _ hc) hc′) (formed wide d d′ _ (is-those d _ hd) hd′) h1 h2 h3
+
+  pub rest-put : (after next s c c′ n : Set) (one two out : List ℕ) → s ≡ those (λ x. reaches wide x and mem after x)
+      → one ≡ gainedIn tables laterTable e s → c ≡ those (λ a. non (mem after a)) → c′ ≡ those (λ x. reaches wide x and mem c x)
+      → two ≡ gainedIn one unansweredTable e c′ → n ≡ those (λ x. reaches wide x and mem next x)
+      → out ≡ gainedIn two followedTable e n → out ≡ restBy wide tables e after next
+  unfolding restBy
+  rest-put after next s c c′ n one two out hs h1 hc hc′ h2 hn h3 =
+      joined-thrice tables laterTable unansweredTable followedTable e s c′ n _ _ _ one two out (is-those s _ hs)
+      (formed wide c c′ _ (is-those c _ hc) hc′) (is-those n _ hn) h1 h2 h3
+
+  -- by sets of what stands there, it is what the place says
+  module _ (past rest : List ℕ) where
+    pub past-is : (seen last : Set) → seen ≡ seenIn past → last ≡ lastIn past → pastBy wide tables e seen last ≡ notePastIn wide tables e past rest
+    unfolding pastBy notePastIn cut isEarlier notEarlier notDirectly
+    past-is seen last hs hl =
+        let seen-in = is-those seen _ hs in
+        let last-in = is-those last _ hl in
+        thrice-as tables beforeTable unprecededTable unchainedTable e _ _ _ _ _ _ (λ x l. ap (λ (t : Bool). reaches wide x and t) (seen-in x l))
+        (λ x l. ap (λ (t : Bool). reaches wide x and non t) (seen-in x l)) (λ x l. ap (λ (t : Bool). reaches wide x and non t) (last-in x l))
+
+    pub rest-is : (after next : Set) → after ≡ seenIn rest → next ≡ lastIn rest → restBy wide tables e after next ≡ noteRestIn wide tables e past rest
+    unfolding restBy noteRestIn cut isLater notLater isNext
+    rest-is after next ha hn =
+        let after-in = is-those after _ ha in
+        let next-in = is-those next _ hn in
+        thrice-as tables laterTable unansweredTable followedTable e _ _ _ _ _ _ (λ x l. ap (λ (t : Bool). reaches wide x and t) (after-in x l))
+        (λ x l. ap (λ (t : Bool). reaches wide x and non t) (after-in x l)) (λ x l. ap (λ (t : Bool). reaches wide x and t) (next-in x l))
 
 -- the forward loop: before the first turn, one turn further, after the last
 module _ (turn : Turn) (σ all : List ℕ) where

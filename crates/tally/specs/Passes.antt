@@ -4,10 +4,10 @@ use mathlib.Core.Path.{_≡_}
 use mathlib.Core.Bool.{Bool}
 use mathlib.Core.List.{List, [], _∷_, reverseAux}
 use Prim.Native.Nat.{ℕ, zero, suc, _/_, _≤_}
-use lib.Dec.{eqb}
+use lib.Dec.{eqb, ltb}
 use lib.ListN.{length, getD, take, drop}
 use Rattle.sets.specs.Tests.{_and_, _or_, non}
-use Rattle.sets.specs.Members.{mem, those, someBelow}
+use Rattle.sets.specs.Members.{word, mem, those, someBelow}
 use Rattle.sets.specs.Rows.{Relation, rowAt, withRow}
 use Rattle.sets.specs.Tables.{tableAt, withRowIn}
 use Rattle.sets.specs.declared.set.Set.{Set}
@@ -83,6 +83,16 @@ notLater e past rest x = non (rest has x)
 -- x stands directly after the place
 unfoldable pub isNext : Fact
 isNext e past rest x = rest beginsWith x
+
+-- ---- forms: a pass over a log of few activities keeps one word of each set
+
+-- a set of this form can hold x
+unfoldable pub reaches : Bool → ℕ → Bool
+reaches wide x = wide or ltb x word
+
+-- the fact, of what the form can hold
+unfoldable pub cut : Bool → Fact → Fact
+cut wide p e past rest x = reaches wide x and p e past rest x
 
 -- ---- a look back
 

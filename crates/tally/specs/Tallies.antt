@@ -1,12 +1,16 @@
 -- The tally: seven tables of rows, one after another. A table keeps what was seen, or what breaks a rule, over all activities of the width,
 -- so all of it only grows, and the tallies of two logs join by union. That each table is the answer to a question of the rules is a
 -- theorem, so a reader of `mine` need not believe this file.
-use mathlib.Core.List.{List, []}
+use mathlib.Core.Bool.{Bool}
+use mathlib.Core.List.{List, [], reverseAux}
 use Prim.Native.Nat.{ℕ}
+use Rattle.sets.specs.Tests.{_and_, non, when_then_else_}
+use Rattle.sets.specs.Members.{mem}
 use Rattle.sets.specs.Tables.{noTables}
+use Rattle.sets.specs.declared.set.Set.{Set}
 use Rattle.rules.specs.Traces.{Traces}
 use Rattle.tally.specs.Passes.{Turn, notedIn, forward, backward, through, isEarlier, notEarlier, notDirectly, notSince, isLater}
-use Rattle.tally.specs.Passes.{notLater, isNext}
+use Rattle.tally.specs.Passes.{notLater, isNext, reaches, cut}
 
 abbrev pub tableCount : ℕ
 tableCount = 7
@@ -62,3 +66,43 @@ noted tally σ = backward noteRest (forward noteSince (forward notePast tally []
 -- the tally of a log
 abbrev pub tallied : Traces → List ℕ
 tallied L = through noted (noTables tableCount) L
+
+-- ---- the same in a form: in the narrow one the columns from 64 on are left as they are. That the stages ask a tally at events alone is a
+-- theorem of the miner (AtEvents)
+
+unfoldable pub notePastIn : Bool → Turn
+notePastIn wide tally e past rest =
+    notedIn (notedIn (notedIn tally beforeTable e (cut wide isEarlier e past rest)) unprecededTable e (cut wide notEarlier e past rest))
+    unchainedTable e (cut wide notDirectly e past rest)
+
+unfoldable pub noteSinceIn : Bool → Turn
+noteSinceIn wide tally e past rest = notedIn tally unalternatedTable e (cut wide notSince e past rest)
+
+unfoldable pub noteRestIn : Bool → Turn
+noteRestIn wide tally e past rest =
+    notedIn (notedIn (notedIn tally laterTable e (cut wide isLater e past rest)) unansweredTable e (cut wide notLater e past rest))
+    followedTable e (cut wide isNext e past rest)
+
+unfoldable pub notedFor : Bool → List ℕ → List ℕ → List ℕ
+notedFor wide tally σ = backward (noteRestIn wide) (forward (noteSinceIn wide) (forward (notePastIn wide) tally [] σ) [] σ) [] σ
+
+abbrev pub talliedFor : Bool → Traces → List ℕ
+talliedFor wide L = through (notedFor wide) (noTables tableCount) L
+
+-- ---- the same by sets: `seen` stands before the place, `last` directly before it
+
+unfoldable pub pastBy : Bool → List ℕ → ℕ → Set → Set → List ℕ
+pastBy wide tally e seen last =
+    notedIn (notedIn (notedIn tally beforeTable e (λ x. reaches wide x and mem seen x)) unprecededTable e (λ x. reaches wide x and non (mem seen x)))
+    unchainedTable e (λ x. reaches wide x and non (mem last x))
+
+unfoldable pub sinceBy : Bool → List ℕ → ℕ → List ℕ → Set → List ℕ
+sinceBy wide tally e past seen =
+    notedIn tally unalternatedTable e
+    (λ x. reaches wide x and (when mem seen e then notSince e (reverseAux past []) [] x else non (mem seen x)))
+
+-- `after` stands after the place, `next` directly after it
+unfoldable pub restBy : Bool → List ℕ → ℕ → Set → Set → List ℕ
+restBy wide tally e after next =
+    notedIn (notedIn (notedIn tally laterTable e (λ x. reaches wide x and mem after x)) unansweredTable e (λ x. reaches wide x and non (mem after x)))
+    followedTable e (λ x. reaches wide x and mem next x)

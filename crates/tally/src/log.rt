@@ -6,10 +6,10 @@ ghost use Rattle.sets.specs.Members.{mem, those};
 ghost use Rattle.sets.specs.Tables.{noTables};
 ghost use Rattle.rules.specs.Traces.{_has_, someTrace};
 ghost use Rattle.tally.specs.Passes.{through, walked};
-ghost use Rattle.tally.specs.Tallies.{tableCount, noted};
+ghost use Rattle.tally.specs.Tallies.{tableCount, noted, notedFor};
 use crate::passes;
 use sets::Set;
-use sets::activity::WIDTH;
+use sets::rows::WORDS;
 
 // Row t: what stands before some t.
 pub const BEFORE: u8 = 0;
@@ -27,36 +27,49 @@ pub const UNALTERNATED: u8 = 5;
 pub const FOLLOWED: u8 = 6;
 
 // Seven tables of rows, one after another.
-pub type Tally = [u64; 7 * WIDTH];
+pub type Tally = [u64; 7 * WORDS];
 
 // The tally of no trace.
 pub fn empty() -> Tally
     ensures { λ r. ⌜ r ≡ noTables tableCount ⌝ }
 {
-    [0; 7 * WIDTH]
+    [0; 7 * WORDS]
 }
 
 // The facts of one trace. It gives the events so far with those of the trace.
-fn note_trace(trace: &[u8], events: Set, tally: &mut Tally) -> Set
+fn note_trace(trace: &[u8], events: Set, wide: bool, tally: &mut Tally) -> Set
     ensures { λ r. ⌜ r ≡ those (λ x. mem events x or now (trace .entry) has x) ⌝ }
-    ensures { λ _. ⌜ now (tally .exit) ≡ noted (now (tally .entry)) (now (trace .entry)) ⌝ }
+    ensures { λ _. ⌜ now (tally .exit) ≡ notedFor wide (now (tally .entry)) (now (trace .entry)) ⌝ }
 {
-    let seen = passes::forward(trace, tally);
-    passes::backward(trace, tally);
+    if wide {
+        let seen = passes::forward(trace, tally);
+        passes::backward(trace, tally);
+        return events.union(seen);
+    }
+    let seen = passes::forward_narrow(trace, tally);
+    passes::backward_narrow(trace, tally);
     events.union(seen)
 }
 
-// The facts of a log's first traces. It gives their events.
-pub fn note_traces(log: &[u8], traces: usize, tally: &mut Tally) -> Set
+// The facts of a log's first traces, in a form. It gives their events.
+pub fn note_traces_in(log: &[u8], traces: usize, wide: bool, tally: &mut Tally) -> Set
     ensures { λ r. ⌜ r ≡ those (λ x. someTrace (walked (now (log .entry)) traces 0) (λ σ. σ has x)) ⌝ }
-    ensures { λ _. ⌜ now (tally .exit) ≡ through noted (now (tally .entry)) (walked (now (log .entry)) traces 0) ⌝ }
+    ensures { λ _. ⌜ now (tally .exit) ≡ through (notedFor wide) (now (tally .entry)) (walked (now (log .entry)) traces 0) ⌝ }
 {
     let mut events = Set::EMPTY;
     let mut k: usize = 0;
     while k < traces {
         let trace = calllog::trace::trace_at(log, k);
-        events = note_trace(trace, events, tally);
+        events = note_trace(trace, events, wide, tally);
         k += 1;
     }
     events
+}
+
+// The same over the whole width.
+pub fn note_traces(log: &[u8], traces: usize, tally: &mut Tally) -> Set
+    ensures { λ r. ⌜ r ≡ those (λ x. someTrace (walked (now (log .entry)) traces 0) (λ σ. σ has x)) ⌝ }
+    ensures { λ _. ⌜ now (tally .exit) ≡ through noted (now (tally .entry)) (walked (now (log .entry)) traces 0) ⌝ }
+{
+    note_traces_in(log, traces, true, tally)
 }

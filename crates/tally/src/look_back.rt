@@ -5,23 +5,28 @@ ghost use mathlib.Core.List.{List, [], reverseAux};
 ghost use Prim.Native.Nat.{ℕ, _/_, _≤_, _<_};
 ghost use lib.Dec.{eqb};
 ghost use lib.ListN.{length};
-ghost use Rattle.sets.specs.Tests.{_and_, _or_, non, when_then_else_};
+ghost use Rattle.sets.specs.Tests.{_and_, _or_, non};
 ghost use Rattle.sets.specs.Members.{width, mem, those, isEmpty};
 ghost use Rattle.sets.specs.Rows.{Relation, rowsOf};
 ghost use Rattle.sets.specs.Sizes.{longestTrace};
-ghost use Rattle.tally.specs.Passes.{notedIn, notSince, inBlock, PassedTo};
-ghost use Rattle.tally.specs.Tallies.{unalternatedTable};
+ghost use Rattle.tally.specs.Passes.{notSince, inBlock, PassedTo};
+ghost use Rattle.tally.specs.Tallies.{sinceBy};
+use crate::form::in_form;
 use crate::log::Tally;
 use crate::log::UNALTERNATED;
 use sets::Activity;
 use sets::Place;
 use sets::Rows;
 use sets::Set;
+use sets::activity::WIDTH;
 use sets::rows;
 use sets::tables;
 
 // How many places a row is of.
 const BLOCK: usize = 8;
+
+// How many places have a row: at least as many as a trace has.
+const PLACES: usize = WIDTH * BLOCK;
 
 // What of `wanted` does not stand between the end of `past` and the last e in it, or its start. It looks back only while some
 // of it is still wanted.
@@ -97,12 +102,18 @@ fn unmet_by<'a>(past: &'a [u8], blocks: &'a Rows, e: Activity, wanted: Set) -> S
 
 // One place: what does not stand since the last e. At the first e of a trace that is what was not seen. A row that has all can gain
 // nothing, and that is the first question, since the answer is mostly the same.
-pub fn note_since<'a>(past: &'a [u8], blocks: &'a Rows, e: Activity, seen: Set, tally: &mut Tally)
+pub fn note_since<'a>(
+    past: &'a [u8],
+    blocks: &'a Rows,
+    e: Activity,
+    seen: Set,
+    wide: bool,
+    tally: &mut Tally,
+)
     requires { ⌜ now blocks ≡ rowsOf (inBlock (now past)) ⌝ }
-    ensures { λ _. ⌜ now (tally .exit) ≡ notedIn (now (tally .entry)) unalternatedTable (e .0)
-        (λ x. when mem seen (e .0) then notSince (e .0) (reverseAux (now (past .entry)) []) [] x else non (mem seen x)) ⌝ }
+    ensures { λ _. ⌜ now (tally .exit) ≡ sinceBy wide (now (tally .entry)) (e .0) (now (past .entry)) seen ⌝ }
 {
-    let wanted = tables::row(tally, UNALTERNATED, e).complement();
+    let wanted = in_form(tables::row(tally, UNALTERNATED, e).complement(), wide);
     if wanted.is_empty() {
         return;
     }
@@ -110,15 +121,15 @@ pub fn note_since<'a>(past: &'a [u8], blocks: &'a Rows, e: Activity, seen: Set, 
         let left = unmet_by(past, blocks, e, wanted);
         tables::join(tally, UNALTERNATED, e, left);
     } else {
-        tables::join(tally, UNALTERNATED, e, seen.complement());
+        tables::join(tally, UNALTERNATED, e, in_form(seen.complement(), wide));
     }
 }
 
-// The row of the place's block gains e. No row is of a place past the greatest length of a trace.
+// The row of the place's block gains e. Past the last row nothing changes.
 pub fn put_down(blocks: &mut Rows, e: Activity, at: usize)
     ensures { λ _. ⌜ ((r : Relation) → now (blocks .entry) ≡ rowsOf r → now (blocks .exit) ≡ rowsOf (λ j x. r j x or eqb j (at / 8) and eqb x (e .0))) ⌝ }
 {
-    if at < Place::LIMIT {
+    if at < PLACES {
         let j = at / BLOCK;
         rows::join(blocks, Activity(j as u8), Set::one(e));
     }

@@ -8,4 +8,4 @@ returns c = search (stepping, needs)
 
 pub skelfora-step-spec : {M : Type 1} → statement M
 skelfora-step-spec =
-    tie.close (tie.spec (λ c κs. search needs) (λ c κs. search needs) (λ c. search needs) returns)
+    tie.close (tie.spec (λ c κs. search needs) (λ c κs. search needs) (λ c κs. search needs) (λ c. search needs) returns)

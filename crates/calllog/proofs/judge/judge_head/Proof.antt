@@ -7,5 +7,5 @@ pub judge-head-spec : {M : Type 1} → statement M
 judge-head-spec =
     tie.close
     (tie.spec (λ c. search (heads, needs)) (λ c. search needs) (λ c κs. search needs) (λ c. search (heads, needs)) (λ c κs. search needs)
-    (λ c. search (heads, needs)) (λ c κs. search needs) (λ c. search (heads, needs)) (λ c κs. search needs) (λ c. search needs)
-    (λ c. search (heads, needs)) (λ c. search (heads, needs)))
+    (λ c κs. search needs) (λ c κs. search needs) (λ c. search (heads, needs)) (λ c κs. search needs) (λ c. search (heads, needs))
+    (λ c κs. search needs) (λ c. search needs) (λ c. search (heads, needs)) (λ c. search (heads, needs)))

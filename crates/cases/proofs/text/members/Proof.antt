@@ -4,10 +4,10 @@ use Rattle.cases.proofs.text.members.Statement.{statement}
 use Rattle.cases.proofs.text.members.Tie as tie
 
 abbrev Inv-loop : tie.InvT-loop
-Inv-loop name s a₀ a = a ≤ 64
+Inv-loop name s a₀ a = a ≤ 128
 
 abbrev μ-loop : tie.MeasureT-loop
-μ-loop name s a₀ a = 64 - a
+μ-loop name s a₀ a = 128 - a
 
 pub members-spec : {M : Type 1} → statement M
 members-spec =

@@ -6,4 +6,4 @@ use Rattle.desk.proofs.table.is_open.Tie as tie
 pub is-open-spec : {M : Type 1} → statement M
 is-open-spec =
     tie.close
-    (tie.spec (λ c. search (placing, needs)) (λ c. search needs) (λ c. search needs) (λ c. search (placing, needs)))
+    (tie.spec (λ c. search (placing, needs)) (λ c κs. search needs) (λ c. search (placing, needs)) (λ c. search (placing, needs)))

@@ -8,10 +8,10 @@ use Rattle.desk.proofs.table.lowest_free.Statement.{statement}
 use Rattle.desk.proofs.table.lowest_free.Tie as tie
 
 abbrev Inv-loop : tie.InvT-loop
-Inv-loop table place₀ place = (place ≤ placeCount) × passed (isOpen table) place
+Inv-loop table wide place₀ place = (place ≤ placeCount) × passed (isOpen wide table) place
 
 abbrev μ-loop : tie.MeasureT-loop
-μ-loop table place₀ place = placeCount - place
+μ-loop table wide place₀ place = placeCount - place
 
 pub lowest-free-spec : {M : Type 1} → statement M
 lowest-free-spec =

@@ -6,5 +6,5 @@ use Rattle.desk.proofs.table.put_place.Tie as tie
 pub put-place-spec : {M : Type 1} → statement M
 put-place-spec =
     tie.close
-    (tie.spec (λ c. search needs) (λ c. search needs) (λ c κs. search needs) (λ c. search (placing, needs))
+    (tie.spec (λ c κs. search needs) (λ c. search (placing, needs)) (λ c κs. search needs) (λ c. search (placing, needs))
     (λ c. search (placing, needs)))

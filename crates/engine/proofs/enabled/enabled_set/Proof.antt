@@ -1,10 +1,21 @@
 use borrow.Author.Needs.{needs}
-use Rattle.engine.proofs.Enabling.{gathered}
+use Rattle.engine.proofs.Enabling.{gathered-low, gathered-all}
 use Rattle.engine.proofs.enabled.enabled_set.Statement.{statement}
 use Rattle.engine.proofs.enabled.enabled_set.Tie as tie
 
 returns : tie.Need-returns
-returns c = search (gathered, needs)
+returns c =
+    gathered-low _ _ _ _ _ _ _ _ (c .before .before .before .before .before .before .below .ensures)
+    (c .before .before .before .before .before .before .before .intersection .ensures) (c .before .before .before .before .before .is-within .ensures)
+    (c .before .before .before .before .if1 .taken) (c .before .before .before .intersection2 .ensures) (c .before .before .of .ensures)
+    _ _ (c .before .free .ensures) (c .intersection3 .ensures)
+
+returns-2 : tie.Need-returns-2
+returns-2 c =
+    gathered-all _ _ _ _ _ _ (c .before .before .before .before .before .intersection .ensures) (c .before .free2 .ensures) (c .intersection4 .ensures)
 
 pub enabled-set-spec : {M : Type 1} → statement M
-enabled-set-spec = tie.close (tie.spec (λ c κs. search needs) (λ c κs. search needs) (λ c κs. search needs) returns)
+enabled-set-spec =
+    tie.close
+    (tie.spec (λ c κs. search needs) (λ c κs. search needs) (λ c κs. search needs) (λ c κs. search needs) (λ c κs. search needs)
+    (λ c κs. search needs) (λ c κs. search needs) returns (λ c κs. search needs) (λ c κs. search needs) returns-2)

@@ -1,14 +1,17 @@
 use borrow.Author.Needs.{needs}
 use Rattle.tally.proofs.Turns.{joined-by}
+use Rattle.miner.proofs.Replaying.{formed-by}
 use Rattle.miner.proofs.conditions.note_waiting.Statement.{statement}
 use Rattle.miner.proofs.conditions.note_waiting.Tie as tie
 
 returns : tie.Need-returns
 returns c = (
-  joined-by _ _ _ _ _ (c .before .before .before .before .before .at-first .ensures) (c .before .before .before .join .ensures),
+  formed-by _ _ _ _ _ _ _ (c .before .before .before .before .before .before .at-first .ensures) (c .before .before .before .before .before .in-form .ensures)
+      (c .before .before .before .join .ensures),
   joined-by _ _ _ _ _ (c .before .before .difference .ensures) (c .join2 .ensures),
 )
 
 pub note-waiting-spec : {M : Type 1} → statement M
 note-waiting-spec =
-    tie.close (tie.spec (λ c κs. search needs) (λ c κs. search needs) (λ c κs. search needs) (λ c κs. search needs) returns)
+    tie.close
+    (tie.spec (λ c κs. search needs) (λ c κs. search needs) (λ c κs. search needs) (λ c κs. search needs) (λ c κs. search needs) returns)

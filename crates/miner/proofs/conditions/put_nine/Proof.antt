@@ -7,7 +7,7 @@ returns : tie.Need-returns
 returns c =
     let replayed = c .before .before .before .before in
     let unmet = replayed .before .before .before .before in
-    nine-by _ _ _ _ _ _ _ _ _ _ _ (c .put-waited .ensures) (replayed .replay-log .ensures .0) (replayed .replay-log .ensures .1)
+    nine-by _ _ _ _ _ _ _ _ _ _ _ _ (c .put-waited .ensures) (replayed .replay-log .ensures .0) (replayed .replay-log .ensures .1)
     (unmet .before .empty .ensures) (unmet .empty2 .ensures)
 
 pub put-nine-spec : {M : Type 1} → statement M

@@ -1,38 +1,39 @@
 use mathlib.Core.Path.{refl}
+use mathlib.Core.Bool.{Bool}
 use mathlib.Core.List.{List, []}
 use Prim.Native.Nat.{ℕ, _-_, _≤_}
 use borrow.Author.Needs.{needs}
 use Rattle.sets.specs.Tables.{tableAt}
 use Rattle.sets.specs.declared.set.Set.{Set}
-use Rattle.tally.specs.Passes.{gains, forward}
+use Rattle.tally.specs.Passes.{gains, forward, cut}
 use Rattle.miner.specs.Facts.{beforeFirst, missed}
 use Rattle.tally.proofs.Walks.{Left, through-start, through-next, through-end}
 use Rattle.miner.proofs.conditions.replay_log.Statement.{statement}
 use Rattle.miner.proofs.conditions.replay_log.Tie as tie
 
-abbrev ahead : List ℕ → List ℕ → List ℕ
-ahead r σ = forward (gains beforeFirst) r [] σ
+abbrev ahead : Bool → List ℕ → List ℕ → List ℕ
+ahead wide r σ = forward (gains (cut wide beforeFirst)) r [] σ
 
-abbrev waiting : Set → List ℕ → List ℕ → List ℕ → List ℕ
-waiting events held r σ = forward (gains (missed events (tableAt held 2) (tableAt held 3))) r [] σ
+abbrev waiting : Bool → Set → List ℕ → List ℕ → List ℕ → List ℕ
+waiting wide events held r σ = forward (gains (cut wide (missed events (tableAt held 2) (tableAt held 3)))) r [] σ
 
 abbrev Inv-loop : tie.InvT-loop
-Inv-loop log traces events held first₀ unmet₀ k₀ first unmet k =
-    (k ≤ traces) × Left ahead log traces k first₀ first × Left (waiting events held) log traces k unmet₀ unmet
+Inv-loop log traces events held wide first₀ unmet₀ k₀ first unmet k =
+    (k ≤ traces) × Left (ahead wide) log traces k first₀ first × Left (waiting wide events held) log traces k unmet₀ unmet
 
 abbrev μ-loop : tie.MeasureT-loop
-μ-loop log traces events held first₀ unmet₀ k₀ first unmet k = traces - k
+μ-loop log traces events held wide first₀ unmet₀ k₀ first unmet k = traces - k
 
 loop-holds : tie.Need-loop-holds Inv-loop μ-loop
-loop-holds c = (search needs, through-start ahead _ _ _ _ refl, through-start (waiting _ _) _ _ _ _ refl)
+loop-holds c = (search needs, through-start (ahead _) _ _ _ _ refl, through-start (waiting _ _ _) _ _ _ _ refl)
 
 loop-again : tie.Need-loop-again Inv-loop μ-loop
 loop-again c = (search needs, search (through-next, needs), search (through-next, needs))
 
 returns : tie.Need-returns Inv-loop μ-loop
 returns c = (
-  through-end ahead _ _ _ _ _ (c .loop-test .left) (c .before .loop .inv .1),
-  through-end (waiting _ _) _ _ _ _ _
+  through-end (ahead _) _ _ _ _ _ (c .loop-test .left) (c .before .loop .inv .1),
+  through-end (waiting _ _ _) _ _ _ _ _
       (c .loop-test .left) (c .before .loop .inv .2),
 )
 

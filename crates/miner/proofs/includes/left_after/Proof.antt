@@ -1,26 +1,18 @@
 use borrow.Author.Needs.{needs}
-use Rattle.miner.proofs.After.{left-last, left-not, left-out}
+use Rattle.miner.proofs.After.{left-last, left-out}
 use Rattle.miner.proofs.includes.left_after.Statement.{statement}
 use Rattle.miner.proofs.includes.left_after.Tie as tie
 
 returns : tie.Need-returns
 returns c =
-    let a = c .before .before .before .before .before .before .before .args in
-    left-last (a .after) (a .last .now) (a .e .0) (a .at .0) _ _ (c .before .before .if2 .taken) (c .before .one .ensures)
-    (c .difference .ensures)
+    let a = c .before .before .before .before .before .before .args in
+    left-last (a .after) (a .last .now) (a .e .0) (a .at .0) _ _ (c .before .one-if .ensures) (c .difference .ensures)
 
 returns-2 : tie.Need-returns-2
 returns-2 c =
-    let a = c .before .before .before .before .before .args in
-    left-not (a .after) (a .last .now) (a .e .0) (a .at .0) (search needs) (c .if2 .left)
-
-returns-3 : tie.Need-returns-3
-returns-3 c =
     let a = c .before .before .args in
     left-out (a .after) (a .last .now) (a .e .0) (a .at .0) (search needs) (search needs)
 
 pub left-after-spec : {M : Type 1} → statement M
 left-after-spec =
-    tie.close
-    (tie.spec (λ c. search needs) (λ c. search needs) (λ c. search needs) (λ c κs. search needs) (λ c κs. search needs) returns returns-2
-    returns-3)
+    tie.close (tie.spec (λ c. search needs) (λ c. search needs) (λ c. search needs) (λ c κs. search needs) (λ c κs. search needs) returns returns-2)

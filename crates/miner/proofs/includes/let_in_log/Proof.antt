@@ -1,30 +1,31 @@
 use mathlib.Core.Path.{refl}
+use mathlib.Core.Bool.{Bool}
 use mathlib.Core.List.{List, []}
 use Prim.Native.Nat.{ℕ, _-_, _≤_}
 use borrow.Author.Needs.{needs}
-use Rattle.tally.specs.Passes.{gains, forward}
+use Rattle.tally.specs.Passes.{gains, forward, cut}
 use Rattle.miner.specs.Facts.{letIn}
 use Rattle.tally.proofs.Walks.{Left, through-start, through-next, through-end}
 use Rattle.miner.proofs.includes.let_in_log.Statement.{statement}
 use Rattle.miner.proofs.includes.let_in_log.Tie as tie
 
-abbrev pass : List ℕ → List ℕ → List ℕ → List ℕ
-pass unfollowed r σ = forward (gains (letIn unfollowed)) r [] σ
+abbrev pass : Bool → List ℕ → List ℕ → List ℕ → List ℕ
+pass wide unfollowed r σ = forward (gains (cut wide (letIn unfollowed))) r [] σ
 
 abbrev Inv-loop : tie.InvT-loop
-Inv-loop log traces unfollowed out₀ k₀ out k = (k ≤ traces) × Left (pass unfollowed) log traces k out₀ out
+Inv-loop log traces unfollowed wide out₀ k₀ out k = (k ≤ traces) × Left (pass wide unfollowed) log traces k out₀ out
 
 abbrev μ-loop : tie.MeasureT-loop
-μ-loop log traces unfollowed out₀ k₀ out k = traces - k
+μ-loop log traces unfollowed wide out₀ k₀ out k = traces - k
 
 loop-holds : tie.Need-loop-holds Inv-loop μ-loop
-loop-holds c = (search needs, through-start (pass _) _ _ _ _ refl)
+loop-holds c = (search needs, through-start (pass _ _) _ _ _ _ refl)
 
 loop-again : tie.Need-loop-again Inv-loop μ-loop
 loop-again c = (search needs, search (through-next, needs))
 
 returns : tie.Need-returns Inv-loop μ-loop
-returns c = through-end (pass _) _ _ _ _ _ (c .loop-test .left) (c .before .loop .inv .1)
+returns c = through-end (pass _ _) _ _ _ _ _ (c .loop-test .left) (c .before .loop .inv .1)
 
 pub let-in-log-spec : {M : Type 1} → statement M
 let-in-log-spec =

@@ -7,7 +7,7 @@ returns : tie.Need-returns
 returns c =
     let let-in = c .before .before .before in
     let never = let-in .before .before .before in
-    let-in-by _ _ _ _ _ _ _ _ (c .put-rows .ensures) (let-in .let-in-log .ensures) (never .taken2 .ensures)
+    let-in-by _ _ _ _ _ _ _ _ _ (c .put-rows .ensures) (let-in .let-in-log .ensures) (never .taken2 .ensures)
     (never .before .before .before .taken .ensures)
 
 pub put-six-spec : {M : Type 1} → statement M

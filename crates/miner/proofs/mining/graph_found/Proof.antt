@@ -10,7 +10,7 @@ returns c =
     let nine = ten .before .before in
     let eight = nine .before .before in
     let a = eight .before .before .before .args in
-    found-by _ (walked (a .bytes .now) (a .traces) 0) (a .profile) _ _ _ _ _ _ (eight .tables-eight .ensures .0) (eight .tables-eight .ensures .1) (nine .put-nine .ensures) (ten .put-ten .ensures)
+    found-by _ _ (walked (a .bytes .now) (a .traces) 0) (a .profile) _ _ _ _ _ _ (eight .tables-eight .ensures .0) (eight .tables-eight .ensures .1) (nine .put-nine .ensures) (ten .put-ten .ensures)
     (c .before .opening .ensures) (c .marked .ensures)
 
 pub graph-found-spec : {M : Type 1} → statement M

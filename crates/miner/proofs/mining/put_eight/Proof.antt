@@ -12,7 +12,7 @@ returns c =
     let turned = six .before .before in
     let excluded = turned .before .before in
     let a = excluded .before .before .before .before .before .args in
-    eight-by (walked (a .bytes .now) (a .traces) 0) _ _ (a .profile) _ _ _ _ _ _ _ _ (excluded .before .before .put-three .ensures) (excluded .put-excluded .ensures) (turned .turn .ensures)
+    eight-by (a .wide) (walked (a .bytes .now) (a .traces) 0) _ _ (a .profile) _ _ _ _ _ _ _ _ (excluded .before .before .put-three .ensures) (excluded .put-excluded .ensures) (turned .turn .ensures)
     (six .put-six .ensures .0) (six .put-six .ensures .1 .0) (six .put-six .ensures .1 .1) (seven .put-seven .ensures)
     (eight .put-eight .ensures) (c .put-responses .ensures)
 

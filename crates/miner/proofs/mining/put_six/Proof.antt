@@ -12,10 +12,10 @@ returns c =
     let barred = let-in .before .before in
     let never = barred .put-never .ensures in
     let profile = barred .before .before .before .before .before .args .profile in (
-      six-length _ _ _ _ _ _ _ never includes excludes,
+      six-length _ _ _ _ _ _ _ _ never includes excludes,
       (
-        six-includes _ _ _ _ _ _ _ never includes excludes profile (search needs),
-        six-excludes _ _ _ _ _ _ _ never includes excludes profile (search needs),
+        six-includes _ _ _ _ _ _ _ _ never includes excludes profile (search needs),
+        six-excludes _ _ _ _ _ _ _ _ never includes excludes profile (search needs),
       ),
     )
 
@@ -23,7 +23,7 @@ returns-2 : tie.Need-returns-2
 returns-2 c =
     let a = c .before .before .before .args in
     let traces = walked (a .bytes .now) (a .traces) 0 in
-    (search needs, (light-includes traces _ _ _ (a .profile) (search needs), light-excludes traces _ _ _ (a .profile) (search needs)))
+    (search needs, (light-includes (a .wide) traces _ _ _ (a .profile) (search needs), light-excludes (a .wide) traces _ _ _ (a .profile) (search needs)))
 
 pub put-six-spec : {M : Type 1} → statement M
 put-six-spec =

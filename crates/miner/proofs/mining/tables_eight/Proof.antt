@@ -8,8 +8,8 @@ returns : tie.Need-returns
 returns c =
     let noted = c .before .before .before in
     let a = noted .before .before .before .before .args in (
-      events-by _ _ (noted .note-traces .ensures .0),
-      tally-by (walked (a .bytes .now) (a .traces) 0) _ (a .profile) _ _ (a .out .now) _ (noted .before .before .empty .ensures) (noted .note-traces .ensures .1)
+      events-by _ _ (noted .note-traces-in .ensures .0),
+      tally-by (a .wide) (walked (a .bytes .now) (a .traces) 0) _ (a .profile) _ _ (a .out .now) _ (noted .before .before .empty .ensures) (noted .note-traces-in .ensures .1)
           (c .put-eight .ensures),
     )
 

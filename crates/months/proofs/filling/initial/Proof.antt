@@ -1,10 +1,11 @@
 use borrow.Author.Needs.{needs}
+use Rattle.sets.proofs.Members.{those-mem}
 use Rattle.months.proofs.Initial.{initials}
 use Rattle.months.proofs.filling.initial.Statement.{statement}
 use Rattle.months.proofs.filling.initial.Tie as tie
 
 returns-4 : tie.Need-returns-4
-returns-4 c = search (initials, needs)
+returns-4 c = search (initials, those-mem, needs)
 
 pub initial-spec : {M : Type 1} → statement M
 initial-spec =

@@ -8,7 +8,7 @@ returns c =
     let log = c .before .before in
     let initial = log .before .before .before .before in
     let tables = initial .before .before .before in
-    let got = tables .note-traces .ensures in
+    let got = tables .note-traces-in .ensures in
     tally-filled _ _ _ _ _ _ _ _ (tables .before .before .empty .ensures) (got .0) (got .1) (initial .put-initial .ensures) (log .note-log .ensures)
 
 same-length : tie.Need-same-length

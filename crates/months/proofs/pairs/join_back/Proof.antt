@@ -3,7 +3,7 @@ use Prim.Native.Nat.{_≤_, _<_}
 use native.Mathlib.Omega.{arith}
 use borrow.Author.Needs.{needs}
 use lib.ListN.{length}
-use Rattle.sets.specs.Members.{width}
+use Rattle.months.specs.Layout.{tallyWidth}
 use Rattle.months.specs.Pairs.{Kept}
 use Rattle.months.proofs.Gaining.{put-length}
 use Rattle.months.proofs.Cuts.{LeftBack, back-turn, back-end}
@@ -12,7 +12,7 @@ use Rattle.months.proofs.pairs.join_back.Tie as tie
 
 abbrev Inv-loop : tie.InvT-loop
 Inv-loop tally₀ s firsts gaps count since₀ j₀ tally since j =
-    (s .0 < width) × Kept firsts gaps count × (j ≤ count) × (length tally ≡ length tally₀) × LeftBack tally₀ (s .0) firsts gaps count tally since j
+    (s .0 < tallyWidth) × Kept firsts gaps count × (j ≤ count) × (length tally ≡ length tally₀) × LeftBack tally₀ (s .0) firsts gaps count tally since j
 
 abbrev μ-loop : tie.MeasureT-loop
 μ-loop tally₀ s firsts gaps count since₀ j₀ tally since j = j

@@ -1,7 +1,7 @@
 use Prim.Native.Nat.{ℕ, _-_}
 use borrow.Author.Needs.{needs}
 use lib.ListN.{length, length-replicate}
-use Rattle.sets.specs.Members.{width}
+use Rattle.months.specs.Layout.{tallyWidth}
 use Rattle.months.proofs.Along.{Along, cut-kept, along-start, along-turn, along-end}
 use Rattle.months.proofs.pairs.note_along.Statement.{statement}
 use Rattle.months.proofs.pairs.note_along.Tie as tie
@@ -13,7 +13,7 @@ abbrev μ-loop : tie.MeasureT-loop
 μ-loop trace last tally₀ firsts₀ gaps₀ seen₀ i₀ tally firsts gaps seen i = length trace - i
 
 loop-holds : tie.Need-loop-holds Inv-loop μ-loop
-loop-holds c = along-start _ _ _ _ (length-replicate {A = ℕ} width 0) (c .empty .ensures)
+loop-holds c = along-start _ _ _ _ (length-replicate {A = ℕ} tallyWidth 0) (c .empty .ensures)
 
 join-last-requires : tie.Need-join-last-requires Inv-loop μ-loop
 join-last-requires c κs = cut-kept _ _ _ _ (c .before .before .before .before .before .loop .inv .cut)

@@ -1,17 +1,20 @@
 use mathlib.Core.Path.{_≡_, ap, _∙_}
 use Prim.Native.Nat.{_-_, _*_, _≤_}
 use borrow.Author.Needs.{needs}
+use lib.Dec.{ltb}
 use lib.ListN.{length}
-use Rattle.sets.specs.Members.{width, mem}
+use Rattle.sets.specs.Tests.{_and_}
+use Rattle.sets.specs.Members.{mem}
+use Rattle.sets.specs.Rows.{rowWords}
 use Rattle.sets.proofs.TableLaws.{length-tablesOf}
 use Rattle.tally.specs.Tallies.{tableCount}
-use Rattle.months.specs.Layout.{rowSet, setIn}
+use Rattle.months.specs.Layout.{tallyWidth, rowSet, setIn}
 use Rattle.months.proofs.FromTally.{tablesTo, tables-start, tables-turn, tables-end}
 use Rattle.months.proofs.reading.tables_in.Statement.{statement}
 use Rattle.months.proofs.reading.tables_in.Tie as tie
 
 abbrev Inv-loop : tie.InvT-loop
-Inv-loop tally out₀ k₀ out k = (k ≤ tableCount) × (length out ≡ tableCount * width) × (out ≡ tablesTo (λ j a x. mem (setIn tally (rowSet j a)) x) k)
+Inv-loop tally out₀ k₀ out k = (k ≤ tableCount) × (length out ≡ tableCount * rowWords) × (out ≡ tablesTo (λ j a x. ltb a tallyWidth and mem (setIn tally (rowSet j a)) x) k)
 
 abbrev μ-loop : tie.MeasureT-loop
 μ-loop tally out₀ k₀ out k = tableCount - k

@@ -18,11 +18,12 @@ returns-3 c =
     let first = read .before .before in
     let place = first .before in
     let judged = place .before in
-    let known = judged .before .before .before in
+    let form = judged .before .before in
+    let known = form .before .before in
     let file = known .before .args .file .now in (
-      step-served _ (λ k. known .shared-slice-known .given k .fits) _ _ _ _ (judged .judge-place .ensures) (place .is-done .ensures) (first .if1 .left) _ _
-          (read .read-bare .ensures .0) (asked .is-done2 .ensures) (second .if2 .left) _ (read .read-bare .ensures .1) _ _ _ (served .step-on .ensures .0)
-          (c .packed-blocker3 .ensures),
+      step-served _ (λ k. known .shared-slice-known .given k .fits) _ _ _ (form .is-wide .ensures) _ _ (judged .judge-place .ensures) (place .is-done .ensures)
+          (first .if1 .left) _ _ (read .read-bare .ensures .0) (asked .is-done2 .ensures) (second .if2 .left) _ (read .read-bare .ensures .1) _ _ _
+          (served .step-on .ensures .0) (c .packed-blocker3 .ensures),
       search (step-served-table file (λ k. known .shared-slice-known .given k .fits), needs),
     )
 
@@ -30,6 +31,7 @@ pub skelfora-desk-step-spec : {M : Type 1} → statement M
 skelfora-desk-step-spec =
     tie.close
     (tie.spec
+    (λ c κs. search needs)
     (λ c κs. search needs)
     (λ c κs. search needs)
     (λ c κs. search needs)

@@ -2,7 +2,7 @@ use mathlib.Core.Path.{_≡_, refl}
 use Prim.Native.Nat.{_-_, _*_, _≤_}
 use borrow.Author.Needs.{needs}
 use lib.ListN.{length}
-use Rattle.sets.specs.Members.{width}
+use Rattle.months.specs.Layout.{tallyWidth}
 use Rattle.engine.specs.Relations.{relationCount}
 use Rattle.port.specs.Tallies.{knownLength}
 use Rattle.port.proofs.Tallied.{rowsTo, rows-begin, rows-next, rows-long, rows-finish}
@@ -11,10 +11,10 @@ use Rattle.port.proofs.tallies.put_rows.Tie as tie
 
 abbrev Inv-loop : tie.InvT-loop
 Inv-loop relations out₀ i₀ out i =
-    (i ≤ relationCount * width) × (knownLength ≤ length out₀) × (length out ≡ length out₀) × (out ≡ rowsTo relations out₀ i)
+    (i ≤ relationCount * tallyWidth) × (knownLength ≤ length out₀) × (length out ≡ length out₀) × (out ≡ rowsTo relations out₀ i)
 
 abbrev μ-loop : tie.MeasureT-loop
-μ-loop relations out₀ i₀ out i = relationCount * width - i
+μ-loop relations out₀ i₀ out i = relationCount * tallyWidth - i
 
 loop-holds : tie.Need-loop-holds Inv-loop μ-loop
 loop-holds c =

@@ -3,7 +3,7 @@ use mir.Syntax.{w64}
 use mir.Val.{Fits}
 use Prim.Native.Nat.{ℕ, _^_, _<_}
 use lib.ListN.{getD}
-use Rattle.sets.specs.Members.{width}
+use Rattle.sets.specs.Members.{word}
 use Rattle.sets.proofs.Members.{those-mem}
 use Rattle.sets.proofs.TableLaws.{table-whole}
 use Rattle.graphfile.proofs.GraphFile.{Machine}
@@ -14,7 +14,7 @@ use Rattle.promises.proofs.returned.graph_back.Tie as tie
 -- what every `Graph` of the code has
 machine : (c : tie.Start) → Machine (c .args .g)
 machine c =
-    let small : (i : ℕ) → getD (c .args .g .relations) i 0 < 2 ^ width =
+    let small : (i : ℕ) → getD (c .args .g .relations) i 0 < 2 ^ word =
     λ i. let f : Fits w64 (getD (c .args .g .relations) i 0) = search needs in f .fits in
     record {
       events = those-mem _ (search needs);

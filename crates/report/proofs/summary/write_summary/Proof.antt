@@ -13,6 +13,9 @@ write-summary-spec =
     (λ c κs. search needs)
     (λ c κs. search needs)
     (λ c. search (summarizing, needs))
+    (λ c κs. search needs)
+    (λ c. search needs)
+    (λ c. search needs)
     (λ c. search (summarizing, needs))
     put-summary-requires
     (λ c. search needs)

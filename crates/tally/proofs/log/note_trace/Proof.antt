@@ -1,22 +1,32 @@
-use mathlib.Core.Path.{_≡_, ap, _∙_}
+use mathlib.Core.Path.{_≡_, sym, ap, _∙_}
+use mathlib.Core.Bool.{Bool, true, false}
 use mathlib.Core.List.{List, []}
 use Prim.Native.Nat.{ℕ}
 use borrow.Author.Needs.{needs}
 use Rattle.tally.specs.Passes.{forward, backward}
-use Rattle.tally.specs.Tallies.{notePast, noteSince, noteRest, noted}
+use Rattle.tally.specs.Tallies.{notePastIn, noteSinceIn, noteRestIn, notedFor}
 use Rattle.tally.proofs.Walks.{union-seen}
 use Rattle.tally.proofs.log.note_trace.Statement.{statement}
 use Rattle.tally.proofs.log.note_trace.Tie as tie
 
--- the passes, one after another
-passed : (σ t one out : List ℕ) → one ≡ forward noteSince (forward notePast t [] σ) [] σ → out ≡ backward noteRest one [] σ → out ≡ noted t σ
-unfolding noted
-passed σ t one out h1 h2 = h2 ∙ ap (λ (x : List ℕ). backward noteRest x [] σ) h1
+-- the passes, one after another, in the form that was asked for
+passed : (wide form : Bool) (σ t one out : List ℕ) → wide ≡ form → one ≡ forward (noteSinceIn form) (forward (notePastIn form) t [] σ) [] σ
+    → out ≡ backward (noteRestIn form) one [] σ → out ≡ notedFor wide t σ
+unfolding notedFor
+passed wide form σ t one out hw h1 h2 = h2 ∙ ap (λ (x : List ℕ). backward (noteRestIn form) x [] σ) h1 ∙ ap (λ (b : Bool). notedFor b t σ) (sym hw)
 
 returns : tie.Need-returns
 returns c =
     let past = c .before .before .before .forward .ensures in
-    (union-seen _ _ _ _ (past .0) (c .union .ensures), passed _ _ _ _ (past .1) (c .before .backward .ensures))
+    (union-seen _ _ _ _ (past .0) (c .union .ensures), passed _ true _ _ _ _ (c .before .before .before .before .before .if1 .taken) (past .1) (c .before .backward .ensures))
+
+returns-2 : tie.Need-returns-2
+returns-2 c =
+    let past = c .before .before .before .forward-narrow .ensures in
+    (union-seen _ _ _ _ (past .0) (c .union2 .ensures), passed _ false _ _ _ _ (c .before .before .before .before .before .if1 .left) (past .1) (c .before .backward-narrow .ensures))
 
 pub note-trace-spec : {M : Type 1} → statement M
-note-trace-spec = tie.close (tie.spec (λ c κs. search needs) (λ c κs. search needs) (λ c κs. search needs) returns)
+note-trace-spec =
+    tie.close
+    (tie.spec (λ c κs. search needs) (λ c κs. search needs) (λ c κs. search needs) returns (λ c κs. search needs) (λ c κs. search needs)
+    (λ c κs. search needs) returns-2)

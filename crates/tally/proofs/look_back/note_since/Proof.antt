@@ -7,6 +7,7 @@ use Rattle.sets.specs.Members.{width, mem, those}
 use Rattle.sets.specs.declared.set.Set.{Set}
 use Rattle.sets.proofs.Tests.{true→T}
 use Rattle.sets.proofs.Members.{those-e, those-mem}
+use Rattle.tally.specs.Tallies.{sinceBy}
 use Rattle.tally.proofs.Alternate.{note-full, note-repeat, note-first}
 use Rattle.tally.proofs.look_back.note_since.Statement.{statement}
 use Rattle.tally.proofs.look_back.note_since.Tie as tie
@@ -17,28 +18,35 @@ member-low s e r hs hr ht = those-e (mem s) e (subst (λ (u : Set). T (mem u e))
 
 -- the row has all
 returns : tie.Need-returns
-returns c = search (note-full, those-mem, needs)
+unfolding sinceBy
+returns c =
+    let wanted = c .before .before in
+    note-full _ _ _ _ _ _ _ _ _ (those-mem _ (search needs)) (wanted .before .before .row .ensures) (wanted .before .complement .ensures)
+    (wanted .in-form .ensures) (c .before .is-empty .ensures) (c .if1 .taken)
 
 unmet-by-requires : tie.Need-unmet-by-requires
 unmet-by-requires c κs = (search needs, search (member-low, those-mem, needs))
 
 -- a repeat
 returns-2 : tie.Need-returns-2
+unfolding sinceBy
 returns-2 c =
     let asked = c .before .before .before .before in
     let wanted = asked .before .before .before in
-    note-repeat _ _ _ _ _ _ (asked .has .ensures) _ _ _ _ (c .before .before .before .if2 .taken) (wanted .before .row .ensures)
-    (wanted .complement .ensures) (c .before .before .unmet-by .ensures) (c .join .ensures)
+    note-repeat _ _ _ _ _ _ _ (asked .has .ensures) _ _ _ _ _ (c .before .before .before .if2 .taken) (wanted .before .before .row .ensures)
+    (wanted .before .complement .ensures) (wanted .in-form .ensures) (c .before .before .unmet-by .ensures) (c .join .ensures)
 
 -- the first in its trace
 returns-3 : tie.Need-returns-3
+unfolding sinceBy
 returns-3 c =
-    let asked = c .before .before .before .before in
-    note-first _ _ _ _ _ _ (asked .has .ensures) _ _ (c .before .before .before .if2 .left) (c .before .complement2 .ensures)
+    let asked = c .before .before .before .before .before in
+    note-first _ _ _ _ _ _ _ (asked .has .ensures) _ _ _ (c .before .before .before .before .if2 .left) (c .before .before .complement2 .ensures)
+    (c .before .in-form2 .ensures)
     (c .join2 .ensures)
 
 pub note-since-spec : {M : Type 1} → statement M
 note-since-spec =
     tie.close
-    (tie.spec (λ c κs. search needs) (λ c κs. search needs) (λ c κs. search needs) returns (λ c κs. search needs) unmet-by-requires
-    (λ c κs. search needs) (λ c κs. search needs) (λ c κs. search needs) returns-2 returns-3)
+    (tie.spec (λ c κs. search needs) (λ c κs. search needs) (λ c κs. search needs) (λ c κs. search needs) returns (λ c κs. search needs) unmet-by-requires
+    (λ c κs. search needs) (λ c κs. search needs) (λ c κs. search needs) (λ c κs. search needs) returns-2 returns-3)

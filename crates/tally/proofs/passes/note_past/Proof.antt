@@ -1,15 +1,10 @@
 use borrow.Author.Needs.{needs}
-use Rattle.tally.proofs.Turns.{past-joined}
+use Rattle.tally.proofs.Turns.{past-put}
 use Rattle.tally.proofs.passes.note_past.Statement.{statement}
 use Rattle.tally.proofs.passes.note_past.Tie as tie
 
 returns : tie.Need-returns
-returns c =
-    past-joined _ _ _ _ _ _ _ _ _ _ _ _
-    (c .before .before .before .before .before .before .join .ensures) (c .before .before .before .before .complement .ensures)
-    (c .before .before .before .join2 .ensures) (c .before .complement2 .ensures) (c .join3 .ensures)
+returns c = search (past-put, needs)
 
 pub note-past-spec : {M : Type 1} → statement M
-note-past-spec =
-    tie.close
-    (tie.spec (λ c κs. search needs) (λ c κs. search needs) (λ c κs. search needs) (λ c κs. search needs) (λ c κs. search needs) returns)
+note-past-spec = tie.close (tie.spec (λ c κs. search needs) (λ c κs. search needs) (λ c κs. search needs) (λ c κs. search needs) (λ c κs. search needs) (λ c κs. search needs) (λ c κs. search needs) (λ c κs. search needs) returns)

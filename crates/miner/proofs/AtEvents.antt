@@ -1,0 +1,226 @@
+-- The stages of mining ask a tally at events alone: two tallies that agree there give the same rows. So who fills a tally may leave out what
+-- no event asks, as a pass over the half of the width where all events are, or a tally that is kept in narrower sets. Assumes nothing.
+use mathlib.Core.Path.{_≡_, refl, sym, ap, ap₂, _∙_}
+use mathlib.Core.Bool.{Bool, true, false}
+use mathlib.Core.List.{List, [], _∷_}
+use Prim.Native.Nat.{ℕ, _<_}
+use native.Mathlib.Omega.{arith}
+use lib.Dec.{T, eqb, eqb-refl}
+use Rattle.sets.specs.Tests.{_and_, _or_, non}
+use Rattle.sets.specs.Members.{width, mem, those, someBelow, leastBelow}
+use Rattle.sets.specs.Rows.{Relation, rowAt, inRow, rowsOf, rowsFor, turned}
+use Rattle.sets.specs.Tables.{tableAt}
+use Rattle.sets.specs.declared.set.Set.{Set}
+use Rattle.sets.proofs.Tests.{and-l, and-r, or-e, or-l, or-r, and-comm, T-eq, either}
+use Rattle.sets.proofs.Below.{some-ext, least-ext}
+use Rattle.sets.proofs.Members.{those-i}
+use Rattle.sets.proofs.RowLaws.{in-rowsOf, rowsOf-ext}
+use Rattle.rules.specs.declared.Profile.{Profile}
+use Rattle.rules.specs.declared.Profile.the-variants.{Full, Light}
+use Rattle.rules.specs.Traces.{Traces, _has_}
+use Rattle.rules.specs.Mining.{event}
+use Rattle.rules.proofs.InTurn.{is-event}
+use Rattle.steps.specs.Rowwise.{unbroken, absent, excludesItself, smallest, apart, closing, excluders, inEither, reducedOf}
+use Rattle.tally.specs.Passes.{Fact, gains, forward}
+use Rattle.tally.specs.Tallies.{tableCount, beforeTable, laterTable, unprecededTable, unansweredTable, unchainedTable, unalternatedTable}
+use Rattle.tally.specs.Tallies.{followedTable}
+use Rattle.tally.proofs.Folds.{heard, forward-rowsOf, through-rowsOf}
+use Rattle.tally.proofs.Turns.{has-past}
+use Rattle.miner.specs.Facts.{letIn, reopened, doubted}
+use Rattle.miner.specs.Stages.{conditionsOf, chainsOf, responsesOf, neverOf, fiveFrom, fiveOf, includesFrom, includesSix, excludesSix}
+use Rattle.miner.specs.Stages.{followersOf, redundantBy, sevenFrom, waitedOf, fourTables, tablesAfterSix, tablesRead}
+use Rattle.miner.proofs.OverLog.{some-place}
+use Rattle.miner.proofs.EarlySteps.{events}
+
+-- ---- tests alone
+
+-- what is asked only where a test passes
+pub where-so : (g d d′ : Bool) → (T g → d ≡ d′) → (g and d) ≡ (g and d′)
+unfolding _and_
+where-so true d d′ h = h tt
+where-so false d d′ h = refl
+
+where-then : (d d′ g : Bool) → (T g → d ≡ d′) → (d and g) ≡ (d′ and g)
+where-then d d′ g h = and-comm d g ∙ where-so g d d′ h ∙ and-comm g d′
+
+where-first : (g c c′ d d′ : Bool) → (T g → c ≡ c′) → (T g → d ≡ d′) → (g and c and d) ≡ (g and c′ and d′)
+unfolding _and_
+where-first true c c′ d d′ hc hd = ap₂ _and_ (hc tt) (hd tt)
+where-first false c c′ d d′ hc hd = refl
+
+smallest-as : (p q : ℕ → Bool) → ((a : ℕ) → a < width → p a ≡ q a) → (a : ℕ) → a < width → smallest p a ≡ smallest q a
+unfolding smallest
+smallest-as p q h a l = ap₂ (λ (b : Bool) (n : ℕ). b and eqb a n) (h a l) (least-ext width p q h)
+
+-- ---- rows that agree at the members of a set
+
+abbrev pub AgreeIn : Set → List ℕ → List ℕ → Type 0
+AgreeIn events rows rows′ =
+    (a x : ℕ) → a < width → x < width → T (mem events a) → T (mem events x) → inRow rows a x ≡ inRow rows′ a x
+
+-- the same of all tables of two tallies
+abbrev pub AgreeAt : Set → List ℕ → List ℕ → Type 0
+AgreeAt events tally tally′ = (k : ℕ) → k < tableCount → AgreeIn events (tableAt tally k) (tableAt tally′ k)
+
+-- rows of members alone
+abbrev pub Inside : Set → List ℕ → Type 0
+Inside events rows = (a x : ℕ) → a < width → x < width → T (inRow rows a x) → T (mem events a)
+
+module _ (events : Set) where
+  module _ (rows rows′ : List ℕ) (same : AgreeIn events rows rows′) where
+    unbroken-as : rowsFor events (unbroken events rows) ≡ rowsFor events (unbroken events rows′)
+    unfolding rowsFor unbroken
+    unbroken-as =
+        rowsOf-ext _ _ (λ a x la lx. where-so (mem events a) _ _ (λ ta. where-so (mem events x and non (eqb x a)) _ _
+        (λ t. ap non (same a x la lx ta (and-l _ _ t)))))
+
+    absent-as : rowsFor events (absent events rows) ≡ rowsFor events (absent events rows′)
+    unfolding rowsFor absent
+    absent-as =
+        rowsOf-ext _ _ (λ a x la lx. where-so (mem events a) _ _ (λ ta. where-so (mem events x) _ _ (λ tx. ap non (same a x la lx ta tx))))
+
+  -- ---- steps 1 to 5
+  module _ (before before′ later later′ : List ℕ) (hb : AgreeIn events before before′) (hl : AgreeIn events later later′) where
+    apart-as : (t : ℕ) → t < width → T (mem events t) → (s : ℕ) → s < width → apart events before later t s ≡ apart events before′ later′ t s
+    unfolding apart
+    apart-as t lt et s ls =
+        where-so (mem events s and non (eqb s t)) _ _
+        (λ k. ap₂ (λ (b c : Bool). non (b or c)) (hb t s lt ls et (and-l _ _ k)) (hl t s lt ls et (and-l _ _ k)))
+
+    closing-as : (itself : Bool) (s : ℕ) → s < width → T (mem events s) → (t : ℕ) → t < width
+        → closing events itself before later s t ≡ closing events itself before′ later′ s t
+    unfolding closing
+    closing-as itself s ls es t lt =
+        ap (λ (b : Bool). b and non itself)
+        (where-first (mem events t) _ _ _ _ (λ et. hl s t ls lt es et) (λ et. ap non (hb s t ls lt es et)))
+
+    excluders-as : (chains : List ℕ) → rowsFor events (excluders events before later chains) ≡ rowsFor events (excluders events before′ later′ chains)
+    unfolding rowsFor excluders excludesItself
+    excluders-as chains = rowsOf-ext _ _ (λ t s lt ls. where-so (mem events t) _ _ (at t s lt ls))
+      where
+        at : (t s : ℕ) → t < width → s < width → T (mem events t) → excluders events before later chains t s ≡ excluders events before′ later′ chains t s
+        at t s lt ls et =
+            let itself : excludesItself before chains t ≡ excludesItself before′ chains t =
+            ap (λ (b : Bool). non b or someBelow width (λ u. inRow chains t u)) (hb t t lt lt et et) in
+            (λ i. itself i and eqb s t or smallest-as _ _ (apart-as t lt et) s ls i
+            or (ap (λ (b : Bool). smallest (closing events b before later t) s) itself
+            ∙ smallest-as _ _ (closing-as (excludesItself before′ chains t) t lt et) s ls) i)
+
+-- ---- the stages
+
+module _ (events : Set) (tally tally′ : List ℕ) (same : AgreeAt events tally tally′) where
+  pub conditions-at : conditionsOf events tally ≡ conditionsOf events tally′
+  conditions-at = unbroken-as events _ _ (same unprecededTable (omega arith))
+
+  pub chains-at : chainsOf events tally ≡ chainsOf events tally′
+  chains-at = unbroken-as events _ _ (same unchainedTable (omega arith))
+
+  pub responses-at : responsesOf events tally ≡ responsesOf events tally′
+  responses-at = unbroken-as events _ _ (same unansweredTable (omega arith))
+
+  pub never-at : neverOf events tally ≡ neverOf events tally′
+  never-at = absent-as events _ _ (same followedTable (omega arith))
+
+  -- row s: the events that alternately precede s
+  pub alternating-at : rowsFor events (absent events (tableAt tally unalternatedTable)) ≡ rowsFor events (absent events (tableAt tally′ unalternatedTable))
+  alternating-at = absent-as events _ _ (same unalternatedTable (omega arith))
+
+  pub five-from-at : (chains : List ℕ) → fiveFrom events tally chains ≡ fiveFrom events tally′ chains
+  five-from-at chains =
+      ap (λ (rows : List ℕ). rowsOf (turned rows))
+      (excluders-as events _ _ _ _ (same beforeTable (omega arith)) (same laterTable (omega arith)) chains)
+
+  pub five-at : fiveOf events tally ≡ fiveOf events tally′
+  five-at = five-from-at (chainsOf events tally) ∙ ap (fiveFrom events tally′) chains-at
+
+  pub excludes-six-at : (p : Profile) → excludesSix p events tally ≡ excludesSix p events tally′
+  excludes-six-at Full = ap₂ (λ (x y : List ℕ). rowsFor events (inEither x y)) five-at never-at
+  excludes-six-at Light = five-at
+
+  pub includes-six-at : (p : Profile) (L : Traces) → includesSix p events tally L ≡ includesSix p events tally′ L
+  includes-six-at Full L = ap₂ (λ (x y : List ℕ). includesFrom x y L) chains-at never-at
+  includes-six-at Light L = ap (λ (rows : List ℕ). rowsOf (turned rows)) chains-at
+
+  pub followers-at : followersOf events tally ≡ followersOf events tally′
+  followers-at = ap (λ (rows : List ℕ). rowsOf (turned rows)) alternating-at
+
+  -- ---- step 7, where nothing but events includes anything
+  module _ (includes : List ℕ) (inside : Inside events includes) where
+    doubted-at : (u s x : ℕ) → u < width → s < width → x < width → T (mem events u) → T (mem events s)
+        → doubted (tableAt tally beforeTable) includes (rowAt (tableAt tally laterTable) u) s x
+        ≡ doubted (tableAt tally′ beforeTable) includes (rowAt (tableAt tally′ laterTable) u) s x
+    unfolding doubted inRow
+    doubted-at u s x lu ls lx eu es =
+        some-ext width _ _
+        (λ v lv. where-then _ _ (inRow includes v x)
+        (λ t. let ev = inside v x lv lx t in
+        ap₂ _and_ (same laterTable (omega arith) u v lu lv eu ev) (same beforeTable (omega arith) s v ls lv es ev)))
+
+    followers-events : (u s : ℕ) → u < width → s < width → T (inRow (followersOf events tally) u s) → T (mem events s) × T (mem events u)
+    unfolding turned rowsFor absent
+    followers-events u s lu ls t =
+        let there = T-eq (in-rowsOf (turned (rowsFor events (absent events (tableAt tally unalternatedTable)))) u s lu ls
+        ∙ in-rowsOf (λ a x. mem events a and absent events (tableAt tally unalternatedTable) a x) s u ls lu) t in
+        (and-l _ _ there, and-l _ _ (and-r _ _ there))
+
+    redundant-at : (excludes : List ℕ) (L : Traces) (u s x : ℕ) → u < width → s < width → x < width
+        → redundantBy tally (followersOf events tally) includes excludes L u s x
+        ≡ redundantBy tally′ (followersOf events tally) includes excludes L u s x
+    unfolding redundantBy
+    redundant-at excludes L u s x lu ls lx =
+        where-so (inRow excludes u x and non (inRow includes u x) and inRow (followersOf events tally) u s) _ _
+        (λ t. let two = followers-events u s lu ls (and-r _ _ t) in
+        ap (λ (b : Bool). non (b and reopened includes u L s x)) (doubted-at u s x lu ls lx (two .1) (two .0)))
+
+    pub seven-at : (excludes : List ℕ) (L : Traces) → sevenFrom events tally includes excludes L ≡ sevenFrom events tally′ includes excludes L
+    seven-at excludes L =
+        rowsOf-ext _ _
+        (λ s x ls lx. ap (λ (b : Bool). inRow excludes s x and non b)
+        (some-ext width _ _ (λ u lu. ap (λ (b : Bool). mem events u and b)
+        (redundant-at excludes L u s x lu ls lx
+        ∙ ap (λ (f : List ℕ). redundantBy tally′ f includes excludes L u s x) followers-at))))
+
+  -- from the includes and excludes after step 6 to the tables after step 10
+  pub after-six-at : (L : Traces) (includes six : List ℕ) → Inside events includes
+      → tablesAfterSix L events tally includes six ≡ tablesAfterSix L events tally′ includes six
+  after-six-at L includes six inside =
+      λ i. tablesFor (conditions-at i) (responses-at i) (seven-at includes inside six L i)
+    where
+      tablesFor : List ℕ → List ℕ → List ℕ → List ℕ
+      tablesFor conditions responses seven =
+          fourTables (waitedOf events (rowsFor events (reducedOf conditions)) includes seven L) (rowsFor events (reducedOf responses)) includes seven
+
+-- ---- the graph of a log
+
+-- what a place says puts into the row of its activity: of an event
+heard-event : (p : Fact) (L : Traces) (u x : ℕ) → T (heard p L u x) → T (event L u)
+unfolding _has_
+heard-event p L u x h =
+    let k = some-place u (λ past rest. p u past rest x) L h in
+    is-event L u (k .2) (T-eq (sym (has-past u (k .0) (u ∷ k .1))) (or-r _ _ (or-l _ _ (eqb-refl u))))
+
+module _ (L : Traces) (tally : List ℕ) where
+  chains-inside : Inside (events L) (rowsOf (turned (chainsOf (events L) tally)))
+  unfolding turned rowsFor unbroken
+  chains-inside a x la lx t =
+      let there = T-eq (in-rowsOf (turned (chainsOf (events L) tally)) a x la lx
+      ∙ in-rowsOf (λ b y. mem (events L) b and unbroken (events L) (tableAt tally unchainedTable) b y) x a lx la) t in
+      and-l _ _ (and-l _ _ (and-r _ _ there))
+
+  -- nothing but an event includes anything
+  pub includes-inside : (p : Profile) → Inside (events L) (includesSix p (events L) tally L)
+  includes-inside Light a x la lx t = chains-inside a x la lx t
+  includes-inside Full a x la lx t =
+      let never : List ℕ = neverOf (events L) tally in
+      let start : Relation = turned (chainsOf (events L) tally) in
+      let all = through-rowsOf (letIn never) (λ r σ. forward (gains (letIn never)) r [] σ) (λ r σ. forward-rowsOf (letIn never) r [] σ) start L in
+      let there = T-eq (ap (λ (rows : List ℕ). inRow rows a x) all ∙ in-rowsOf (λ b y. start b y or heard (letIn never) L b y) a x la lx) t in
+      either (or-e _ _ there)
+      (λ c. chains-inside a x la lx (T-eq (sym (in-rowsOf start a x la lx)) c))
+      (λ c. those-i (event L) a la (heard-event (letIn never) L a x c))
+
+  -- all tables that mining reads
+  pub tables-at : (tally′ : List ℕ) → AgreeAt (events L) tally tally′ → (p : Profile) → tablesRead L (events L) tally p ≡ tablesRead L (events L) tally′ p
+  tables-at tally′ same p =
+      after-six-at (events L) tally tally′ same L _ _ (includes-inside p)
+      ∙ ap₂ (tablesAfterSix L (events L) tally′) (includes-six-at (events L) tally tally′ same p L) (excludes-six-at (events L) tally tally′ same p)

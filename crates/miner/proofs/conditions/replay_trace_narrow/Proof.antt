@@ -1,0 +1,39 @@
+use mathlib.Core.Bool.{false}
+use mathlib.Core.Path.{_≡_}
+use Prim.Native.Nat.{ℕ, _-_}
+use borrow.Author.Needs.{needs}
+use lib.ListN.{length}
+use Rattle.sets.specs.Tests.{_and_}
+use Rattle.sets.specs.Members.{mem, those}
+use Rattle.sets.specs.Tables.{tableAt}
+use Rattle.sets.specs.declared.set.Set.{Set}
+use Rattle.tally.specs.Passes.{reaches}
+use Rattle.miner.proofs.Replaying.{Replayed, replay-start, replay-turn, replay-end}
+use Rattle.miner.proofs.conditions.replay_trace_narrow.Statement.{statement}
+use Rattle.miner.proofs.conditions.replay_trace_narrow.Tie as tie
+
+abbrev Inv-loop : tie.InvT-loop
+Inv-loop trace held first₀ unmet₀ seen₀ included₀ i₀ first unmet seen included i =
+    (events : Set) → included₀ ≡ those (λ x. reaches false x and mem events x) → Replayed false trace events (tableAt held 2) (tableAt held 3) first₀ unmet₀ first unmet seen included i
+
+abbrev μ-loop : tie.MeasureT-loop
+μ-loop trace held first₀ unmet₀ seen₀ included₀ i₀ first unmet seen included i = length trace - i
+
+loop-holds : tie.Need-loop-holds Inv-loop μ-loop
+loop-holds c = λ events h. replay-start _ _ _ _ _ _ _ _ h
+
+loop-again : tie.Need-loop-again Inv-loop μ-loop
+loop-again c =
+    let t = c .before .before .before .before .before .before .loop-test .taken in
+    let v = c .before .before .before .before .before .before .before .loop .inv in
+    let turn = c .before .note-waiting .ensures in
+    λ events h. replay-turn (v events h) t _ _ _ _ (c .before .before .before .before .included-after .ensures) (turn .0) (turn .1) (c .and-then .ensures)
+
+returns : tie.Need-returns Inv-loop μ-loop
+returns c = replay-end (c .before .loop .inv _ (c .before .before .in-form .ensures)) (c .loop-test .left)
+
+pub replay-trace-narrow-spec : {M : Type 1} → statement M
+replay-trace-narrow-spec =
+    tie.close
+    (tie.spec Inv-loop μ-loop (λ c κs. search needs) loop-holds (λ c. search needs) (λ c κs. search needs) (λ c κs. search needs) (λ c κs. search needs)
+    (λ c. search needs) (λ c. search needs) loop-again returns)

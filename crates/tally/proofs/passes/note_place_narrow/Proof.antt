@@ -1,0 +1,14 @@
+use borrow.Author.Needs.{needs}
+use denote.Ref.{now}
+use Rattle.tally.specs.Passes.{inBlock}
+use Rattle.tally.proofs.Fused.{both-noted}
+use Rattle.tally.proofs.passes.note_place_narrow.Statement.{statement}
+use Rattle.tally.proofs.passes.note_place_narrow.Tie as tie
+
+returns : tie.Need-returns
+returns c =
+    let a = c .before .before .before .before .before .before .before .before .args in
+    (c .put-down .ensures (inBlock (now (a .past))) (search needs), search (both-noted, needs))
+
+pub note-place-narrow-spec : {M : Type 1} → statement M
+note-place-narrow-spec = tie.close (tie.spec (λ c κs. search needs) (λ c κs. search needs) (λ c κs. search needs) returns)
