@@ -102,7 +102,7 @@ fn unmet_by<'a>(past: &'a [u8], blocks: &'a Rows, e: Activity, wanted: Set) -> S
 
 // One place: what does not stand since the last e. At the first e of a trace that is what was not seen. A row that has all can gain
 // nothing, and that is the first question, since the answer is mostly the same.
-pub fn note_since<'a>(
+pub(crate) fn note_since<'a>(
     past: &'a [u8],
     blocks: &'a Rows,
     e: Activity,
