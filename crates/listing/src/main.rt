@@ -15,6 +15,12 @@ fn write_first(out: &[u8], n: usize) {
     }
 }
 
+// Lists a log into the bytes lent, and writes what came of it.
+fn list_into(log: &[u8], profile: Profile, out: &mut [u8]) {
+    let listed = report::write_listing(log, profile, out);
+    write_first(out, listed.length);
+}
+
 // Lists what is on standard input.
 fn list(profile: Profile) {
     // One byte more than the longest log has: what is longer gets the number of these bytes (crates/calllog/proofs/Long.antt).
@@ -22,8 +28,7 @@ fn list(profile: Profile) {
     let n = io::read_full(STDIN_FILENO, &mut log);
     // No listing is longer.
     let mut out = [0u8; 671799];
-    let listed = report::write_listing(&log[..n], profile, &mut out);
-    write_first(&out, listed.length);
+    list_into(&log[..n], profile, &mut out);
 }
 
 // The one line of a refusal, with nothing read.
