@@ -16,7 +16,6 @@ use Rattle.engine.specs.Relations.{relationCount, headOf, graphOf, inTables}
 use Rattle.engine.specs.declared.marking.State.{State}
 use Rattle.engine.specs.declared.marking.Marking.{Marking}
 use Rattle.engine.specs.Enabled.{marked, graphAt}
-use Rattle.engine.specs.declared.graph.Graph.{Graph}
 use Rattle.rules.specs.declared.Profile.{Profile}
 use Rattle.rules.specs.declared.Profile.the-variants.{Full, Light}
 use Rattle.rules.specs.Traces.{Traces, _has_, someTrace}

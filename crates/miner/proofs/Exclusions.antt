@@ -7,7 +7,7 @@ use Prim.Native.Nat.{ℕ, _<_}
 use borrow.Author.Tests.{eqb-true, eqb-false}
 use lib.Dec.{T, eqb, eqb-refl}
 use Rattle.sets.specs.Tests.{_and_, _or_, non}
-use Rattle.sets.specs.Members.{width, mem, those, someBelow}
+use Rattle.sets.specs.Members.{width, mem, someBelow}
 use Rattle.sets.specs.Rows.{Relation, rowAt, inRow, rowsOf, rowsFor, turned}
 use Rattle.sets.proofs.Tests.{and-l, and-r, and-i, and-true, and-false, non-e, non-non, T-ext, T-eq, T→true, F→false, false→F}
 use Rattle.sets.proofs.Tautologies.{by2, by4, by5}
@@ -21,12 +21,12 @@ use Rattle.rules.specs.Traces.{Traces}
 use Rattle.rules.specs.Mining.{noPair, noRelations, smallestSource, event, someEvent, _with_, _without_, before, followed, alternates}
 use Rattle.rules.specs.Mining.{atMostOnce, together, directlyBefore, neverTogether, closes, step1, step2, step3, step4, step5, step6, letInBetween, makesRedundant, step7}
 use Rattle.rules.specs.Mining.{afterFive, afterSix, afterSeven}
-use Rattle.steps.specs.Rowwise.{excludesItself, smallest, apart, closing, excluders, absent, inEither}
+use Rattle.steps.specs.Rowwise.{excludesItself, apart, closing, excluders, absent, inEither}
 use Rattle.tally.specs.Tallies.{tallied}
 use Rattle.tally.proofs.Tallying.{before-table, later-table, unalternated-table, followed-table}
 use Rattle.tally.proofs.LogLaws.{once, together-before}
 use Rattle.miner.specs.Facts.{reopened, doubted}
-use Rattle.miner.specs.Stages.{chainsOf, neverOf, fiveOf, excludesSix, followersOf, redundantBy, sevenFrom}
+use Rattle.miner.specs.Stages.{neverOf, fiveOf, excludesSix, followersOf, redundantBy, sevenFrom}
 use Rattle.miner.proofs.RowReadings.{turned-rows, absent-rows, united-rows, smallest-read}
 use Rattle.rules.proofs.Why.{Small}
 use Rattle.miner.proofs.OverLog.{reopened-is}

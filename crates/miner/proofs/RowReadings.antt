@@ -1,6 +1,6 @@
 -- The readings of rows that are some relation's rows: each is again the rows of a relation. A pair is read by `simp reading`. Assumes
 -- nothing.
-use mathlib.Core.Path.{_≡_, ap, ap₂, _∙_, subst}
+use mathlib.Core.Path.{_≡_, ap₂, _∙_, subst}
 use mathlib.Core.Bool.{Bool}
 use Prim.Native.Nat.{ℕ, _<_, _≤_}
 use native.Mathlib.Omega.{arith}

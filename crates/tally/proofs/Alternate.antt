@@ -99,10 +99,7 @@ since-noted tables k e past rest seen out hs h =
     pick : (x : ℕ) → x < width → (t : Bool) → past has e ≡ t → (when t then non (since e x [] past) else non (mem seen x))
         ≡ non (since e x [] past)
     pick x l true q = refl
-    pick x l false q = ap non (member x l ∙ sym (since-all e x [] past none q))
-      where
-        none : [] has e ≡ false
-        none = unfold _has_ in refl
+    pick x l false q = ap non (member x l ∙ sym (since-all e x past q))
 
     inside : e < width → withRowIn tables k e
         (those (λ x. mem (rowAt (tableAt tables k) e) x or (when mem seen e then non (since e x [] past) else non (mem seen x))))

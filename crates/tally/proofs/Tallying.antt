@@ -7,9 +7,8 @@ use native.Mathlib.Omega.{arith}
 use borrow.Author.Tests.{eqb-true, eqb-false}
 use lib.Dec.{eqb}
 use Rattle.sets.specs.Tests.{_or_, non, when_then_else_}
-use Rattle.sets.specs.Members.{mem, those}
-use Rattle.sets.specs.Rows.{Relation, noRows, rowAt, rowsOf}
-use Rattle.sets.specs.Tables.{noTables, tableAt, tablesOf}
+use Rattle.sets.specs.Rows.{Relation, noRows, rowsOf}
+use Rattle.sets.specs.Tables.{noTables, tableAt}
 use Rattle.sets.proofs.RowLaws.{rowsOf-ext, empty-rowsOf}
 use Rattle.sets.proofs.TableLaws.{table-put-same, table-put-other, empty-tablesOf, table-tablesOf}
 use Rattle.rules.specs.Traces.{Traces}

@@ -1,24 +1,23 @@
 -- One turn of a pass over a trace: what stands before place i, the set of it, and what the row of the event gains. Assumes nothing.
 use Rattle.sets.specs.Members.{noSet}
 use mathlib.Core.Path.{_≡_, refl, sym, ap, _∙_}
-use mathlib.Core.Bool.{Bool, true, false}
+use mathlib.Core.Bool.{Bool}
 use mathlib.Core.List.{List, [], _∷_, _++_, reverseAux}
 use Prim.Native.Nat.{ℕ, _+_, _≤_, _<_}
-use native.Mathlib.Omega.{arith}
 use native.Mathlib.Numerals.{add-one}
 use lib.Dec.{eqb}
 use lib.ListN.{length, getD, take, drop, drop-of-length-le}
-use lib.Seq.{take-suc, take-all, drop-cons}
+use lib.Seq.{take-suc, take-all, drop-cons, drop-length}
 use Rattle.sets.specs.Tests.{_or_, non}
 use Rattle.sets.specs.Members.{width, mem, those}
 use Rattle.sets.specs.Rows.{rowAt, withRow}
 use Rattle.sets.specs.Tables.{tableAt, withRowIn, gainedIn}
 use Rattle.sets.specs.declared.set.Set.{Set}
-use Rattle.sets.proofs.Tests.{or-comm, or-false}
+use Rattle.sets.proofs.Tests.{or-assoc, or-comm, or-false}
 use Rattle.sets.proofs.Members.{none-those, those-ext, those-of}
 use Rattle.sets.proofs.MadeSets.{Is, is-those}
 use Rattle.rules.specs.Traces.{_has_, _beginsWith_}
-use Rattle.tally.specs.Passes.{Fact, Turn, gained, gains, notedIn, forward, backward}
+use Rattle.tally.specs.Passes.{Turn, gained, notedIn, forward, backward}
 
 -- what stands before place i, the nearest first
 abbrev pub pastAt : List ℕ → ℕ → List ℕ
@@ -56,13 +55,8 @@ last-none = none-those (λ x. [] beginsWith x) (λ x l. refl)
 pub has-past : (x : ℕ) (xs ys : List ℕ) → reverseAux xs ys has x ≡ (xs has x or ys has x)
 unfolding _has_ _or_
 has-past x [] ys = refl
-has-past x (y ∷ xs) ys = has-past x xs (y ∷ ys) ∙ swap (eqb x y) (xs has x) (ys has x)
-  where
-    swap : (a b c : Bool) → (b or (a or c)) ≡ ((a or b) or c)
-    swap true true c = refl
-    swap true false c = refl
-    swap false true c = refl
-    swap false false c = refl
+has-past x (y ∷ xs) ys =
+    has-past x xs (y ∷ ys) ∙ sym (or-assoc (xs has x) (eqb x y) (ys has x)) ∙ ap (λ (t : Bool). t or ys has x) (or-comm (xs has x) (eqb x y))
 
 -- after the last turn all of the trace was seen
 pub seen-all : (σ : List ℕ) (i : ℕ) (seen : Set) → length σ ≤ i → seen ≡ seenIn (pastAt σ i) → seen ≡ those (λ x. σ has x)
@@ -85,24 +79,6 @@ pub joined-by : (rows : List ℕ) (e : ℕ) (q : ℕ → Bool) (s : Set) (rows�
     → rows′ ≡ withRow rows e (those (λ b. mem (rowAt rows e) b or mem s b)) → rows′ ≡ gained rows e q
 unfolding gained
 joined-by rows e q s rows′ hs h = h ∙ ap (withRow rows e) (those-of s q (λ b t. mem (rowAt rows e) b or t) hs)
-
--- a row joined with a set, as it is
-pub joined-with : (rows : List ℕ) (e : ℕ) (s : Set) (rows′ : List ℕ)
-    → rows′ ≡ withRow rows e (those (λ b. mem (rowAt rows e) b or mem s b)) → rows′ ≡ gained rows e (mem s)
-unfolding gained
-joined-with rows e s rows′ h = h
-
--- what a turn's function says: the row of the event gains f of the members of a set that is known
-pub gained-by : (p : Fact) (f : ℕ → Bool → Bool) (q : ℕ → Bool) (rows : List ℕ) (e : ℕ) (past rest : List ℕ) (s : Set) (rows′ : List ℕ) → s
-    ≡ those q
-    → ((x : ℕ) → f x (q x) ≡ p e past rest x) → rows′ ≡ gained rows e (λ x. f x (mem s x)) → rows′ ≡ gains p rows e past rest
-unfolding gains gained
-gained-by p f q rows e past rest s rows′ hs hp h =
-    h
-    ∙ ap (withRow rows e)
-    (those-of s q (λ x t. mem (rowAt rows e) x or f x t) hs
-    ∙ those-ext (λ x. mem (rowAt rows e) x or f x (q x)) (λ x. mem (rowAt rows e) x or p e past rest x)
-    (λ x l. ap (λ (t : Bool). mem (rowAt rows e) x or t) (hp x)))
 
 -- ---- the same of tables
 
@@ -167,14 +143,11 @@ module _ (turn : Turn) (σ all : List ℕ) where
   unfolding forward
   forward-end i rows h inv = ap (forward turn rows (pastAt σ i)) (sym (drop-of-length-le σ h)) ∙ inv
 
-pub rest-none : (σ : List ℕ) → drop (length σ) σ ≡ []
-rest-none σ = let all : length σ ≤ length σ = omega arith in drop-of-length-le σ all
-
 -- the backward loop: before the first turn, one turn further
 module _ (turn : Turn) (σ rows₀ : List ℕ) where
   pub backward-start : rows₀ ≡ backward turn rows₀ (pastAt σ (length σ)) (drop (length σ) σ)
   unfolding backward
-  backward-start = ap (backward turn rows₀ (pastAt σ (length σ))) (sym (rest-none σ))
+  backward-start = ap (backward turn rows₀ (pastAt σ (length σ))) (sym (drop-length σ))
 
   pub backward-next : (i : ℕ) (rows rows′ : List ℕ) → i < length σ → rows′ ≡ turn rows (getD σ i 0) (pastAt σ i) (drop (i + 1) σ)
       → rows ≡ backward turn rows₀ (pastAt σ (i + 1)) (drop (i + 1) σ) → rows′ ≡ backward turn rows₀ (pastAt σ i) (drop i σ)

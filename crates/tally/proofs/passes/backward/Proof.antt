@@ -5,6 +5,7 @@ use native.Mathlib.Omega.{arith}
 use borrow.Author.Needs.{needs}
 use lib.Dec.{eqb}
 use lib.ListN.{length, getD, drop}
+use lib.Seq.{drop-length}
 use Rattle.sets.specs.Tests.{_or_, non}
 use Rattle.sets.specs.Members.{mem, those, noSet}
 use Rattle.sets.specs.declared.set.Set.{Set}
@@ -12,7 +13,7 @@ use Rattle.sets.proofs.MadeSets.{is-those}
 use Rattle.rules.specs.Traces.{_beginsWith_}
 use Rattle.tally.specs.Passes.{notedIn, backward, isLater, notLater, isNext}
 use Rattle.tally.specs.Tallies.{laterTable, unansweredTable, followedTable, noteRest}
-use Rattle.tally.proofs.Turns.{pastAt, rest-next, rest-none, seenIn, lastIn, seen-more, seen-none, last-none, thrice-as}
+use Rattle.tally.proofs.Turns.{pastAt, rest-next, seenIn, lastIn, seen-more, seen-none, last-none, thrice-as}
 use Rattle.tally.proofs.Turns.{backward-start, backward-next}
 use Rattle.tally.proofs.passes.backward.Statement.{statement}
 use Rattle.tally.proofs.passes.backward.Tie as tie
@@ -29,8 +30,8 @@ start : (σ t : List ℕ) → Passed σ t t noSet noSet (length σ)
 start σ t =
     record {
       reached = omega arith;
-      after-is = seen-none ∙ ap seenIn (sym (rest-none σ));
-      next-is = last-none ∙ ap lastIn (sym (rest-none σ));
+      after-is = seen-none ∙ ap seenIn (sym (drop-length σ));
+      next-is = last-none ∙ ap lastIn (sym (drop-length σ));
       so-far = backward-start noteRest σ t;
     }
 
