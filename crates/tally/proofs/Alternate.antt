@@ -3,7 +3,7 @@
 use mathlib.Core.Path.{_≡_, refl, sym, ap, _∙_}
 use mathlib.Core.Bool.{Bool, true, false}
 use mathlib.Core.List.{List, []}
-use Prim.Native.Nat.{ℕ, _+_, _*_, _≤_, _<_}
+use Prim.Native.Nat.{ℕ, _+_, _*_, _<_}
 use borrow.Author.Tests.{ltb-true, ltb-false}
 use lib.Dec.{ltb}
 use lib.ListN.{getD}
@@ -14,12 +14,12 @@ use Rattle.sets.specs.Rows.{rowAt}
 use Rattle.sets.specs.Tables.{tableAt, withRowIn, gainedIn}
 use Rattle.sets.specs.declared.set.Set.{Set}
 use Rattle.sets.proofs.Tests.{T→true, F→false, true→T, T-eq, non-i, split, either}
-use Rattle.sets.proofs.Members.{those-ext, those-of, mem-those, empty-e}
+use Rattle.sets.proofs.Members.{those-ext, those-of, empty-e}
 use Rattle.sets.proofs.MadeSets.{is-those}
 use Rattle.sets.proofs.TableLaws.{table-row, table-put, table-put-above}
 use Rattle.rules.specs.Traces.{_has_}
 use Rattle.tally.specs.Passes.{notedIn, notSince}
-use Rattle.tally.proofs.Turns.{seenIn}
+use Rattle.tally.proofs.Turns.{seenIn, noted-where}
 use Rattle.tally.proofs.Since.{since, since-all}
 
 -- what the row lacks and is not met, joined to the row, is what is not met joined to it
@@ -89,29 +89,14 @@ note-full tables k e p row wanted r whole hrow hw hr ht =
 pub since-noted : (tables : List ℕ) (k e : ℕ) (past rest : List ℕ) (seen : Set) (out : List ℕ) → seen ≡ seenIn past
     → out ≡ notedIn tables k e (λ x. when mem seen e then notSince e past [] x else non (mem seen x)) → out
     ≡ notedIn tables k e (notSince e past rest)
-unfolding notedIn notSince
+unfolding notSince
 since-noted tables k e past rest seen out hs h =
-    h ∙ either (split (ltb e width)) (λ l. inside (ltb-true e width (T→true _ l))) (λ g. outside (ltb-false e width (F→false _ g)))
+    h ∙ noted-where tables k e _ _ (λ l x lx. ap (λ (t : Bool). when t then notSince e past [] x else non (mem seen x)) (member e l) ∙ pick x lx (past has e) refl)
   where
     member : (x : ℕ) → x < width → mem seen x ≡ past has x
-    member x l = ap (λ (s : Set). mem s x) hs ∙ mem-those (λ y. past has y) x l
+    member = is-those seen (λ y. past has y) hs
 
     pick : (x : ℕ) → x < width → (t : Bool) → past has e ≡ t → (when t then non (since e x [] past) else non (mem seen x))
         ≡ non (since e x [] past)
     pick x l true q = refl
     pick x l false q = ap non (member x l ∙ sym (since-all e x past q))
-
-    inside : e < width → withRowIn tables k e
-        (those (λ x. mem (rowAt (tableAt tables k) e) x or (when mem seen e then non (since e x [] past) else non (mem seen x))))
-        ≡ withRowIn tables k e (those (λ x. mem (rowAt (tableAt tables k) e) x or non (since e x [] past)))
-    inside l =
-        ap (withRowIn tables k e)
-        (those-ext (λ x. mem (rowAt (tableAt tables k) e) x or (when mem seen e then non (since e x [] past) else non (mem seen x)))
-        (λ x. mem (rowAt (tableAt tables k) e) x or non (since e x [] past))
-        (λ x lx. ap (λ (t : Bool). mem (rowAt (tableAt tables k) e) x or t)
-        (ap (λ (t : Bool). when t then non (since e x [] past) else non (mem seen x)) (member e l) ∙ pick x lx (past has e) refl)))
-
-    outside : width ≤ e → withRowIn tables k e
-        (those (λ x. mem (rowAt (tableAt tables k) e) x or (when mem seen e then non (since e x [] past) else non (mem seen x))))
-        ≡ withRowIn tables k e (those (λ x. mem (rowAt (tableAt tables k) e) x or non (since e x [] past)))
-    outside g = sym (table-put-above tables k e _ g) ∙ table-put-above tables k e _ g

@@ -6,7 +6,7 @@ use mathlib.Core.List.{List, [], _∷_}
 use Prim.Native.Nat.{ℕ}
 use lib.Dec.{T, eqb, eqb→eq}
 use Rattle.sets.specs.Tests.{_and_, _or_, non}
-use Rattle.sets.proofs.Tests.{and-l, and-r, or-e, or-l, or-r, either, non-and, F→false, false→F, or-true}
+use Rattle.sets.proofs.Tests.{and-l, and-r, or-e, or-l, or-r, either, non-and, and-false, or-false, F→false, false→F, or-true}
 use Rattle.rules.specs.Traces.{Traces, _has_, atEachFrom, atSomeFrom, everyTrace, someTrace}
 use Rattle.rules.specs.Mining.{event, atMostOnce, before, together, between}
 use Rattle.sets.proofs.Tautologies.{by2, by4, by5}
@@ -62,18 +62,13 @@ from-past =
     by5 (λ et es ps st a. et and ps or ((es or ps) and st or a))
     (λ et es ps st a. ps and (et or st) or (et and false or ((es or false) and st or a))) tt
 
-none-left : (ps : Bool) → false ≡ (ps and false or false)
-unfolding _and_ _or_
-none-left true = refl
-none-left false = refl
-
 -- s stands before some t of the trace, after this past
 abbrev preceded : ℕ → ℕ → List ℕ → List ℕ → Bool
 preceded s t past σ = atSomeFrom t (λ q r. q has s) past σ
 
 preceded-from : (s t : ℕ) (past σ : List ℕ) → preceded s t past σ ≡ (past has s and σ has t or preceded s t [] σ)
 unfolding atSomeFrom _has_
-preceded-from s t past [] = none-left (past has s)
+preceded-from s t past [] = sym (or-false _ ∙ and-false (past has s))
 preceded-from s t past (x ∷ σ) =
     ap (λ (b : Bool). eqb t x and past has s or b) (preceded-from s t (x ∷ past) σ)
     ∙ from-past (eqb t x) (eqb s x) (past has s) (σ has t) (preceded s t [] σ)

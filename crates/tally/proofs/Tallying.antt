@@ -7,10 +7,10 @@ use native.Mathlib.Omega.{arith}
 use borrow.Author.Tests.{eqb-true, eqb-false}
 use lib.Dec.{eqb}
 use Rattle.sets.specs.Tests.{_or_, non, when_then_else_}
-use Rattle.sets.specs.Rows.{Relation, noRows, rowsOf}
+use Rattle.sets.specs.Rows.{Relation, rowsOf}
 use Rattle.sets.specs.Tables.{noTables, tableAt}
-use Rattle.sets.proofs.RowLaws.{rowsOf-ext, empty-rowsOf}
-use Rattle.sets.proofs.TableLaws.{table-put-same, table-put-other, empty-tablesOf, table-tablesOf}
+use Rattle.sets.proofs.RowLaws.{rowsOf-ext}
+use Rattle.sets.proofs.TableLaws.{table-put-same, table-put-other, table-none}
 use Rattle.rules.specs.Traces.{Traces}
 use Rattle.rules.specs.Mining.{precedes, answers, chained, before, followed, alternates}
 use Rattle.tally.specs.Passes.{Fact, Turn, gained, gains, notedIn, forward, backward, through, isEarlier, notEarlier, notDirectly}
@@ -94,19 +94,13 @@ module _ (k : ℕ) where
   through-table tally [] = refl
   through-table tally (σ ∷ L) = through-table (noted tally σ) L ∙ ap (λ (rows : List ℕ). through notedAt rows L) (noted-at tally σ)
 
-  none-at : k < tableCount → tableAt (noTables tableCount) k ≡ noRows
-  none-at l =
-      ap (λ (x : List ℕ). tableAt x k) (empty-tablesOf tableCount (λ j a x. false) (λ j a x lj la lx. refl))
-      ∙ table-tablesOf tableCount (λ j a x. false) k l
-      ∙ sym (empty-rowsOf (λ a x. false) (λ a x la lx. refl))
-
   -- a table that hears of one fact
   table-is : k < tableCount → (p : Fact) (R : Relation) (L : Traces)
       → ((r : Relation) (σ : List ℕ) → notedAt (rowsOf r) σ ≡ rowsOf (λ a x. r a x or said p [] σ a x))
       → ((a x : ℕ) → heard p L a x ≡ R a x) → tableAt (tallied L) k ≡ rowsOf R
   table-is l p R L one h =
       through-table (noTables tableCount) L
-      ∙ ap (λ (rows : List ℕ). through notedAt rows L) (none-at l)
+      ∙ ap (λ (rows : List ℕ). through notedAt rows L) (table-none tableCount k l)
       ∙ through-all p notedAt one L
       ∙ rowsOf-ext (heard p L) R (λ a x la lx. h a x)
 

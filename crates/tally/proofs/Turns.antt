@@ -5,7 +5,8 @@ use mathlib.Core.Bool.{Bool}
 use mathlib.Core.List.{List, [], _∷_, _++_, reverseAux}
 use Prim.Native.Nat.{ℕ, _+_, _≤_, _<_}
 use native.Mathlib.Numerals.{add-one}
-use lib.Dec.{eqb}
+use borrow.Author.Tests.{ltb-true, ltb-false}
+use lib.Dec.{eqb, ltb}
 use lib.ListN.{length, getD, take, drop, drop-of-length-le}
 use lib.Seq.{take-suc, take-all, drop-cons, drop-length}
 use Rattle.sets.specs.Tests.{_or_, non}
@@ -13,9 +14,10 @@ use Rattle.sets.specs.Members.{width, mem, those}
 use Rattle.sets.specs.Rows.{rowAt, withRow}
 use Rattle.sets.specs.Tables.{tableAt, withRowIn, gainedIn}
 use Rattle.sets.specs.declared.set.Set.{Set}
-use Rattle.sets.proofs.Tests.{or-assoc, or-comm, or-false}
+use Rattle.sets.proofs.Tests.{T→true, F→false, split, either, or-assoc, or-comm, or-false}
 use Rattle.sets.proofs.Members.{none-those, those-ext, those-of}
 use Rattle.sets.proofs.MadeSets.{Is, is-those}
+use Rattle.sets.proofs.TableLaws.{table-put-above}
 use Rattle.rules.specs.Traces.{_has_, _beginsWith_}
 use Rattle.tally.specs.Passes.{Turn, gained, notedIn, forward, backward}
 
@@ -83,12 +85,19 @@ joined-by rows e q s rows′ hs h = h ∙ ap (withRow rows e) (those-of s q (λ 
 -- ---- the same of tables
 
 module _ (tables : List ℕ) (k e : ℕ) where
-  noted-as : (p q : ℕ → Bool) → ((x : ℕ) → x < width → p x ≡ q x) → notedIn tables k e p ≡ notedIn tables k e q
+  -- two facts that agree; there is a row for e only where e is below the width
+  pub noted-where : (p q : ℕ → Bool) → (e < width → (x : ℕ) → x < width → p x ≡ q x) → notedIn tables k e p ≡ notedIn tables k e q
   unfolding notedIn
-  noted-as p q h =
+  noted-where p q h =
+      either (split (ltb e width))
+      (λ t.
       ap (withRowIn tables k e)
       (those-ext (λ x. mem (rowAt (tableAt tables k) e) x or p x) (λ x. mem (rowAt (tableAt tables k) e) x or q x)
-      (λ x l. ap (λ (t : Bool). mem (rowAt (tableAt tables k) e) x or t) (h x l)))
+      (λ x l. ap (λ (b : Bool). mem (rowAt (tableAt tables k) e) x or b) (h (ltb-true e width (T→true _ t)) x l))))
+      (λ f. let g = ltb-false e width (F→false _ f) in sym (table-put-above tables k e _ g) ∙ table-put-above tables k e _ g)
+
+  noted-as : (p q : ℕ → Bool) → ((x : ℕ) → x < width → p x ≡ q x) → notedIn tables k e p ≡ notedIn tables k e q
+  noted-as p q h = noted-where p q (λ l. h)
 
   -- a join with a set whose members are known
   noted-by : (s : Set) (p : ℕ → Bool) (out : List ℕ) → Is s p → out ≡ gainedIn tables k e s → out ≡ notedIn tables k e p
