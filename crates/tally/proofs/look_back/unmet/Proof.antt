@@ -10,12 +10,6 @@ Inv-loop past e left₀ i₀ left i = Looked past (e .0) left₀ left i
 abbrev μ-loop : tie.MeasureT-loop
 μ-loop past e left₀ i₀ left i = i
 
-loop-holds : tie.Need-loop-holds Inv-loop μ-loop
-loop-holds c = look-start _ _ _ (those-mem _ (search needs))
-
-returns : tie.Need-returns Inv-loop μ-loop
-returns c = look-empty (c .before .before .before .loop .inv) _ (c .before .is-empty .ensures) (c .if1 .taken)
-
 returns-2 : tie.Need-returns-2 Inv-loop μ-loop
 returns-2 c =
     let in-loop = c .before .before .before .before .before .before .before in
@@ -25,6 +19,7 @@ returns-2 c =
 pub unmet-spec : {M : Type 1} → statement M
 unmet-spec =
     tie.close
-    (tie.spec Inv-loop μ-loop loop-holds (λ c κs. search needs) returns (λ c. search needs) (λ c. search needs) (λ c κs. search needs)
-    (λ c κs. search needs) returns-2 (λ c. search needs) (λ c. search (look-next, needs))
+    (tie.spec Inv-loop μ-loop (λ c. look-start _ _ _ (those-mem _ (search needs))) (λ c κs. search needs)
+    (λ c. look-empty (c .before .before .before .loop .inv) _ (c .before .is-empty .ensures) (c .if1 .taken)) (λ c. search needs)
+    (λ c. search needs) (λ c κs. search needs) (λ c κs. search needs) returns-2 (λ c. search needs) (λ c. search (look-next, needs))
     (λ c. look-end (c .before .loop .inv) (c .loop-test .left)))
