@@ -14,12 +14,12 @@ use Rattle.sets.specs.Rows.{rowAt}
 use Rattle.sets.specs.Tables.{tableAt, withRowIn, gainedIn}
 use Rattle.sets.specs.declared.set.Set.{Set}
 use Rattle.sets.proofs.Tests.{T→true, F→false, true→T, T-eq, non-i, split, either}
-use Rattle.sets.proofs.Members.{those-ext, those-of, empty-e}
+use Rattle.sets.proofs.Members.{those-ext, empty-e}
 use Rattle.sets.proofs.MadeSets.{is-those}
 use Rattle.sets.proofs.TableLaws.{table-row, table-put, table-put-above}
 use Rattle.rules.specs.Traces.{_has_}
 use Rattle.tally.specs.Passes.{notedIn, notSince}
-use Rattle.tally.proofs.Turns.{seenIn, noted-where}
+use Rattle.tally.proofs.Turns.{seenIn, noted-where, noted-by}
 use Rattle.tally.proofs.Since.{since, since-all}
 
 -- what the row lacks and is not met, joined to the row, is what is not met joined to it
@@ -29,9 +29,6 @@ absorb true n = refl
 absorb false n = refl
 
 module _ (tables : List ℕ) (k e : ℕ) (past : List ℕ) (seen : Set) (r : Bool) (hr : r ≡ mem seen e) (out : List ℕ) where
-  abbrev choice : ℕ → Bool
-  choice x = when mem seen e then notSince e past [] x else non (mem seen x)
-
   pub note-repeat : (row wanted left : Set) → r ≡ true → row ≡ rowAt (tableAt tables k) e → wanted ≡ those (λ x. non (mem row x))
       → left ≡ those (λ x. mem wanted x and notSince e past [] x)
       → out ≡ gainedIn tables k e left
@@ -40,25 +37,20 @@ module _ (tables : List ℕ) (k e : ℕ) (past : List ℕ) (seen : Set) (r : Boo
   note-repeat row wanted left ht hrow hw hl h =
       h
       ∙ ap (withRowIn tables k e)
-      (those-of left (λ x. mem wanted x and notSince e past [] x) (λ x t. mem (rowAt (tableAt tables k) e) x or t) hl
-      ∙ those-of wanted (λ x. non (mem row x)) (λ x t. mem (rowAt (tableAt tables k) e) x or (t and notSince e past [] x)) hw
-      ∙ ap (λ (s : Set). those (λ x. mem (rowAt (tableAt tables k) e) x or (non (mem s x) and notSince e past [] x))) hrow
-      ∙ those-ext (λ x. mem (rowAt (tableAt tables k) e) x or (non (mem (rowAt (tableAt tables k) e) x) and notSince e past [] x))
-      (λ x. mem (rowAt (tableAt tables k) e) x or choice x)
+      (those-ext _ _
       (λ x l.
-      absorb (mem (rowAt (tableAt tables k) e) x) (notSince e past [] x)
+      ap (λ (b : Bool). mem (rowAt (tableAt tables k) e) x or b)
+      (is-those left _ hl x l
+      ∙ ap (λ (b : Bool). b and notSince e past [] x) (is-those wanted _ hw x l ∙ ap (λ (s : Set). non (mem s x)) hrow))
+      ∙ absorb (mem (rowAt (tableAt tables k) e) x) (notSince e past [] x)
       ∙ ap (λ (t : Bool). mem (rowAt (tableAt tables k) e) x or (when t then notSince e past [] x else non (mem seen x))) (sym ht ∙ hr)))
 
   pub note-first : (others : Set) → r ≡ false → others ≡ those (λ x. non (mem seen x))
       → out ≡ gainedIn tables k e others
       → out ≡ notedIn tables k e (λ x. when mem seen e then notSince e past [] x else non (mem seen x))
-  unfolding notedIn
   note-first others ht ho h =
-      h
-      ∙ ap (withRowIn tables k e)
-      (those-of others (λ x. non (mem seen x)) (λ x t. mem (rowAt (tableAt tables k) e) x or t) ho
-      ∙ ap (λ (t : Bool). those (λ x. mem (rowAt (tableAt tables k) e) x or (when t then notSince e past [] x else non (mem seen x))))
-      (sym ht ∙ hr))
+      noted-by tables k e others _ out
+      (λ x l. is-those others _ ho x l ∙ ap (λ (t : Bool). when t then notSince e past [] x else non (mem seen x)) (sym ht ∙ hr)) h
 
 -- a row that has all gains nothing
 put-back : (tables : List ℕ) (k e : ℕ) → withRowIn tables k e (rowAt (tableAt tables k) e) ≡ tables

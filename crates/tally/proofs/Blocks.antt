@@ -3,7 +3,7 @@
 use mathlib.Core.Path.{_≡_, refl, sym, ap, ap₂, _∙_}
 use mathlib.Core.Bool.{Bool, true, false, not}
 use mathlib.Core.List.{List, [], _∷_}
-use Prim.Native.Nat.{ℕ, zero, suc, _+_, _*_, _/_, _-_, _≤_, _<_}
+use Prim.Native.Nat.{ℕ, _+_, _*_, _/_, _-_, _≤_, _<_}
 use native.Mathlib.Numerals.{add-one}
 use native.Mathlib.Omega.{arith}
 use borrow.Author.Tests.{ne-eqb, ltb-true, ltb-false}
@@ -15,9 +15,9 @@ use Rattle.sets.specs.Members.{width, mem, those, isEmpty, someBelow}
 use Rattle.sets.specs.Rows.{Relation, rowAt, withRow, noRows, rowsOf}
 use Rattle.sets.specs.Sizes.{longestTrace}
 use Rattle.sets.specs.declared.set.Set.{Set}
-use Rattle.sets.proofs.Tests.{and-i, and-l, and-r, or-e, or-l, or-r, or-false, or-comm, or-assoc, non-e, nor, not-non, T-ext, T-eq, T→true, true→T, F→false, eqb-of}
-use Rattle.sets.proofs.Tests.{split, either}
-use Rattle.sets.proofs.Below.{some-i, some-e, some-ext}
+use Rattle.sets.proofs.Tests.{and-i, and-l, and-r, or-e, or-l, or-r, or-false, non-e, nor, not-non, T-ext, T-eq, T→true, true→T, F→false, eqb-of}
+use Rattle.sets.proofs.Tests.{eqb-sym, split, either}
+use Rattle.sets.proofs.Below.{some-i, some-e, some-ext, some-last}
 use Rattle.sets.proofs.Members.{those-ext, those-of}
 use Rattle.sets.proofs.MadeSets.{Is, is-those, less}
 use Rattle.sets.proofs.RowLaws.{row-rowsOf, gain-rowsOf, rowsOf-ext, empty-rowsOf}
@@ -123,15 +123,6 @@ module _ (blocks : List ℕ) (e at : ℕ) where
 pub blocks-none : noRows ≡ rowsOf (inBlock [])
 unfolding inBlock someBelow
 blocks-none = empty-rowsOf (inBlock []) (λ j x lj lx. refl)
-
-some-last : (w : ℕ) (p : ℕ → Bool) → someBelow (suc w) p ≡ (someBelow w p or p w)
-unfolding someBelow
-some-last zero p = or-comm (p 0) false
-some-last (suc w) p =
-    ap (λ (t : Bool). p 0 or t) (some-last w (λ a. p (suc a))) ∙ sym (or-assoc (p 0) (someBelow w (λ a. p (suc a))) (p (suc w)))
-
-eqb-sym : (a b : ℕ) → eqb a b ≡ eqb b a
-eqb-sym a b = T-ext (eqb a b) (eqb b a) (λ t. eqb-of (sym (eqb→eq a b t))) (λ t. eqb-of (sym (eqb→eq b a t)))
 
 block-taken : (σ : List ℕ) (i j x : ℕ) → i ≤ length σ → inBlock (take i σ) j x ≡ someBelow i (λ p. eqb (p / 8) j and eqb x (getD σ p 0))
 unfolding inBlock

@@ -7,11 +7,10 @@ use Prim.Native.Nat.{ℕ}
 use lib.Dec.{eqb}
 use Rattle.sets.specs.Tests.{_and_, _or_, non}
 use Rattle.sets.proofs.Tests.{and-comm, and-false, or-false, non-non}
-use Rattle.sets.proofs.Tautologies.{by5}
 use Rattle.rules.specs.Traces.{Traces, _has_, _beginsWith_, atEach, atSomeFrom, atSome, everyTrace, someTrace}
 use Rattle.rules.specs.Mining.{precedes, answers, chained, before, followed, alternates}
 use Rattle.tally.specs.Passes.{isEarlier, notEarlier, notDirectly, notSince, isLater, notLater, isNext}
-use Rattle.tally.proofs.LogLaws.{each-non, every-non, some-ext}
+use Rattle.tally.proofs.LogLaws.{each-non, every-non, some-ext, later-all}
 use Rattle.tally.proofs.Folds.{heard}
 
 -- ---- not at each place is at some place not
@@ -26,20 +25,7 @@ non-every t p L =
 
 -- ---- before and after
 
--- a pair is met at its second place with the first behind it, or it was open before, or it is met from its first place on
 module _ (s t : ℕ) where
-  swap : (e p m r a : Bool) → (e and p or ((m or p) and r or a)) ≡ (p and (e or r) or (m and r or a))
-  unfolding _and_ _or_ non
-  swap = by5 (λ e p m r a. e and p or ((m or p) and r or a)) (λ e p m r a. p and (e or r) or (m and r or a)) tt
-
-  later-from : (past rest : List ℕ)
-      → atSomeFrom t (λ q r. q has s) past rest ≡ (past has s and rest has t or atSomeFrom s (λ q r. r has t) past rest)
-  unfolding atSomeFrom _has_
-  later-from past [] = sym (or-false _ ∙ and-false (past has s))
-  later-from past (x ∷ rest) =
-      ap (λ (b : Bool). eqb t x and past has s or b) (later-from (x ∷ past) rest)
-      ∙ swap (eqb t x) (past has s) (eqb s x) (rest has t) (atSomeFrom s (λ q r. r has t) (x ∷ past) rest)
-
   next-from : (past rest : List ℕ)
       → atSomeFrom t (λ q r. q beginsWith s) past rest
       ≡ (past beginsWith s and rest beginsWith t or atSomeFrom s (λ q r. r beginsWith t) past rest)
@@ -55,8 +41,8 @@ module _ (L : Traces) (a x : ℕ) where
   heard-before = refl
 
   pub heard-later : heard isLater L a x ≡ before L a x
-  unfolding isLater before _and_ _or_ _has_
-  heard-later = some-ext L (atSome a (λ q r. r has x)) (atSome x (λ q r. q has a)) (λ σ. sym (later-from a x [] σ))
+  unfolding isLater before
+  heard-later = some-ext L (atSome a (λ q r. r has x)) (atSome x (λ q r. q has a)) (λ σ. sym (later-all a x σ))
 
   pub heard-unpreceded : heard notEarlier L a x ≡ non (precedes L x a)
   unfolding notEarlier precedes

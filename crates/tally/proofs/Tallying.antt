@@ -142,23 +142,19 @@ module _ (L : Traces) where
 
   pub unpreceded-table : tableAt (tallied L) unprecededTable ≡ rowsOf (λ t s. non (precedes L s t))
   unfolding gains
-  unpreceded-table = table-is unprecededTable (omega arith) notEarlier (λ t s. non (precedes L s t)) L (past-alone notEarlier)
-      (heard-unpreceded L)
+  unpreceded-table = table-is unprecededTable (omega arith) notEarlier _ L (past-alone notEarlier) (heard-unpreceded L)
 
   pub unanswered-table : tableAt (tallied L) unansweredTable ≡ rowsOf (λ s t. non (answers L s t))
   unfolding gains
-  unanswered-table = table-is unansweredTable (omega arith) notLater (λ s t. non (answers L s t)) L (rest-alone notLater)
-      (heard-unanswered L)
+  unanswered-table = table-is unansweredTable (omega arith) notLater _ L (rest-alone notLater) (heard-unanswered L)
 
   pub unchained-table : tableAt (tallied L) unchainedTable ≡ rowsOf (λ t s. non (chained L s t))
   unfolding gains
-  unchained-table = table-is unchainedTable (omega arith) notDirectly (λ t s. non (chained L s t)) L (past-alone notDirectly)
-      (heard-unchained L)
+  unchained-table = table-is unchainedTable (omega arith) notDirectly _ L (past-alone notDirectly) (heard-unchained L)
 
   pub unalternated-table : tableAt (tallied L) unalternatedTable ≡ rowsOf (λ s u. non (alternates L u s))
   unfolding gains
-  unalternated-table = table-is unalternatedTable (omega arith) notSince (λ s u. non (alternates L u s)) L (since-alone notSince)
-      (heard-unalternated L)
+  unalternated-table = table-is unalternatedTable (omega arith) notSince _ L (since-alone notSince) (heard-unalternated L)
 
   pub followed-table : tableAt (tallied L) followedTable ≡ rowsOf (followed L)
   unfolding gains

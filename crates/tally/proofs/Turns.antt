@@ -1,5 +1,5 @@
 -- One turn of a pass over a trace: what stands before place i, the set of it, and what the row of the event gains. Assumes nothing.
-use Rattle.sets.specs.Members.{noSet}
+use Rattle.sets.specs.Members.{noSet, width, mem, those}
 use mathlib.Core.Path.{_≡_, refl, sym, ap, _∙_}
 use mathlib.Core.Bool.{Bool}
 use mathlib.Core.List.{List, [], _∷_, _++_, reverseAux}
@@ -9,14 +9,13 @@ use borrow.Author.Tests.{ltb-true, ltb-false}
 use lib.Dec.{eqb, ltb}
 use lib.ListN.{length, getD, take, drop, drop-of-length-le}
 use lib.Seq.{take-suc, take-all, drop-cons, drop-length}
-use Rattle.sets.specs.Tests.{_or_, non}
-use Rattle.sets.specs.Members.{width, mem, those}
+use Rattle.sets.specs.Tests.{_or_}
 use Rattle.sets.specs.Rows.{rowAt, withRow}
 use Rattle.sets.specs.Tables.{tableAt, withRowIn, gainedIn}
 use Rattle.sets.specs.declared.set.Set.{Set}
 use Rattle.sets.proofs.Tests.{T→true, F→false, split, either, or-assoc, or-comm, or-false}
 use Rattle.sets.proofs.Members.{none-those, those-ext, those-of}
-use Rattle.sets.proofs.MadeSets.{Is, is-those}
+use Rattle.sets.proofs.MadeSets.{Is}
 use Rattle.sets.proofs.TableLaws.{table-put-above}
 use Rattle.rules.specs.Traces.{_has_, _beginsWith_}
 use Rattle.tally.specs.Passes.{Turn, gained, notedIn, forward, backward}
@@ -68,13 +67,21 @@ seen-all σ i seen h e =
     ∙ those-ext (λ x. pastAt σ i has x) (λ x. σ has x)
     (λ x l. has-past x (take i σ) [] ∙ or-false _ ∙ ap (λ (l : List ℕ). l has x) (take-all i σ h))
 
+-- a set with one member more
+pub with-one : (seen one r : Set) (e : ℕ) → one ≡ those (λ b. eqb b e) → r ≡ those (λ a. mem seen a or mem one a) → r
+    ≡ those (λ x. mem seen x or eqb x e)
+with-one seen one r e ho hr = hr ∙ those-of one (λ b. eqb b e) (λ a t. mem seen a or t) ho
+
 -- a set of what was seen gains an event
+pub seen-one : (past : List ℕ) (e : ℕ) (seen r : Set) → seen ≡ seenIn past → r ≡ those (λ x. mem seen x or eqb x e) → r ≡ seenIn (e ∷ past)
+unfolding _has_
+seen-one past e seen r hs hr =
+    hr ∙ those-of seen (λ x. past has x) (λ a t. t or eqb a e) hs
+    ∙ those-ext (λ a. past has a or eqb a e) (λ a. (e ∷ past) has a) (λ a l. or-comm (past has a) (eqb a e))
+
 pub seen-more : (past : List ℕ) (e : ℕ) (seen one seen′ : Set) → seen ≡ seenIn past → one ≡ those (λ b. eqb b e)
     → seen′ ≡ those (λ a. mem seen a or mem one a) → seen′ ≡ seenIn (e ∷ past)
-unfolding _has_
-seen-more past e seen one seen′ hs ho hu =
-    hu ∙ those-of one (λ b. eqb b e) (λ a t. mem seen a or t) ho ∙ those-of seen (λ x. past has x) (λ a t. t or eqb a e) hs
-    ∙ those-ext (λ a. past has a or eqb a e) (λ a. (e ∷ past) has a) (λ a l. or-comm (past has a) (eqb a e))
+seen-more past e seen one seen′ hs ho hu = seen-one past e seen seen′ hs (with-one seen one seen′ e ho hu)
 
 -- a row joined with a set that is known
 pub joined-by : (rows : List ℕ) (e : ℕ) (q : ℕ → Bool) (s : Set) (rows′ : List ℕ) → s ≡ those q
@@ -82,25 +89,26 @@ pub joined-by : (rows : List ℕ) (e : ℕ) (q : ℕ → Bool) (s : Set) (rows�
 unfolding gained
 joined-by rows e q s rows′ hs h = h ∙ ap (withRow rows e) (those-of s q (λ b t. mem (rowAt rows e) b or t) hs)
 
+-- a row for e is put only where e is below the width: what it gains may be said otherwise there
+pub put-where : (e : ℕ) (row : Set) (old : List ℕ) (put : Set → List ℕ) → ((s : Set) → width ≤ e → old ≡ put s) → (p q : ℕ → Bool)
+    → (e < width → (x : ℕ) → x < width → p x ≡ q x) → put (those (λ x. mem row x or p x)) ≡ put (those (λ x. mem row x or q x))
+put-where e row old put out p q h =
+    either (split (ltb e width))
+    (λ t. ap put (those-ext _ _ (λ x l. ap (λ (b : Bool). mem row x or b) (h (ltb-true e width (T→true _ t)) x l))))
+    (λ f. let g = ltb-false e width (F→false _ f) in sym (out _ g) ∙ out _ g)
+
 -- ---- the same of tables
 
 module _ (tables : List ℕ) (k e : ℕ) where
-  -- two facts that agree; there is a row for e only where e is below the width
   pub noted-where : (p q : ℕ → Bool) → (e < width → (x : ℕ) → x < width → p x ≡ q x) → notedIn tables k e p ≡ notedIn tables k e q
   unfolding notedIn
-  noted-where p q h =
-      either (split (ltb e width))
-      (λ t.
-      ap (withRowIn tables k e)
-      (those-ext (λ x. mem (rowAt (tableAt tables k) e) x or p x) (λ x. mem (rowAt (tableAt tables k) e) x or q x)
-      (λ x l. ap (λ (b : Bool). mem (rowAt (tableAt tables k) e) x or b) (h (ltb-true e width (T→true _ t)) x l))))
-      (λ f. let g = ltb-false e width (F→false _ f) in sym (table-put-above tables k e _ g) ∙ table-put-above tables k e _ g)
+  noted-where = put-where e (rowAt (tableAt tables k) e) tables (withRowIn tables k e) (table-put-above tables k e)
 
   noted-as : (p q : ℕ → Bool) → ((x : ℕ) → x < width → p x ≡ q x) → notedIn tables k e p ≡ notedIn tables k e q
   noted-as p q h = noted-where p q (λ l. h)
 
   -- a join with a set whose members are known
-  noted-by : (s : Set) (p : ℕ → Bool) (out : List ℕ) → Is s p → out ≡ gainedIn tables k e s → out ≡ notedIn tables k e p
+  pub noted-by : (s : Set) (p : ℕ → Bool) (out : List ℕ) → Is s p → out ≡ gainedIn tables k e s → out ≡ notedIn tables k e p
   unfolding notedIn
   noted-by s p out hs h = h ∙ noted-as (mem s) p hs
 
@@ -109,7 +117,7 @@ module _ (tables : List ℕ) (j k l e : ℕ) where
   abbrev thrice : (ℕ → Bool) → (ℕ → Bool) → (ℕ → Bool) → List ℕ
   thrice p q r = notedIn (notedIn (notedIn tables j e p) k e q) l e r
 
-  joined-thrice : (s u v : Set) (p q r : ℕ → Bool) (one two out : List ℕ) → Is s p → Is u q → Is v r
+  pub joined-thrice : (s u v : Set) (p q r : ℕ → Bool) (one two out : List ℕ) → Is s p → Is u q → Is v r
       → one ≡ gainedIn tables j e s → two ≡ gainedIn one k e u → out ≡ gainedIn two l e v → out ≡ thrice p q r
   joined-thrice s u v p q r one two out hs hu hv h1 h2 h3 =
       noted-by two l e v r out hv h3
@@ -122,20 +130,6 @@ module _ (tables : List ℕ) (j k l e : ℕ) where
       noted-as (notedIn (notedIn tables j e p) k e q) l e r r′ hr
       ∙ ap (λ (x : List ℕ). notedIn x l e r′)
       (noted-as (notedIn tables j e p) k e q q′ hq ∙ ap (λ (x : List ℕ). notedIn x k e q′) (noted-as tables j e p p′ hp))
-
-  -- a set, what is not in it, and another or what is not in that
-  pub past-joined : (s u c d : Set) (one two out : List ℕ) → one ≡ gainedIn tables j e s → c ≡ those (λ a. non (mem s a)) → two
-      ≡ gainedIn one k e c
-      → d ≡ those (λ a. non (mem u a)) → out ≡ gainedIn two l e d → out ≡ thrice (mem s) (λ x. non (mem s x)) (λ x. non (mem u x))
-  past-joined s u c d one two out h1 hc h2 hd h3 =
-      joined-thrice s c d (mem s) (λ x. non (mem s x)) (λ x. non (mem u x)) one two out (λ x l. refl) (is-those c _ hc)
-      (is-those d _ hd) h1 h2 h3
-
-  pub rest-joined : (s u c : Set) (one two out : List ℕ) → one ≡ gainedIn tables j e s → c ≡ those (λ a. non (mem s a)) → two
-      ≡ gainedIn one k e c
-      → out ≡ gainedIn two l e u → out ≡ thrice (mem s) (λ x. non (mem s x)) (mem u)
-  rest-joined s u c one two out h1 hc h2 h3 =
-      joined-thrice s c u (mem s) (λ x. non (mem s x)) (mem u) one two out (λ x l. refl) (is-those c _ hc) (λ x l. refl) h1 h2 h3
 
 -- the forward loop: before the first turn, one turn further, after the last
 module _ (turn : Turn) (σ all : List ℕ) where

@@ -11,8 +11,7 @@ use Rattle.calllog.specs.Logs.{partAt}
 use Rattle.rules.specs.Traces.{_has_, someTrace}
 use Rattle.tally.specs.Passes.{walked}
 use Rattle.tally.specs.Tallies.{noted}
-use Rattle.tally.proofs.Walks.{Left, eventsFrom, events-start, events-next, events-end, events-set, through-start, through-next}
-use Rattle.tally.proofs.Walks.{through-end}
+use Rattle.tally.proofs.Walks.{Left, eventsFrom, events-start, events-next, events-end, events-set, through-start, through-next, through-end}
 use Rattle.tally.proofs.log.note_traces.Statement.{statement}
 use Rattle.tally.proofs.log.note_traces.Tie as tie
 

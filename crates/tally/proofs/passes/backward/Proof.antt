@@ -13,8 +13,7 @@ use Rattle.sets.proofs.MadeSets.{is-those}
 use Rattle.rules.specs.Traces.{_beginsWith_}
 use Rattle.tally.specs.Passes.{notedIn, backward, isLater, notLater, isNext}
 use Rattle.tally.specs.Tallies.{laterTable, unansweredTable, followedTable, noteRest}
-use Rattle.tally.proofs.Turns.{pastAt, rest-next, seenIn, lastIn, seen-more, seen-none, last-none, thrice-as}
-use Rattle.tally.proofs.Turns.{backward-start, backward-next}
+use Rattle.tally.proofs.Turns.{pastAt, rest-next, seenIn, lastIn, seen-more, seen-none, last-none, thrice-as, backward-start, backward-next}
 use Rattle.tally.proofs.passes.backward.Statement.{statement}
 use Rattle.tally.proofs.passes.backward.Tie as tie
 

@@ -42,7 +42,7 @@ module _ {σ t₀ t blocks : List ℕ} {seen last : Set} {i : ℕ} (inv : Passed
   part = take (i - 0) (drop 0 σ)
 
   known : blocks ≡ rowsOf (inBlock part)
-  known = inv .blocks-are ∙ ap (λ (l : List ℕ). rowsOf (inBlock l)) (sym (part-is σ i))
+  known = rw (part-is σ i) (inv .blocks-are)
 
   turn : (t′ blocks′ : List ℕ) (one seen′ : Set)
       → blocks′ ≡ rowsOf (λ j x. inBlock part j x or eqb j (length part / 8) and eqb x e)
@@ -55,17 +55,14 @@ module _ {σ t₀ t blocks : List ℕ} {seen last : Set} {i : ℕ} (inv : Passed
       let seen-in = is-those seen _ (inv .seen-is) in
       let last-in = is-those last _ (inv .last-is) in
       let past = thrice-as t beforeTable unprecededTable unchainedTable e _ _ _ _ _ _ seen-in (λ x l. ap non (seen-in x l)) (λ x l. ap non (last-in x l)) in
-      let place =
-      ht ∙ ap (λ (l : List ℕ). notedIn (notedIn (notedIn (notedIn t beforeTable e (mem seen)) unprecededTable e (λ x. non (mem seen x))) unchainedTable e
-      (λ x. non (mem last x))) unalternatedTable e (λ x. when mem seen e then notSince e (reverseAux l []) [] x else non (mem seen x))) (part-is σ i) in
       record {
         reached = omega arith;
         seen-is = seen-more _ _ seen one seen′ (inv .seen-is) ho hs ∙ ap seenIn (sym (past-next σ i h));
         last-is = ho ∙ ap lastIn (sym (past-next σ i h));
-        blocks-are = hb ∙ ap (λ (l : List ℕ). rowsOf (λ j x. inBlock l j x or eqb j (length l / 8) and eqb x e)) (part-is σ i) ∙ blocks-next σ i h;
+        blocks-are = (rw (part-is σ i) at hb) ∙ blocks-next σ i h;
         whole =
             forward-next noteBoth σ _ i t t′ h
-            (since-noted _ unalternatedTable e (pastAt σ i) (drop (i + 1) σ) seen t′ (inv .seen-is) place
+            (since-noted _ unalternatedTable e (pastAt σ i) (drop (i + 1) σ) seen t′ (inv .seen-is) (rw (part-is σ i) at ht)
             ∙ ap (λ (l : List ℕ). notedIn l unalternatedTable e (notSince e (pastAt σ i) (drop (i + 1) σ))) past)
             (inv .whole);
       }
