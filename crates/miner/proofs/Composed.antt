@@ -33,8 +33,7 @@ use Rattle.miner.proofs.Holding.{Held, held-any, length-held, held-c, h
 pub let-in-by : (L : Traces) (t t′ never never′ held held′ includes : List ℕ) → t′ ≡ withTable t 2 includes
     → includes ≡ through (λ r σ. forward (gains (letIn never)) r [] σ) held L → never ≡ never′ → held ≡ held′
     → t′ ≡ withTable t 2 (through (λ r σ. forward (gains (letIn never′)) r [] σ) held′ L)
-let-in-by L t t′ never never′ held held′ includes h hi hn hh =
-    h ∙ ap (withTable t 2) (hi ∙ (λ i. through (λ r σ. forward (gains (letIn (hn i))) r [] σ) (hh i) L))
+let-in-by L t t′ never never′ held held′ includes h hi hn hh = rw (h, hi, hn, hh)
 
 -- step 9: what is waited for
 pub nine-by : (L : Traces) (events : Set) (eight includes excludes t t′ first₀ unmet₀ first unmet : List ℕ)
@@ -44,11 +43,7 @@ pub nine-by : (L : Traces) (events : Set) (eight includes excludes t t′ first�
     → t′ ≡ withTable t 0
     (rowsFor events (waited events eight (through (λ r σ. forward (gains beforeFirst) r [] σ) noRows L)
     (through (λ r σ. forward (gains (missed events includes excludes)) r [] σ) noRows L)))
-nine-by L events eight includes excludes t t′ first₀ unmet₀ first unmet h hf hu h₀ k₀ =
-    h
-    ∙ ap₂ (λ (x y : List ℕ). withTable t 0 (rowsFor events (waited events eight x y)))
-    (hf ∙ ap (λ (x : List ℕ). through (λ r σ. forward (gains beforeFirst) r [] σ) x L) h₀)
-    (hu ∙ ap (λ (x : List ℕ). through (λ r σ. forward (gains (missed events includes excludes)) r [] σ) x L) k₀)
+nine-by L events eight includes excludes t t′ first₀ unmet₀ first unmet h hf hu h₀ k₀ = rw (h, hf, hu, h₀, k₀)
 
 -- step 7: what is left of the excludes
 pub seven-by : (L : Traces) (events : Set) (tally t left₀ left t′ : List ℕ) → left₀ ≡ withTable noRows 0 (tableAt t 3)
@@ -76,10 +71,6 @@ module _ (L : Traces) (events : Set) (tally : List ℕ) where
       ap length (through-rowsOf (letIn (neverOf events tally)) _ (λ r σ. forward-rowsOf (letIn (neverOf events tally)) r [] σ)
       (turned (chainsOf events tally)) L) ∙ length-rowsOf _
   length-includes Light = length-rowsOf _
-
-  length-excludes : (p : Profile) → length (excludesSix p events tally) ≡ width
-  length-excludes Full = length-for events _
-  length-excludes Light = length-rowsOf _
 
   -- the excludes after step 6 are some relation's rows
   excludes-some : (p : Profile) → (r : Relation) × (excludesSix p events tally ≡ rowsOf r)
@@ -193,10 +184,7 @@ pub tally-by : (L : Traces) (events : Set) (p : Profile) (none tally t t′ : Li
     → length t ≡ relationCount * width → t′
     ≡ fourTables (eightOf L events (tallied L) p) (answersOf L events (tallied L) p) (includesSix p events (tallied L) L)
     (afterSeven L events (tallied L) p)
-tally-by L events p none tally t t′ h₀ ht h long =
-    h long
-    ∙ ap (λ (x : List ℕ). fourTables (eightOf L events x p) (answersOf L events x p) (includesSix p events x L) (afterSeven L events x p))
-    (ht ∙ ap (λ (x : List ℕ). through noted x L) h₀)
+tally-by L events p none tally t t′ h₀ ht h long = rw (h long, ht, h₀)
 
 -- steps 9 and 10, and the head
 module _ (A : ℕ) (L : Traces) (p : Profile) (events : Set) (t₁ t₂ t₃ : List ℕ) (s : State) (opening : Marking) where

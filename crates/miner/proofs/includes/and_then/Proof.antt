@@ -1,5 +1,5 @@
 use borrow.Author.Needs.{needs}
-use Rattle.miner.proofs.Gains.{with-one}
+use Rattle.tally.proofs.Turns.{with-one}
 use Rattle.miner.proofs.includes.and_then.Statement.{statement}
 use Rattle.miner.proofs.includes.and_then.Tie as tie
 
