@@ -20,14 +20,13 @@ use Rattle.rules.specs.Traces.{Traces}
 use Rattle.rules.specs.Mining.{event, someEvent, _with_, _without_, followed, between, beforeFirst, neverMissed, directlyBefore}
 use Rattle.rules.specs.Mining.{noRelations, reduced, step1, step2, step3, step4, step5, step6, step7, step8, step9, step10, afterFive}
 use Rattle.rules.specs.Mining.{afterSix, afterSeven, afterEight, mined}
-use Rattle.rules.proofs.Why.{Small}
 use Rattle.steps.specs.Rowwise.{reducedOf, waited}
 use Rattle.tally.specs.Tallies.{tallied}
 use Rattle.tally.proofs.LogLaws.{middle-event, later-event}
-use Rattle.miner.specs.Stages.{conditionsOf, responsesOf, excludesSix, sevenFrom}
+use Rattle.miner.specs.Stages.{conditionsOf, responsesOf}
 use Rattle.miner.proofs.RowReadings.{reduced-rows}
 use Rattle.miner.proofs.EarlySteps.{events, conditions-read, responses-read}
-use Rattle.miner.proofs.Exclusions.{among, first-too, with-events, excludes-seven}
+use Rattle.miner.proofs.Exclusions.{among, first-too, with-events}
 
 -- a pair of a relation is a pair of events
 abbrev pub Among : Traces → Relation → Type 0
@@ -150,8 +149,3 @@ module _ (L : Traces) where
   includes-full =
       rowsOf-ext _ _ (λ u t lu lt. joined (event L u) (event L t) (afterFive L .includes u t) (betweens u t)
       (with-events L (step2 L (step1 L noRelations) .includes) (directlyBefore L) u t) (betweens-events u t))
-
-  pub excludes-mined : Small L → (p : Profile) (includes : List ℕ) → includes ≡ rowsOf (afterSix L p .includes)
-      → sevenFrom (events L) (tallied L) includes (excludesSix p (events L) (tallied L)) L ≡ rowsOf (mined L p .excludes)
-  unfolding mined step10 step9 afterEight step8
-  excludes-mined small p includes hi = excludes-seven L small p includes hi

@@ -1,7 +1,7 @@
 -- One turn of the pass of step 9: the sets that it keeps, and what the rows of the event gain. Assumes nothing.
 use mathlib.Core.Path.{_≡_, sym, ap, ap₂, _∙_}
 use mathlib.Core.Bool.{Bool}
-use mathlib.Core.List.{List, [], _∷_}
+use mathlib.Core.List.{List, []}
 use Prim.Native.Nat.{ℕ, _+_, _<_}
 use lib.ListN.{length, getD, drop}
 use Rattle.sets.specs.Tests.{_and_, _or_, non}
@@ -38,12 +38,6 @@ module _ (events : Set) (includes excludes : List ℕ) where
   unfolding stillIncluded
   open-first l = sym (those-mem events l)
 
-  pub open-next : (past : List ℕ) (e : ℕ) (included r : Set) → included ≡ openAfter past
-      → r ≡ those (λ x. mem included x and non (inRow excludes e x) or inRow includes e x) → r ≡ openAfter (e ∷ past)
-  unfolding stillIncluded
-  open-next past e included r hi hr =
-      hr ∙ those-of included (stillIncluded events includes excludes past) (λ x t. t and non (inRow excludes e x) or inRow includes e x) hi
-
 -- ---- the loop's invariant, one place further
 
 module _ (σ : List ℕ) (i : ℕ) (h : i < length σ) (seen : Set) (hs : seen ≡ seenIn (pastAt σ i)) where
@@ -61,8 +55,10 @@ module _ (σ : List ℕ) (i : ℕ) (h : i < length σ) (seen : Set) (hs : seen �
       (hi : included ≡ openAfter events includes excludes (pastAt σ i)) where
     pub included-next : (r : Set) → r ≡ those (λ x. mem included x and non (inRow excludes (getD σ i 0) x) or inRow includes (getD σ i 0) x)
         → r ≡ openAfter events includes excludes (pastAt σ (i + 1))
+    unfolding stillIncluded
     included-next r hr =
-        open-next events includes excludes (pastAt σ i) (getD σ i 0) included r hi hr
+        hr
+        ∙ those-of included _ (λ x t. t and non (inRow excludes (getD σ i 0) x) or inRow includes (getD σ i 0) x) hi
         ∙ ap (openAfter events includes excludes) (sym (past-next σ i h))
 
     pub missed-next : (all rows rows′ : List ℕ) → forward (gains (missed events includes excludes)) rows (pastAt σ i) (drop i σ) ≡ all

@@ -84,22 +84,19 @@ pub record Looked (past : List ℕ) (e : ℕ) (wanted left : Set) (i : ℕ) : Ty
   pub unseen : drop i past has e ≡ false
   pub left-is : left ≡ those (λ x. mem wanted x and non (drop i past has x))
 
-pub look-start : (past : List ℕ) (e : ℕ) (wanted : Set) → those (mem wanted) ≡ wanted → Looked past e wanted wanted (length past)
+pub look-start : (past : List ℕ) (e : ℕ) (wanted : Set) (n : ℕ) → those (mem wanted) ≡ wanted → length past ≡ n → Looked past e wanted wanted n
 unfolding _has_ non
-look-start past e wanted h =
+look-start past e wanted n h q =
     record {
       reached = omega arith;
       unseen = none e;
       left-is =
-          sym h ∙ those-ext (mem wanted) (λ x. mem wanted x and non (drop (length past) past has x))
+          sym h ∙ those-ext (mem wanted) (λ x. mem wanted x and non (drop n past has x))
           (λ x l. sym (ap (λ (t : Bool). mem wanted x and non t) (none x) ∙ and-true (mem wanted x)));
     }
   where
-    none : (x : ℕ) → drop (length past) past has x ≡ false
-    none x = ap (λ (l : List ℕ). l has x) (drop-length past)
-
-pub look-start-at : (past : List ℕ) (e : ℕ) (wanted : Set) (n : ℕ) → those (mem wanted) ≡ wanted → length past ≡ n → Looked past e wanted wanted n
-look-start-at past e wanted n h q = rw q at (look-start past e wanted h)
+    none : (x : ℕ) → drop n past has x ≡ false
+    none x = ap (λ (k : ℕ). drop k past has x) (sym q) ∙ ap (λ (l : List ℕ). l has x) (drop-length past)
 
 module _ {past : List ℕ} {e i : ℕ} {wanted left : Set} (inv : Looked past e wanted left i) where
   -- what is left is to be looked for before the place

@@ -11,7 +11,7 @@ use Rattle.sets.specs.Rows.{rowsOf}
 use Rattle.sets.specs.Sizes.{longestTrace}
 use Rattle.sets.proofs.Members.{those-mem}
 use Rattle.tally.specs.Passes.{inBlock}
-use Rattle.tally.proofs.Since.{Looked, look-start-at, look-passed}
+use Rattle.tally.proofs.Since.{Looked, look-start, look-passed}
 use Rattle.tally.proofs.Blocks.{look-block}
 use Rattle.tally.proofs.look_back.pass_blocks.Statement.{statement}
 use Rattle.tally.proofs.look_back.pass_blocks.Tie as tie
@@ -24,7 +24,7 @@ abbrev μ-loop : tie.MeasureT-loop
 μ-loop blocks places e left₀ end₀ left end = end
 
 loop-holds : tie.Need-loop-holds Inv-loop μ-loop
-loop-holds c = (search needs, search needs, λ past hb hl. look-start-at past _ _ _ (those-mem _ (search needs)) hl)
+loop-holds c = (search needs, search needs, λ past hb hl. look-start past _ _ _ (those-mem _ (search needs)) hl)
 
 loop-again : tie.Need-loop-again Inv-loop μ-loop
 loop-again c =

@@ -1,3 +1,4 @@
+use mathlib.Core.Path.{refl}
 use borrow.Author.Needs.{needs}
 use Rattle.sets.proofs.Members.{those-mem}
 use Rattle.tally.proofs.Since.{Looked, look-start, look-next, look-stop, look-empty, look-end}
@@ -19,7 +20,7 @@ returns-2 c =
 pub unmet-spec : {M : Type 1} → statement M
 unmet-spec =
     tie.close
-    (tie.spec Inv-loop μ-loop (λ c. look-start _ _ _ (those-mem _ (search needs))) (λ c κs. search needs)
+    (tie.spec Inv-loop μ-loop (λ c. look-start _ _ _ _ (those-mem _ (search needs)) refl) (λ c κs. search needs)
     (λ c. look-empty (c .before .before .before .loop .inv) _ (c .before .is-empty .ensures) (c .if1 .taken)) (λ c. search needs)
     (λ c. search needs) (λ c κs. search needs) (λ c κs. search needs) returns-2 (λ c. search needs) (λ c. search (look-next, needs))
     (λ c. look-end (c .before .loop .inv) (c .loop-test .left)))
