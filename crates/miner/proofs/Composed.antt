@@ -16,7 +16,6 @@ use Rattle.engine.specs.Relations.{relationCount, headOf, graphOf, inTables}
 use Rattle.engine.specs.declared.marking.State.{State}
 use Rattle.engine.specs.declared.marking.Marking.{Marking}
 use Rattle.engine.specs.Enabled.{marked, graphAt}
-use Rattle.engine.specs.declared.graph.Graph.{Graph}
 use Rattle.rules.specs.declared.Profile.{Profile}
 use Rattle.rules.specs.declared.Profile.the-variants.{Full, Light}
 use Rattle.rules.specs.Traces.{Traces, _has_, someTrace}
@@ -34,8 +33,7 @@ use Rattle.miner.proofs.Holding.{Held, held-any, length-held, held-c, h
 pub let-in-by : (L : Traces) (t t′ never never′ held held′ includes : List ℕ) → t′ ≡ withTable t 2 includes
     → includes ≡ through (λ r σ. forward (gains (letIn never)) r [] σ) held L → never ≡ never′ → held ≡ held′
     → t′ ≡ withTable t 2 (through (λ r σ. forward (gains (letIn never′)) r [] σ) held′ L)
-let-in-by L t t′ never never′ held held′ includes h hi hn hh =
-    h ∙ ap (withTable t 2) (hi ∙ (λ i. through (λ r σ. forward (gains (letIn (hn i))) r [] σ) (hh i) L))
+let-in-by L t t′ never never′ held held′ includes h hi hn hh = rw (h, hi, hn, hh)
 
 -- step 9: what is waited for
 pub nine-by : (L : Traces) (events : Set) (eight includes excludes t t′ first₀ unmet₀ first unmet : List ℕ)
@@ -45,11 +43,7 @@ pub nine-by : (L : Traces) (events : Set) (eight includes excludes t t′ first�
     → t′ ≡ withTable t 0
     (rowsFor events (waited events eight (through (λ r σ. forward (gains beforeFirst) r [] σ) noRows L)
     (through (λ r σ. forward (gains (missed events includes excludes)) r [] σ) noRows L)))
-nine-by L events eight includes excludes t t′ first₀ unmet₀ first unmet h hf hu h₀ k₀ =
-    h
-    ∙ ap₂ (λ (x y : List ℕ). withTable t 0 (rowsFor events (waited events eight x y)))
-    (hf ∙ ap (λ (x : List ℕ). through (λ r σ. forward (gains beforeFirst) r [] σ) x L) h₀)
-    (hu ∙ ap (λ (x : List ℕ). through (λ r σ. forward (gains (missed events includes excludes)) r [] σ) x L) k₀)
+nine-by L events eight includes excludes t t′ first₀ unmet₀ first unmet h hf hu h₀ k₀ = rw (h, hf, hu, h₀, k₀)
 
 -- step 7: what is left of the excludes
 pub seven-by : (L : Traces) (events : Set) (tally t left₀ left t′ : List ℕ) → left₀ ≡ withTable noRows 0 (tableAt t 3)
@@ -77,10 +71,6 @@ module _ (L : Traces) (events : Set) (tally : List ℕ) where
       ap length (through-rowsOf (letIn (neverOf events tally)) _ (λ r σ. forward-rowsOf (letIn (neverOf events tally)) r [] σ)
       (turned (chainsOf events tally)) L) ∙ length-rowsOf _
   length-includes Light = length-rowsOf _
-
-  length-excludes : (p : Profile) → length (excludesSix p events tally) ≡ rowWords
-  length-excludes Full = length-for events _
-  length-excludes Light = length-rowsOf _
 
   -- the excludes after step 6 are some relation's rows
   excludes-some : (p : Profile) → (r : Relation) × (excludesSix p events tally ≡ rowsOf r)
@@ -194,10 +184,7 @@ pub tally-by : (wide : Bool) (L : Traces) (events : Set) (p : Profile) (none tal
     → length t ≡ relationCount * rowWords → t′
     ≡ fourTables (eightOf L events (talliedFor wide L) p) (answersOf L events (talliedFor wide L) p) (includesSix p events (talliedFor wide L) L)
     (afterSeven L events (talliedFor wide L) p)
-tally-by wide L events p none tally t t′ h₀ ht h long =
-    h long
-    ∙ ap (λ (x : List ℕ). fourTables (eightOf L events x p) (answersOf L events x p) (includesSix p events x L) (afterSeven L events x p))
-    (ht ∙ ap (λ (x : List ℕ). through (notedFor wide) x L) h₀)
+tally-by wide L events p none tally t t′ h₀ ht h long = rw (h long, ht, h₀)
 
 -- steps 9 and 10, and the head
 module _ (wide : Bool) (A : ℕ) (L : Traces) (p : Profile) (events : Set) (t₁ t₂ t₃ : List ℕ) (s : State) (opening : Marking) where

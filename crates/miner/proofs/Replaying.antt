@@ -1,15 +1,14 @@
 -- One turn of the pass of step 9: the sets that it keeps, and what the rows of the event gain. Assumes nothing.
-use mathlib.Core.Path.{_≡_, sym, ap, _∙_}
+use mathlib.Core.Path.{_≡_, sym, ap, ap₂, _∙_}
 use mathlib.Core.Bool.{Bool}
-use mathlib.Core.List.{List, [], _∷_}
-use Prim.Native.Nat.{ℕ, _+_, _^_, _<_}
+use mathlib.Core.List.{List, []}
+use Prim.Native.Nat.{ℕ, _+_, _<_}
 use lib.ListN.{length, getD, drop}
 use Rattle.sets.specs.Tests.{_and_, _or_, non}
-use Rattle.sets.specs.Members.{width, mem, those}
+use Rattle.sets.specs.Members.{mem, those}
 use Rattle.sets.specs.Rows.{rowAt, inRow}
 use Rattle.sets.specs.declared.set.Set.{Set}
 use Rattle.sets.proofs.Members.{those-of, those-mem, Fits}
-use Rattle.rules.specs.Traces.{_has_}
 use Rattle.tally.specs.Passes.{gained, gains, forward}
 use Rattle.miner.specs.Facts.{beforeFirst, stillIncluded, missed}
 use Rattle.tally.proofs.Turns.{pastAt, past-next, seenIn, forward-next}
@@ -29,18 +28,6 @@ included-by included kept r in-row out-row includes excludes e ho hk hi hr =
     ∙ ap (λ (s : Set). those (λ x. mem included x and non (mem s x) or mem in-row x)) ho
     ∙ ap (λ (s : Set). those (λ x. mem included x and non (mem (rowAt excludes e) x) or mem s x)) hi
 
--- ---- the turn as the definitions say it
-
-pub first-turn : (past rest : List ℕ) (e : ℕ) (seen : Set) (rows rows′ : List ℕ) → seen ≡ seenIn past
-    → rows′ ≡ gained rows e (λ x. mem seen x and non (mem seen e)) → rows′ ≡ gains beforeFirst rows e past rest
-unfolding beforeFirst
-first-turn past rest e seen rows rows′ hs h =
-    gains-below beforeFirst rows e past rest (λ x. mem seen x and non (mem seen e)) rows′
-    (λ l x k.
-    ap (λ (t : Bool). t and non (mem seen e)) (is-those seen (λ y. past has y) hs x k)
-    ∙ ap (λ (t : Bool). past has x and non t) (is-those seen (λ y. past has y) hs e l))
-    h
-
 -- the replay by these includes and excludes
 module _ (events : Set) (includes excludes : List ℕ) where
   -- the set of what is included after a past
@@ -51,46 +38,35 @@ module _ (events : Set) (includes excludes : List ℕ) where
   unfolding stillIncluded
   open-first l = sym (those-mem events l)
 
-  pub open-next : (past : List ℕ) (e : ℕ) (included r : Set) → included ≡ openAfter past
-      → r ≡ those (λ x. mem included x and non (inRow excludes e x) or inRow includes e x) → r ≡ openAfter (e ∷ past)
-  unfolding stillIncluded
-  open-next past e included r hi hr =
-      hr ∙ those-of included (stillIncluded events includes excludes past) (λ x t. t and non (inRow excludes e x) or inRow includes e x) hi
-
-  pub missed-turn : (past rest : List ℕ) (e : ℕ) (seen included : Set) (rows rows′ : List ℕ) → seen ≡ seenIn past → included
-      ≡ openAfter past
-      → rows′ ≡ gained rows e (λ x. mem included x and non (mem seen x))
-      → rows′ ≡ gains (missed events includes excludes) rows e past rest
-  unfolding missed
-  missed-turn past rest e seen included rows rows′ hs hi h =
-      gains-below (missed events includes excludes) rows e past rest (λ x. mem included x and non (mem seen x)) rows′
-      (λ l x k.
-      ap (λ (t : Bool). mem included x and non t) (is-those seen (λ y. past has y) hs x k)
-      ∙ ap (λ (t : Bool). t and non (past has x)) (is-those included (stillIncluded events includes excludes past) hi x k)
-      ∙ and-comm (stillIncluded events includes excludes past x) (non (past has x)))
-      h
-
 -- ---- the loop's invariant, one place further
 
 module _ (σ : List ℕ) (i : ℕ) (h : i < length σ) (seen : Set) (hs : seen ≡ seenIn (pastAt σ i)) where
   pub first-next : (all rows rows′ : List ℕ) → forward (gains beforeFirst) rows (pastAt σ i) (drop i σ) ≡ all
       → rows′ ≡ gained rows (getD σ i 0) (λ x. mem seen x and non (mem seen (getD σ i 0)))
       → forward (gains beforeFirst) rows′ (pastAt σ (i + 1)) (drop (i + 1) σ) ≡ all
-  first-next all rows rows′ inv hr = forward-next (gains beforeFirst) σ all i rows rows′ h
-      (first-turn (pastAt σ i) _ (getD σ i 0) seen rows rows′ hs hr) inv
+  unfolding beforeFirst
+  first-next all rows rows′ inv hr =
+      forward-next (gains beforeFirst) σ all i rows rows′ h
+      (gains-below beforeFirst rows (getD σ i 0) (pastAt σ i) (drop (i + 1) σ) _ rows′
+      (λ l x k. ap₂ (λ (s t : Bool). s and non t) (is-those seen _ hs x k) (is-those seen _ hs (getD σ i 0) l)) hr)
+      inv
 
   module _ (events : Set) (includes excludes : List ℕ) (included : Set)
       (hi : included ≡ openAfter events includes excludes (pastAt σ i)) where
     pub included-next : (r : Set) → r ≡ those (λ x. mem included x and non (inRow excludes (getD σ i 0) x) or inRow includes (getD σ i 0) x)
         → r ≡ openAfter events includes excludes (pastAt σ (i + 1))
+    unfolding stillIncluded
     included-next r hr =
-        open-next events includes excludes (pastAt σ i) (getD σ i 0) included r hi hr
+        hr
+        ∙ those-of included _ (λ x t. t and non (inRow excludes (getD σ i 0) x) or inRow includes (getD σ i 0) x) hi
         ∙ ap (openAfter events includes excludes) (sym (past-next σ i h))
 
     pub missed-next : (all rows rows′ : List ℕ) → forward (gains (missed events includes excludes)) rows (pastAt σ i) (drop i σ) ≡ all
         → rows′ ≡ gained rows (getD σ i 0) (λ x. mem included x and non (mem seen x))
         → forward (gains (missed events includes excludes)) rows′ (pastAt σ (i + 1)) (drop (i + 1) σ) ≡ all
+    unfolding missed
     missed-next all rows rows′ inv hr =
         forward-next (gains (missed events includes excludes)) σ all i rows rows′ h
-        (missed-turn events includes excludes (pastAt σ i) _ (getD σ i 0) seen included rows rows′ hs hi hr)
+        (gains-below (missed events includes excludes) rows (getD σ i 0) (pastAt σ i) (drop (i + 1) σ) _ rows′
+        (λ l x k. ap₂ (λ (s t : Bool). s and non t) (is-those included _ hi x k) (is-those seen _ hs x k) ∙ and-comm _ _) hr)
         inv

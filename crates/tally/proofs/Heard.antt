@@ -1,16 +1,16 @@
 -- What the passes hear of a log is what the rules ask of it: a rule of every place is broken at some place, and before and after are the
 -- same seen from either end. Assumes nothing.
 use mathlib.Core.Path.{_≡_, refl, sym, ap, ap₂, _∙_}
-use mathlib.Core.Bool.{Bool, true, false}
+use mathlib.Core.Bool.{Bool}
 use mathlib.Core.List.{List, [], _∷_}
 use Prim.Native.Nat.{ℕ}
 use lib.Dec.{eqb}
 use Rattle.sets.specs.Tests.{_and_, _or_, non}
-use Rattle.sets.proofs.Tests.{and-comm, non-non}
+use Rattle.sets.proofs.Tests.{and-comm, and-false, or-false, non-non}
 use Rattle.rules.specs.Traces.{Traces, _has_, _beginsWith_, atEach, atSomeFrom, atSome, everyTrace, someTrace}
 use Rattle.rules.specs.Mining.{precedes, answers, chained, before, followed, alternates}
 use Rattle.tally.specs.Passes.{isEarlier, notEarlier, notDirectly, notSince, isLater, notLater, isNext}
-use Rattle.tally.proofs.LogLaws.{each-non, every-non, some-ext}
+use Rattle.tally.proofs.LogLaws.{each-non, every-non, some-ext, later-all}
 use Rattle.tally.proofs.Folds.{heard}
 
 -- ---- not at each place is at some place not
@@ -25,46 +25,13 @@ non-every t p L =
 
 -- ---- before and after
 
--- a pair is met at its second place with the first behind it, or it was open before, or it is met from its first place on
 module _ (s t : ℕ) where
-  swap : (e p m r a : Bool) → (e and p or ((m or p) and r or a)) ≡ (p and (e or r) or (m and r or a))
-  unfolding _and_ _or_
-  swap true true m r a = refl
-  swap false true m true a = or-true-l m a
-    where
-      or-true-l : (m a : Bool) → ((m or true) and true or a) ≡ true
-      or-true-l true a = refl
-      or-true-l false a = refl
-  swap false true true false a = refl
-  swap false true false false a = refl
-  swap true false true r a = refl
-  swap true false false r a = refl
-  swap false false true r a = refl
-  swap false false false r a = refl
-
-  later-from : (past rest : List ℕ)
-      → atSomeFrom t (λ q r. q has s) past rest ≡ (past has s and rest has t or atSomeFrom s (λ q r. r has t) past rest)
-  unfolding atSomeFrom _has_
-  later-from past [] = sym (none (past has s))
-    where
-      none : (a : Bool) → (a and false or false) ≡ false
-      none true = unfold _and_ _or_ in refl
-      none false = unfold _and_ _or_ in refl
-  later-from past (x ∷ rest) =
-      ap (λ (b : Bool). eqb t x and past has s or b) (later-from (x ∷ past) rest)
-      ∙ swap (eqb t x) (past has s) (eqb s x) (rest has t) (atSomeFrom s (λ q r. r has t) (x ∷ past) rest)
-
   next-from : (past rest : List ℕ)
       → atSomeFrom t (λ q r. q beginsWith s) past rest
       ≡ (past beginsWith s and rest beginsWith t or atSomeFrom s (λ q r. r beginsWith t) past rest)
   unfolding atSomeFrom _beginsWith_
-  next-from past [] = sym (none (past beginsWith s))
-    where
-      none : (a : Bool) → (a and false or false) ≡ false
-      none true = unfold _and_ _or_ in refl
-      none false = unfold _and_ _or_ in refl
-  next-from past (x ∷ rest) =
-      ap₂ _or_ (and-comm (eqb t x) (past beginsWith s)) (next-from (x ∷ past) rest)
+  next-from past [] = sym (or-false _ ∙ and-false (past beginsWith s))
+  next-from past (x ∷ rest) = ap₂ _or_ (and-comm (eqb t x) (past beginsWith s)) (next-from (x ∷ past) rest)
 
 -- ---- the facts of the tally
 
@@ -74,8 +41,8 @@ module _ (L : Traces) (a x : ℕ) where
   heard-before = refl
 
   pub heard-later : heard isLater L a x ≡ before L a x
-  unfolding isLater before _and_ _or_ _has_
-  heard-later = some-ext L (atSome a (λ q r. r has x)) (atSome x (λ q r. q has a)) (λ σ. sym (later-from a x [] σ))
+  unfolding isLater before
+  heard-later = some-ext L (atSome a (λ q r. r has x)) (atSome x (λ q r. q has a)) (λ σ. sym (later-all a x σ))
 
   pub heard-unpreceded : heard notEarlier L a x ≡ non (precedes L x a)
   unfolding notEarlier precedes

@@ -7,11 +7,11 @@ use native.Mathlib.Omega.{arith}
 use borrow.Author.Tests.{eqb-true, eqb-false}
 use lib.Dec.{eqb}
 use Rattle.sets.specs.Tests.{_or_, non, when_then_else_}
-use Rattle.sets.specs.Members.{width, mem, those}
-use Rattle.sets.specs.Rows.{Relation, noRows, rowAt, inRow, rowsOf}
-use Rattle.sets.specs.Tables.{noTables, tableAt, tablesOf}
-use Rattle.sets.proofs.RowLaws.{rowsOf-ext, empty-rowsOf, in-rowsOf}
-use Rattle.sets.proofs.TableLaws.{table-put-same, table-put-other, empty-tablesOf, table-tablesOf}
+use Rattle.sets.specs.Members.{width}
+use Rattle.sets.specs.Rows.{Relation, inRow, rowsOf}
+use Rattle.sets.specs.Tables.{noTables, tableAt}
+use Rattle.sets.proofs.RowLaws.{rowsOf-ext, in-rowsOf}
+use Rattle.sets.proofs.TableLaws.{table-put-same, table-put-other, table-none}
 use Rattle.rules.specs.Traces.{Traces}
 use Rattle.rules.specs.Mining.{precedes, answers, chained, before, followed, alternates}
 use Rattle.tally.specs.Passes.{Fact, Turn, gained, gains, notedIn, forward, backward, through, isEarlier, notEarlier, notDirectly}
@@ -96,18 +96,14 @@ module _ (wide : Bool) (k : ℕ) where
   through-table tally [] = refl
   through-table tally (σ ∷ L) = through-table (notedFor wide tally σ) L ∙ ap (λ (rows : List ℕ). through notedAt rows L) (noted-at tally σ)
 
-  none-at : k < tableCount → tableAt (noTables tableCount) k ≡ noRows
-  none-at l =
-      ap (λ (x : List ℕ). tableAt x k) (empty-tablesOf tableCount (λ j a x. false) (λ j a x lj la lx. refl))
-      ∙ table-tablesOf tableCount (λ j a x. false) k l
-      ∙ sym (empty-rowsOf (λ a x. false) (λ a x la lx. refl))
-
   -- a table that hears of one fact
   table-is : k < tableCount → (p : Fact) (L : Traces)
       → ((r : Relation) (σ : List ℕ) → notedAt (rowsOf r) σ ≡ rowsOf (λ a x. r a x or said p [] σ a x))
       → tableAt (talliedFor wide L) k ≡ rowsOf (heard p L)
   table-is l p L one =
-      through-table (noTables tableCount) L ∙ ap (λ (rows : List ℕ). through notedAt rows L) (none-at l) ∙ through-all p notedAt one L
+      through-table (noTables tableCount) L
+      ∙ ap (λ (rows : List ℕ). through notedAt rows L) (table-none tableCount k l)
+      ∙ through-all p notedAt one L
 
 -- ---- a table that a pass does not touch stays
 
@@ -182,16 +178,16 @@ module _ (L : Traces) where
   later-table = whole-is laterTable isLater (before L) (later-heard true L) (heard-later L)
 
   pub unpreceded-table : tableAt (tallied L) unprecededTable ≡ rowsOf (λ t s. non (precedes L s t))
-  unpreceded-table = whole-is unprecededTable notEarlier (λ t s. non (precedes L s t)) (unpreceded-heard true L) (heard-unpreceded L)
+  unpreceded-table = whole-is unprecededTable notEarlier _ (unpreceded-heard true L) (heard-unpreceded L)
 
   pub unanswered-table : tableAt (tallied L) unansweredTable ≡ rowsOf (λ s t. non (answers L s t))
-  unanswered-table = whole-is unansweredTable notLater (λ s t. non (answers L s t)) (unanswered-heard true L) (heard-unanswered L)
+  unanswered-table = whole-is unansweredTable notLater _ (unanswered-heard true L) (heard-unanswered L)
 
   pub unchained-table : tableAt (tallied L) unchainedTable ≡ rowsOf (λ t s. non (chained L s t))
-  unchained-table = whole-is unchainedTable notDirectly (λ t s. non (chained L s t)) (unchained-heard true L) (heard-unchained L)
+  unchained-table = whole-is unchainedTable notDirectly _ (unchained-heard true L) (heard-unchained L)
 
   pub unalternated-table : tableAt (tallied L) unalternatedTable ≡ rowsOf (λ s u. non (alternates L u s))
-  unalternated-table = whole-is unalternatedTable notSince (λ s u. non (alternates L u s)) (unalternated-heard true L) (heard-unalternated L)
+  unalternated-table = whole-is unalternatedTable notSince _ (unalternated-heard true L) (heard-unalternated L)
 
   pub followed-table : tableAt (tallied L) followedTable ≡ rowsOf (followed L)
   followed-table = whole-is followedTable isNext (followed L) (followed-heard true L) (heard-followed L)

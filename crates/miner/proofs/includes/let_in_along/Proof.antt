@@ -19,9 +19,6 @@ Inv-loop trace unfollowed last out₀ after₀ barred₀ i₀ out after barred i
 abbrev μ-loop : tie.MeasureT-loop
 μ-loop trace unfollowed last out₀ after₀ barred₀ i₀ out after barred i = length trace - i
 
-loop-holds : tie.Need-loop-holds Inv-loop μ-loop
-loop-holds c = (search needs, c .before .pre .0, barred-none _, refl)
-
 loop-again : tie.Need-loop-again Inv-loop μ-loop
 loop-again c =
     let t = c .before .before .before .before .loop-test .taken in
@@ -35,11 +32,9 @@ loop-again c =
       let-in-next _ _ _ t _ (v .2) _ _ _ _ rest (v .3) (turn .0),
     )
 
-returns : tie.Need-returns Inv-loop μ-loop
-returns c = forward-end _ _ _ _ _ (c .loop-test .left) (c .before .loop .inv .3)
-
 pub let-in-along-spec : {M : Type 1} → statement M
 let-in-along-spec =
     tie.close
-    (tie.spec Inv-loop μ-loop loop-holds (λ c. search needs) (λ c κs. search needs) (λ c κs. search needs) (λ c. search needs)
-    (λ c. search needs) loop-again returns)
+    (tie.spec Inv-loop μ-loop (λ c. (search needs, c .before .pre .0, barred-none _, refl)) (λ c. search needs) (λ c κs. search needs)
+    (λ c κs. search needs) (λ c. search needs) (λ c. search needs) loop-again
+    (λ c. forward-end _ _ _ _ _ (c .loop-test .left) (c .before .loop .inv .3)))

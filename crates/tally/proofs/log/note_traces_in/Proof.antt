@@ -55,10 +55,7 @@ loop-holds : tie.Need-loop-holds Inv-loop μ-loop
 loop-holds c = start _ _ _ _
 
 loop-again : tie.Need-loop-again Inv-loop μ-loop
-loop-again c =
-    let got = c .note-trace .ensures in
-    let cut = c .before .before in
-    turn (cut .before .before .loop .inv) (cut .before .loop-test .taken) _ (cut .trace-at .ensures) _ _ (got .0) (got .1)
+loop-again c = search (turn, needs)
 
 returns : tie.Need-returns Inv-loop μ-loop
 returns c =
