@@ -8,7 +8,6 @@ use Rattle.sets.specs.Tests.{_and_, _or_, non}
 use Rattle.sets.specs.Members.{those}
 use Rattle.sets.specs.Rows.{Relation, rowsOf, rowsFor}
 use Rattle.sets.specs.declared.set.Set.{Set}
-use Rattle.sets.proofs.Tests.{eqb-sym}
 use Rattle.sets.proofs.Tautologies.{by4}
 use Rattle.sets.proofs.RowLaws.{rowsOf-ext}
 use Rattle.rules.specs.Traces.{Traces}
@@ -16,6 +15,7 @@ use Rattle.rules.specs.Mining.{noPair, noRelations, event, _with_, precedes, an
 use Rattle.rules.specs.Mining.{step5, afterFive}
 use Rattle.steps.specs.Rowwise.{unbroken}
 use Rattle.tally.specs.Tallies.{tallied}
+use Rattle.tally.proofs.Somes.{eqb-sym}
 use Rattle.tally.proofs.Tallying.{unpreceded-table, unanswered-table, unchained-table}
 use Rattle.miner.specs.Stages.{conditionsOf, responsesOf, chainsOf}
 use Rattle.miner.proofs.RowReadings.{unbroken-rows}

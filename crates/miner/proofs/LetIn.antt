@@ -12,11 +12,12 @@ use Rattle.sets.specs.Rows.{rowAt, inRow}
 use Rattle.sets.specs.declared.set.Set.{Set}
 use Rattle.sets.proofs.Tests.{and-l, or-comm, T→true, F→false, false→F, split, either}
 use Rattle.sets.proofs.Members.{mem-none, those-ext, those-of}
-use Rattle.sets.proofs.Below.{some-e, some-ext, some-more}
+use Rattle.sets.proofs.Below.{some-e, some-ext}
 use Rattle.sets.proofs.RowLaws.{row-out}
 use Rattle.rules.specs.Traces.{_has_}
 use Rattle.tally.specs.Passes.{gained, gains, forward}
 use Rattle.miner.specs.Facts.{letIn}
+use Rattle.tally.proofs.Somes.{some-more}
 use Rattle.tally.proofs.Turns.{pastAt, past-next, seenIn, forward-next}
 use Rattle.miner.proofs.Gains.{gains-below}
 use Rattle.sets.proofs.MadeSets.{is-those, none}

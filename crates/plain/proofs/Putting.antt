@@ -5,7 +5,7 @@ use mathlib.Core.List.{List, [], _∷_, _++_, append-assoc}
 use Prim.Native.Nat.{ℕ, zero, suc, _+_, _*_, _/_, _%_, _≤_, _<_}
 use native.Mathlib.Numerals.{add-one}
 use native.Mathlib.Omega.{arith}
-use borrow.Author.Tests.{lt-ltb, le-ltb, ltb-false, eq-eqb, ne-eqb, not-true, not-false}
+use borrow.Author.Tests.{lt-ltb, le-ltb, ltb-true, ltb-false, eq-eqb, ne-eqb, not-true, not-false}
 use lib.Dec.{T, eqb, ltb, eqb→eq, lt→ltb, ltb→lt}
 use lib.ListN.{length, getD, set, drop, length-append, length-set}
 use lib.Seq.{drop-cons, set-at}
@@ -15,13 +15,14 @@ use Rattle.sets.specs.Rows.{Relation, rowAt, inRow}
 use Rattle.sets.specs.Tables.{tableAt}
 use Rattle.sets.specs.declared.set.Set.{Set}
 use Rattle.sets.specs.declared.answer.Answer.the-variants.{Done, BufferTooSmall}
-use Rattle.sets.proofs.Tests.{and-l, and-r, and-i, T-ext, F→false, eqb-of, split, either, or-false}
-use Rattle.sets.proofs.Below.{some-i, some-e, some-last}
+use Rattle.sets.proofs.Tests.{and-l, and-r, and-i, T-ext, T→true, F→false, eqb-of, split, either, or-false}
+use Rattle.sets.proofs.Below.{some-i, some-e}
 use Rattle.sets.proofs.Bits.{digit-le}
 use Rattle.plain.specs.declared.fill.Filled.{Filled}
-use Rattle.plain.specs.Pairs.{mostPairs, sourceOf, targetOf, someIn, isAmong}
+use Rattle.plain.specs.Pairs.{mostPairs, pairOf, sourceOf, targetOf, someIn, isAmong}
 use Rattle.plain.specs.Filling.{relationAt, questions, numbered, isPair, pairsBelow, pairsOf, putDown, filledOf, memoryAfter}
-use Rattle.plain.specs.Same.{pairIn}
+use Rattle.plain.specs.Same.{pairIn, Holds}
+use Rattle.plain.proofs.PairLaws.{some-last}
 
 -- ---- one pair of the relation
 

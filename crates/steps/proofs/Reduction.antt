@@ -1,8 +1,9 @@
 -- The transitive reduction, by loops over the members of a row: what is known of a row while its targets are judged and its middles are
 -- tried. Assumes nothing.
-use Rattle.sets.specs.Members.{noSet, width, mem, those, isEmpty, digit, someBelow, countBelow, leastBelow}
+use Rattle.sets.specs.Members.{noSet}
 use mathlib.Core.Path.{_≡_, refl, sym, ap, _∙_, subst}
 use mathlib.Core.Bool.{Bool, true, false, not}
+use mathlib.Core.Logic.{_⊎_, inl, inr}
 use mathlib.Core.List.{List}
 use Prim.Native.Nat.{ℕ, zero, suc, _+_, _≤_, _<_, suc-le-suc}
 use native.Mathlib.Nat.{zero-lt-suc}
@@ -10,14 +11,14 @@ use native.Mathlib.Omega.{arith}
 use borrow.Author.Tests.{not-true, not-false}
 use lib.Dec.{T, eqb, eqb→eq, eqb-refl}
 use Rattle.sets.specs.Tests.{_and_, _or_, non}
+use Rattle.sets.specs.Members.{width, mem, those, isEmpty, digit, someBelow, countBelow, leastBelow}
 use Rattle.sets.specs.Rows.{rowAt, inRow}
 use Rattle.sets.specs.declared.set.Set.{Set}
-use Rattle.sets.proofs.Tests.{and-i, and-l, and-r, and-true, or-false, non-i, non-e, non-false, T-eq, true→T, false→F, F→false}
+use Rattle.sets.proofs.Tests.{and-i, and-l, and-r, and-true, or-e, or-l, or-r, or-false, non-i, non-e, non-false, T-ext, T-eq, true→T, false→F, F→false, split, either}
 use Rattle.sets.proofs.Tautologies.{by3}
-use Rattle.sets.proofs.Below.{some-e, count-less, least-is, least-lt}
+use Rattle.sets.proofs.Below.{some-i, some-e, count-less, least-is, least-lt}
 use Rattle.sets.proofs.Members.{mem-none, none-those, those-ext, those-of, empty-e, empty-none}
 use Rattle.sets.proofs.MadeSets.{is-those}
-use Rattle.sets.proofs.Passing.{some-left}
 use Rattle.steps.specs.Rowwise.{reducedOf}
 
 -- ---- how many are left
@@ -62,14 +63,32 @@ joined-none : (rows : List ℕ) (middles : Set) (x : ℕ) → T (isEmpty middles
 unfolding joinedBy
 joined-none rows middles x h = F→false _ (λ k. let r = some-e width _ k in empty-e middles h (r .0) (r .1) (and-l _ _ (r .2)))
 
--- by one of the others, or by the least of them
+-- by the least of them, or by one of the others
 joined-turn : (rows : List ℕ) (middles middles′ : Set) (u : ℕ) (r : Bool) (x : ℕ) → r ≡ isEmpty middles → not r ≡ true
     → u ≡ leastBelow width (mem middles)
     → middles′ ≡ those (λ b. mem middles b and non (eqb b (leastBelow width (mem middles))))
-    → joinedBy rows middles x ≡ (joinedBy rows middles′ x or inRow rows u x)
+    → joinedBy rows middles x ≡ (inRow rows u x or joinedBy rows middles′ x)
 unfolding joinedBy
 joined-turn rows middles middles′ u r x hr hn hu hm =
-    some-left middles middles′ r hr hn hm (λ v. inRow rows v x) ∙ ap (λ (n : ℕ). joinedBy rows middles′ x or inRow rows n x) (sym hu)
+    T-ext _ _
+    (λ k.
+    let v = some-e width _ k in
+    either (split (eqb (v .0) u))
+    (λ e. or-l _ _ (subst (λ (n : ℕ). T (inRow rows n x)) (eqb→eq (v .0) u e) (and-r _ _ (v .2))))
+    (λ d. or-r _ _ (some-i width _ (v .0) (v .1) (and-i _ _ (T-eq (sym (left (v .0) (v .1))) (and-i _ _ (and-l _ _ (v .2)) (non-i _ d))) (and-r _ _ (v .2))))))
+    (λ k. back (or-e _ _ k))
+  where
+    left : (a : ℕ) → a < width → mem middles′ a ≡ (mem middles a and non (eqb a u))
+    left a l =
+        is-those middles′ (λ b. mem middles b and non (eqb b (leastBelow width (mem middles)))) hm a l
+        ∙ ap (λ (n : ℕ). mem middles a and non (eqb a n)) (sym hu)
+
+    back : T (inRow rows u x) ⊎ T (someBelow width (λ v. mem middles′ v and inRow rows v x))
+        → T (someBelow width (λ v. mem middles v and inRow rows v x))
+    back (inl h) = let l = least-in middles u r hr hn hu in some-i width _ u (l .0) (and-i _ _ (l .1) h)
+    back (inr h) =
+        let v = some-e width _ h in
+        some-i width _ (v .0) (v .1) (and-i _ _ (and-l _ _ (T-eq (left (v .0) (v .1)) (and-l _ _ (v .2)))) (and-r _ _ (v .2)))
 
 -- ---- the targets of one source
 
@@ -115,9 +134,9 @@ trying-first rows s t kept targets middles r hr hn ht h =
     let l = least-in targets t r hr hn ht in
     record { judging = h; low = l .0; here = l .1; part = λ a la m. m }
 
-apart : (a b c : Bool) → (a and non (c or b)) ≡ ((a and non b) and non c)
+apart : (a b c : Bool) → (a and non (b or c)) ≡ ((a and non b) and non c)
 unfolding _and_ _or_ non
-apart = by3 (λ a b c. a and non (c or b)) (λ a b c. (a and non b) and non c) tt
+apart = by3 (λ a b c. a and non (b or c)) (λ a b c. (a and non b) and non c) tt
 
 -- a middle is tried: all targets that it joins go
 module _ (rows : List ℕ) (s t : ℕ) (kept targets₀ targets middles targets′ middles′ joined : Set) (u : ℕ) (r : Bool) (hr : r ≡ isEmpty middles)

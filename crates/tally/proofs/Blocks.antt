@@ -15,14 +15,15 @@ use Rattle.sets.specs.Members.{width, mem, those, isEmpty, someBelow}
 use Rattle.sets.specs.Rows.{Relation, rowAt, withRow, noRows, rowsOf}
 use Rattle.sets.specs.declared.set.Set.{Set}
 use Rattle.sets.proofs.Tests.{and-i, and-l, and-r, or-e, or-l, or-r, or-false, non-e, nor, not-non, T-ext, T-eq, T→true, true→T, F→false, eqb-of}
-use Rattle.sets.proofs.Tests.{eqb-sym, split, either}
-use Rattle.sets.proofs.Below.{some-i, some-e, some-ext, some-last}
+use Rattle.sets.proofs.Tests.{split, either}
+use Rattle.sets.proofs.Below.{some-i, some-e, some-ext}
 use Rattle.sets.proofs.Members.{those-ext, those-of}
 use Rattle.sets.proofs.MadeSets.{Is, is-those, less}
 use Rattle.sets.proofs.RowLaws.{row-rowsOf, gain-rowsOf, rowsOf-ext, empty-rowsOf}
 use Rattle.rules.specs.Traces.{_has_}
 use Rattle.tally.specs.Passes.{inBlock}
 use Rattle.tally.proofs.Since.{regroup, Looked}
+use Rattle.tally.proofs.Somes.{eqb-sym, some-last}
 
 -- ---- whether a block is passed
 

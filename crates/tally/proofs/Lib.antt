@@ -1,5 +1,6 @@
 -- The modules of `proofs/` that belong to no one function.
 pub mod Turns
+pub mod Somes
 pub mod Folds
 pub mod Since
 pub mod Blocks
