@@ -5,31 +5,29 @@ use mathlib.Core.Bool.{Bool, true, false}
 use mathlib.Core.List.{List, [], _∷_}
 use Prim.Native.Nat.{ℕ, _<_}
 use native.Mathlib.Omega.{arith}
-use lib.Dec.{T, eqb, eqb-refl}
+use lib.Dec.{T, eqb}
 use Rattle.sets.specs.Tests.{_and_, _or_, non}
-use Rattle.sets.specs.Members.{width, mem, those, someBelow, leastBelow}
+use Rattle.sets.specs.Members.{width, mem, someBelow}
 use Rattle.sets.specs.Rows.{Relation, rowAt, inRow, rowsOf, rowsFor, turned}
 use Rattle.sets.specs.Tables.{tableAt}
 use Rattle.sets.specs.declared.set.Set.{Set}
-use Rattle.sets.proofs.Tests.{and-l, and-r, or-e, or-l, or-r, and-comm, T-eq, either}
+use Rattle.sets.proofs.Tests.{and-l, and-r, or-e, and-comm, and-assoc, T-eq, either}
 use Rattle.sets.proofs.Below.{some-ext, least-ext}
 use Rattle.sets.proofs.Members.{those-i}
 use Rattle.sets.proofs.RowLaws.{in-rowsOf, rowsOf-ext}
 use Rattle.rules.specs.declared.Profile.{Profile}
 use Rattle.rules.specs.declared.Profile.the-variants.{Full, Light}
-use Rattle.rules.specs.Traces.{Traces, _has_}
+use Rattle.rules.specs.Traces.{Traces}
 use Rattle.rules.specs.Mining.{event}
-use Rattle.rules.proofs.InTurn.{is-event}
 use Rattle.steps.specs.Rowwise.{unbroken, absent, excludesItself, smallest, apart, closing, excluders, inEither, reducedOf}
-use Rattle.tally.specs.Passes.{Fact, gains, forward}
+use Rattle.tally.specs.Passes.{gains, forward}
 use Rattle.tally.specs.Tallies.{tableCount, beforeTable, laterTable, unprecededTable, unansweredTable, unchainedTable, unalternatedTable}
 use Rattle.tally.specs.Tallies.{followedTable}
 use Rattle.tally.proofs.Folds.{heard, forward-rowsOf, through-rowsOf}
-use Rattle.tally.proofs.Turns.{has-past}
 use Rattle.miner.specs.Facts.{letIn, reopened, doubted}
 use Rattle.miner.specs.Stages.{conditionsOf, chainsOf, responsesOf, neverOf, fiveFrom, fiveOf, includesFrom, includesSix, excludesSix}
 use Rattle.miner.specs.Stages.{followersOf, redundantBy, sevenFrom, waitedOf, fourTables, tablesAfterSix, tablesRead}
-use Rattle.miner.proofs.OverLog.{some-place}
+use Rattle.miner.proofs.OverLog.{place-event}
 use Rattle.miner.proofs.EarlySteps.{events}
 
 -- ---- tests alone
@@ -42,11 +40,6 @@ where-so false d d′ h = refl
 
 where-then : (d d′ g : Bool) → (T g → d ≡ d′) → (d and g) ≡ (d′ and g)
 where-then d d′ g h = and-comm d g ∙ where-so g d d′ h ∙ and-comm g d′
-
-where-first : (g c c′ d d′ : Bool) → (T g → c ≡ c′) → (T g → d ≡ d′) → (g and c and d) ≡ (g and c′ and d′)
-unfolding _and_
-where-first true c c′ d d′ hc hd = ap₂ _and_ (hc tt) (hd tt)
-where-first false c c′ d d′ hc hd = refl
 
 smallest-as : (p q : ℕ → Bool) → ((a : ℕ) → a < width → p a ≡ q a) → (a : ℕ) → a < width → smallest p a ≡ smallest q a
 unfolding smallest
@@ -92,7 +85,8 @@ module _ (events : Set) where
     unfolding closing
     closing-as itself s ls es t lt =
         ap (λ (b : Bool). b and non itself)
-        (where-first (mem events t) _ _ _ _ (λ et. hl s t ls lt es et) (λ et. ap non (hb s t ls lt es et)))
+        (and-assoc _ _ _ ∙ where-so (mem events t) _ _ (λ et. ap₂ (λ (b c : Bool). b and non c) (hl s t ls lt es et) (hb s t ls lt es et))
+        ∙ sym (and-assoc _ _ _))
 
     excluders-as : (chains : List ℕ) → rowsFor events (excluders events before later chains) ≡ rowsFor events (excluders events before′ later′ chains)
     unfolding rowsFor excluders excludesItself
@@ -192,13 +186,6 @@ module _ (events : Set) (tally tally′ : List ℕ) (same : AgreeAt events tally
 
 -- ---- the graph of a log
 
--- what a place says puts into the row of its activity: of an event
-heard-event : (p : Fact) (L : Traces) (u x : ℕ) → T (heard p L u x) → T (event L u)
-unfolding _has_
-heard-event p L u x h =
-    let k = some-place u (λ past rest. p u past rest x) L h in
-    is-event L u (k .2) (T-eq (sym (has-past u (k .0) (u ∷ k .1))) (or-r _ _ (or-l _ _ (eqb-refl u))))
-
 module _ (L : Traces) (tally : List ℕ) where
   chains-inside : Inside (events L) (rowsOf (turned (chainsOf (events L) tally)))
   unfolding turned rowsFor unbroken
@@ -217,7 +204,7 @@ module _ (L : Traces) (tally : List ℕ) where
       let there = T-eq (ap (λ (rows : List ℕ). inRow rows a x) all ∙ in-rowsOf (λ b y. start b y or heard (letIn never) L b y) a x la lx) t in
       either (or-e _ _ there)
       (λ c. chains-inside a x la lx (T-eq (sym (in-rowsOf start a x la lx)) c))
-      (λ c. those-i (event L) a la (heard-event (letIn never) L a x c))
+      (λ c. those-i (event L) a la (place-event a _ L c))
 
   -- all tables that mining reads
   pub tables-at : (tally′ : List ℕ) → AgreeAt (events L) tally tally′ → (p : Profile) → tablesRead L (events L) tally p ≡ tablesRead L (events L) tally′ p

@@ -4,12 +4,12 @@ use mathlib.Core.Path.{_≡_, refl, sym, ap, ap₂, _∙_}
 use mathlib.Core.Bool.{Bool, true, false}
 use mathlib.Core.List.{List}
 use Prim.Native.Nat.{ℕ, _<_}
-use borrow.Author.Tests.{eqb-true, eqb-false}
+use borrow.Author.Tests.{eqb-false}
 use lib.Dec.{T, eqb, eqb-refl}
 use Rattle.sets.specs.Tests.{_and_, _or_, non}
-use Rattle.sets.specs.Members.{width, mem, those, someBelow}
+use Rattle.sets.specs.Members.{width, mem, someBelow}
 use Rattle.sets.specs.Rows.{Relation, rowAt, inRow, rowsOf, rowsFor, turned}
-use Rattle.sets.proofs.Tests.{and-l, and-r, and-i, and-true, and-false, non-e, non-non, T-ext, T-eq, T→true, F→false, false→F}
+use Rattle.sets.proofs.Tests.{and-l, and-r, and-i, and-comm, nor, non-e, non-non, T-ext, T-eq, T→true, F→false, false→F}
 use Rattle.sets.proofs.Tautologies.{by2, by4, by5}
 use Rattle.sets.proofs.Below.{some-ext}
 use Rattle.sets.proofs.Members.{mem-those}
@@ -21,12 +21,13 @@ use Rattle.rules.specs.Traces.{Traces}
 use Rattle.rules.specs.Mining.{noPair, noRelations, smallestSource, event, someEvent, _with_, _without_, before, followed, alternates}
 use Rattle.rules.specs.Mining.{atMostOnce, together, directlyBefore, neverTogether, closes, step1, step2, step3, step4, step5, step6, letInBetween, makesRedundant, step7}
 use Rattle.rules.specs.Mining.{afterFive, afterSix, afterSeven}
-use Rattle.steps.specs.Rowwise.{excludesItself, smallest, apart, closing, excluders, absent, inEither}
+use Rattle.steps.specs.Rowwise.{excludesItself, apart, closing, excluders, absent, inEither}
 use Rattle.tally.specs.Tallies.{tallied}
 use Rattle.tally.proofs.Tallying.{before-table, later-table, unalternated-table, followed-table}
 use Rattle.tally.proofs.LogLaws.{once, together-before}
+use Rattle.tally.proofs.Folds.{at-same}
 use Rattle.miner.specs.Facts.{reopened, doubted}
-use Rattle.miner.specs.Stages.{chainsOf, neverOf, fiveOf, excludesSix, followersOf, redundantBy, sevenFrom}
+use Rattle.miner.specs.Stages.{neverOf, fiveOf, excludesSix, followersOf, redundantBy, sevenFrom}
 use Rattle.miner.proofs.RowReadings.{turned-rows, absent-rows, united-rows, smallest-read}
 use Rattle.rules.proofs.Why.{Small}
 use Rattle.miner.proofs.OverLog.{reopened-is}
@@ -69,27 +70,22 @@ two-others false a d d′ h = ap (λ (z : Bool). a and true and z) (h refl)
 all-among : (e f g c d : Bool) → g ≡ (e and f and g) → c ≡ (e and f and c) → d ≡ (e and f and d) → (e and f and (e and f and (g or c) or d))
     ≡ (g or c or d)
 unfolding _and_ _or_ non
-all-among e f g c d hg hc hd =
-    ap₂ (λ (x y : Bool). e and f and (e and f and (x or y) or d)) hg hc
-    ∙ ap (λ (z : Bool). e and f and (e and f and (e and f and g or e and f and c) or z)) hd
-    ∙ by5 (λ v w x y z. v and w and (v and w and (v and w and x or v and w and y) or v and w and z))
-    (λ v w x y z. v and w and x or v and w and y or v and w and z) tt e f g c d
-    ∙ sym (ap₂ (λ (x y : Bool). x or y or d) hg hc ∙ ap (λ (z : Bool). e and f and g or e and f and c or z) hd)
+all-among true true g c d hg hc hd = refl
+all-among true false g c d hg hc hd = sym (nor _ _ (nor _ _ hg hc) hd)
+all-among false f g c d hg hc hd = sym (nor _ _ (nor _ _ hg hc) hd)
 
 -- pairs that join a relation among events
 one-more : (e f g p : Bool) → g ≡ (e and f and g) → (e and (g or e and (f and p))) ≡ (e and f and (g or p))
 unfolding _and_ _or_ non
-one-more e f g p h =
-    ap (λ (x : Bool). e and (x or e and (f and p))) h
-    ∙ by4 (λ v w x y. v and (v and w and x or v and (w and y))) (λ v w x y. v and w and (v and w and x or y)) tt e f g p
-    ∙ ap (λ (x : Bool). e and f and (x or p)) (sym h)
+one-more true true g p h = refl
+one-more true false g p h = ap (λ (x : Bool). x or false) h
+one-more false f g p h = refl
 
 -- the test of the first event is one too many
 pub first-too : (e f g p : Bool) → g ≡ (e and f and g) → (e and (g and p)) ≡ (g and p)
 unfolding _and_ _or_ non
-first-too e f g p h =
-    ap (λ (x : Bool). e and (x and p)) h ∙ by4 (λ v w x y. v and (v and w and x and y)) (λ v w x y. v and w and x and y) tt e f g p
-    ∙ ap (λ (x : Bool). x and p) (sym h)
+first-too true f g p h = refl
+first-too false f g p h = sym (ap (λ (x : Bool). x and p) h)
 
 -- the tests of step 7 in the order of the rules
 as-asked : (e x i a l : Bool) → (e and (x and non i and (true and (e and a)) and non l)) ≡ (e and (x and a and non i and non l))
@@ -110,17 +106,12 @@ module _ (L : Traces) where
   -- ---- what excludes itself
 
   self-three : (s t : ℕ) → afterThree L .excludes s t ≡ (eqb s t and selfExcluding L s)
-  unfolding step3 step2 step1 noRelations noPair _with_ selfExcluding _and_
+  unfolding step3 step2 step1 noRelations noPair _with_ selfExcluding
   self-three s t =
-      twice (event L s) (event L t) (eqb s t) (atMostOnce L s) (someEvent L (λ u. directlyBefore L u t)) ∙ by (eqb s t) refl
-    where
-      by : (q : Bool) → eqb s t ≡ q → (q and (event L s and event L t and (atMostOnce L s or someEvent L (λ u. directlyBefore L u t))))
-          ≡ (q and (event L s and (non (before L s s) or someEvent L (λ u. directlyBefore L u s))))
-      by false e = refl
-      by true e =
-          ap (λ (n : ℕ). event L s and event L n and (atMostOnce L s or someEvent L (λ u. directlyBefore L u n))) (sym (eqb-true s t e))
-          ∙ ap (λ (o : Bool). event L s and event L s and (o or someEvent L (λ u. directlyBefore L u s))) (once L s)
-          ∙ idem (event L s) (non (before L s s) or someEvent L (λ u. directlyBefore L u s))
+      twice (event L s) (event L t) (eqb s t) (atMostOnce L s) (someEvent L (λ u. directlyBefore L u t))
+      ∙ at-same s t (λ n. event L s and event L n and (atMostOnce L s or someEvent L (λ u. directlyBefore L u n)))
+      ∙ ap (λ (o : Bool). eqb s t and (event L s and event L s and (o or someEvent L (λ u. directlyBefore L u s)))) (once L s)
+      ∙ ap (λ (b : Bool). eqb s t and b) (idem (event L s) (non (before L s s) or someEvent L (λ u. directlyBefore L u s)))
 
   self-four : (s : ℕ) → afterFour L .excludes s s ≡ selfExcluding L s
   unfolding step4 smallestSource neverTogether _with_ selfExcluding
@@ -150,12 +141,7 @@ module _ (L : Traces) where
         ∙ in-events (event L t) (non (before L t t)) (event L) (λ u. directlyBefore L u t)
 
     own-read : (s : ℕ) → (excludesItself earlier chains t and eqb s t) ≡ afterThree L .excludes s t
-    unfolding _and_
-    own-read s = ap (λ (b : Bool). b and eqb s t) itself-read ∙ by (eqb s t) refl ∙ sym (self-three s t)
-      where
-        by : (q : Bool) → eqb s t ≡ q → (selfExcluding L t and q) ≡ (q and selfExcluding L s)
-        by true e = and-true (selfExcluding L t) ∙ ap (selfExcluding L) (sym (eqb-true s t e))
-        by false e = and-false (selfExcluding L t)
+    own-read s = ap (λ (b : Bool). b and eqb s t) itself-read ∙ and-comm _ _ ∙ at-same s t (selfExcluding L) ∙ sym (self-three s t)
 
     apart-read : (s : ℕ) → s < width → apart (events L) earlier (rowsOf (before L)) t s ≡ neverTogether L s t
     unfolding apart neverTogether

@@ -9,9 +9,9 @@ use borrow.Author.Tests.{not-true, not-false}
 use lib.Dec.{ltb}
 use lib.ListN.{length, drop, drop-of-length-le}
 use lib.Seq.{drop-cons}
-use Rattle.sets.specs.Tests.{when_then_else_}
 use Rattle.sets.specs.Answers.{isDone}
 use Rattle.sets.specs.Members.{word}
+use Rattle.sets.proofs.Ways.{taken, passed-by}
 use Rattle.engine.specs.Relations.{emptyGraph}
 use Rattle.engine.specs.declared.graph.Graph.{Graph}
 use Rattle.calllog.specs.declared.judge.Judged.{Judged}
@@ -46,33 +46,28 @@ module _ (bytes : List ℕ) where
 
 -- the two ways of the code
 module _ (bytes : List ℕ) (p : Profile) (j : Judged) (r : Bool) (hj : j ≡ judgedOf bytes) (hr : r ≡ isDone (j .answer)) where
+  abbrev found : Graph
+  found = minedGraph (logOf bytes .activities) (logOf bytes .traces) p
+
   the-answer : j .answer ≡ logOf bytes .answer
   the-answer = ap (λ (x : Judged). x .answer) hj
+
+  is-done : isDone (logOf bytes .answer) ≡ r
+  is-done = ap isDone (sym the-answer) ∙ sym hr
 
   pub mine-refused : (g : Graph) → not r ≡ true → g ≡ emptyGraph
       → _≡_ {A = Mined} (record { answer = j .answer; graph = g }) (minedOf bytes p)
   unfolding minedOf
-  mine-refused g n hg =
-      let no-graph : isDone (logOf bytes .answer) ≡ false = ap isDone (sym the-answer) ∙ sym hr ∙ not-true r n in
-      λ i. record {
-        answer = the-answer i;
-        graph = (hg ∙ sym (ap (λ (t : Bool). when t then minedGraph (logOf bytes .activities) (logOf bytes .traces) p else emptyGraph)
-            no-graph)) i;
-      }
+  mine-refused g n hg = λ i. record { answer = the-answer i; graph = passed-by _ found emptyGraph g (sym (is-done ∙ not-true r n)) hg i }
 
   pub mine-done : (g : Graph) → not r ≡ false → g ≡ graphFoundIn (ltb word (j .activities)) (j .activities) (walked bytes (j .traces) 0) p
       → _≡_ {A = Mined} (record { answer = j .answer; graph = g }) (minedOf bytes p)
   unfolding minedOf
   mine-done g n hg =
-      let some-graph : isDone (logOf bytes .answer) ≡ true = ap isDone (sym the-answer) ∙ sym hr ∙ not-false r n in
       let read =
       hg
       ∙ ap (λ (x : Judged). graphFoundIn (ltb word (x .activities)) (x .activities) (walked bytes (x .traces) 0) p) hj
       ∙ ap (λ (L : Traces). graphFoundIn (ltb word (logOf bytes .activities)) (logOf bytes .activities) L p) (walk-all bytes)
       ∙ form-graph (logOf bytes .activities) (logOf bytes .traces) (file-accepted bytes) p
       ∙ pair-for-pair (logOf bytes .traces) (small _ _ (file-accepted bytes)) p (logOf bytes .activities) in
-      λ i. record {
-        answer = the-answer i;
-        graph = (read ∙ sym (ap (λ (t : Bool). when t then minedGraph (logOf bytes .activities) (logOf bytes .traces) p else emptyGraph)
-            some-graph)) i;
-      }
+      λ i. record { answer = the-answer i; graph = taken _ found emptyGraph g (sym (is-done ∙ not-false r n)) read i }

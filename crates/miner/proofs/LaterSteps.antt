@@ -1,14 +1,14 @@
 -- Steps 8 to 10 on rows, and the mined relations as they are put together from a tally and from what the later passes find. Assumes
 -- nothing.
-use mathlib.Core.Path.{_≡_, refl, sym, ap, ap₂, _∙_}
-use mathlib.Core.Bool.{Bool}
+use mathlib.Core.Path.{_≡_, refl, sym, ap, _∙_}
+use mathlib.Core.Bool.{Bool, true, false}
 use mathlib.Core.List.{List}
 use Prim.Native.Nat.{ℕ}
 use lib.Dec.{T, eqb}
 use Rattle.sets.specs.Tests.{_and_, _or_, non}
 use Rattle.sets.specs.Members.{width, someBelow}
 use Rattle.sets.specs.Rows.{Relation, rowsOf, rowsFor}
-use Rattle.sets.proofs.Tests.{and-r, and-comm, non-non}
+use Rattle.sets.proofs.Tests.{and-r, and-comm, nor, non-non}
 use Rattle.sets.proofs.Tautologies.{by4, by5}
 use Rattle.sets.proofs.Below.{some-e, some-ext}
 use Rattle.sets.proofs.Members.{mem-those}
@@ -20,14 +20,13 @@ use Rattle.rules.specs.Traces.{Traces}
 use Rattle.rules.specs.Mining.{event, someEvent, _with_, _without_, followed, between, beforeFirst, neverMissed, directlyBefore}
 use Rattle.rules.specs.Mining.{noRelations, reduced, step1, step2, step3, step4, step5, step6, step7, step8, step9, step10, afterFive}
 use Rattle.rules.specs.Mining.{afterSix, afterSeven, afterEight, mined}
-use Rattle.rules.proofs.Why.{Small}
 use Rattle.steps.specs.Rowwise.{reducedOf, waited}
 use Rattle.tally.specs.Tallies.{tallied}
-use Rattle.tally.proofs.LogLaws.{middle-event, later-event}
-use Rattle.miner.specs.Stages.{conditionsOf, responsesOf, excludesSix, sevenFrom}
+use Rattle.miner.specs.Stages.{conditionsOf, responsesOf}
 use Rattle.miner.proofs.RowReadings.{reduced-rows}
+use Rattle.miner.proofs.OverLog.{middle-event, later-event}
 use Rattle.miner.proofs.EarlySteps.{events, conditions-read, responses-read}
-use Rattle.miner.proofs.Exclusions.{among, first-too, with-events, excludes-seven}
+use Rattle.miner.proofs.Exclusions.{among, first-too, with-events}
 
 -- a pair of a relation is a pair of events
 abbrev pub Among : Traces → Relation → Type 0
@@ -44,9 +43,9 @@ swapped = by5 (λ a b c d f. a and (b and (c or d and f))) (λ a b c d f. b and 
 -- two tests of events alone, joined
 joined : (e f g b : Bool) → g ≡ (e and f and g) → b ≡ (e and f and b) → (g or b) ≡ (e and f and (g or b))
 unfolding _and_ _or_ non
-joined e f g b hg hb =
-    ap₂ _or_ hg hb ∙ by4 (λ v w x y. v and w and x or v and w and y) (λ v w x y. v and w and (v and w and x or v and w and y)) tt e f g b
-    ∙ ap₂ (λ (x y : Bool). e and f and (x or y)) (sym hg) (sym hb)
+joined true true g b hg hb = refl
+joined true false g b hg hb = nor _ _ hg hb
+joined false f g b hg hb = nor _ _ hg hb
 
 module _ (L : Traces) where
   -- ---- steps 8 and 10
@@ -95,15 +94,10 @@ module _ (L : Traces) where
   -- ---- the mined relations
 
   -- step 6, made or skipped, leaves the conditions and responses of step 2
-  responses-six : (p : Profile) → afterSix L p .responses ≡ afterFive L .responses
+  six-keeps : (p : Profile) → (afterSix L p .responses ≡ afterFive L .responses) × (afterSix L p .conditions ≡ afterFive L .conditions)
   unfolding afterSix step6
-  responses-six Full = refl
-  responses-six Light = refl
-
-  conditions-six : (p : Profile) → afterSix L p .conditions ≡ afterFive L .conditions
-  unfolding afterSix step6
-  conditions-six Full = refl
-  conditions-six Light = refl
+  six-keeps Full = (refl, refl)
+  six-keeps Light = (refl, refl)
 
   responses-five : rowsFor (events L) (reducedOf (responsesOf (events L) (tallied L))) ≡ rowsOf (reduced L (afterFive L .responses))
   unfolding afterFive step5 step4 step3 step2
@@ -113,7 +107,7 @@ module _ (L : Traces) where
 
   pub responses-mined : (p : Profile) → rowsFor (events L) (reducedOf (responsesOf (events L) (tallied L))) ≡ rowsOf (mined L p .responses)
   unfolding mined step10 step9 afterEight step8 afterSeven step7
-  responses-mined p = responses-five ∙ sym (ap (λ (r : Relation). rowsOf (reduced L r)) (responses-six p))
+  responses-mined p = responses-five ∙ sym (ap (λ (r : Relation). rowsOf (reduced L r)) (six-keeps p .0))
 
   conditions-five : rowsFor (events L) (reducedOf (conditionsOf (events L) (tallied L))) ≡ rowsOf (λ t s. reduced L (afterFive L .conditions) s t)
   unfolding afterFive step5 step4 step3 step2
@@ -124,7 +118,7 @@ module _ (L : Traces) where
   pub conditions-eight : (p : Profile)
       → rowsFor (events L) (reducedOf (conditionsOf (events L) (tallied L))) ≡ rowsOf (λ t s. afterEight L p .conditions s t)
   unfolding afterEight step8 afterSeven step7
-  conditions-eight p = conditions-five ∙ sym (ap (λ (r : Relation). rowsOf (λ t s. reduced L r s t)) (conditions-six p))
+  conditions-eight p = conditions-five ∙ sym (ap (λ (r : Relation). rowsOf (λ t s. reduced L r s t)) (six-keeps p .1))
 
   -- from what the pass of step 9 finds
   pub conditions-mined : (p : Profile) (first unmet : List ℕ) → first ≡ rowsOf (λ t s. beforeFirst L s t)
@@ -155,8 +149,3 @@ module _ (L : Traces) where
   includes-full =
       rowsOf-ext _ _ (λ u t lu lt. joined (event L u) (event L t) (afterFive L .includes u t) (betweens u t)
       (with-events L (step2 L (step1 L noRelations) .includes) (directlyBefore L) u t) (betweens-events u t))
-
-  pub excludes-mined : Small L → (p : Profile) (includes : List ℕ) → includes ≡ rowsOf (afterSix L p .includes)
-      → sevenFrom (events L) (tallied L) includes (excludesSix p (events L) (tallied L)) L ≡ rowsOf (mined L p .excludes)
-  unfolding mined step10 step9 afterEight step8
-  excludes-mined small p includes hi = excludes-seven L small p includes hi

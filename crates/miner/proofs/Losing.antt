@@ -10,11 +10,13 @@ use Rattle.sets.specs.Tests.{_and_, _or_, non, when_then_else_}
 use Rattle.sets.specs.Members.{width, mem, those, someBelow, leastBelow, isEmpty}
 use Rattle.sets.specs.Rows.{Relation, rowAt, withRow, inRow, rowsOf, rowsFor}
 use Rattle.sets.specs.declared.set.Set.{Set}
-use Rattle.sets.proofs.Tests.{and-l, and-r, and-i, or-e, or-l, or-r, T-ext, T-eq, F→false, false→F, and-true, and-assoc, false-or, or-false, or-assoc, either}
+use Rattle.sets.proofs.Tests.{and-l, and-r, and-i, T-ext, F→false, false→F, and-true, and-assoc, false-or, or-false, or-assoc}
 use Rattle.sets.proofs.Tautologies.{by2, by3}
 use Rattle.sets.proofs.Below.{some-i, some-e, some-ext}
 use Rattle.sets.proofs.RowLaws.{row-mem, in-rowsOf, put-rowsOf, rowsOf-ext}
-use Rattle.sets.proofs.Passing.{passed, Part, passed-none, passed-all, part-turn, passed-turn, least-low}
+use Rattle.sets.proofs.Passing.{passed, Part, passed-none, passed-all, part-turn}
+use Rattle.tally.proofs.Somes.{some-passed}
+use Rattle.tally.proofs.Folds.{at-same}
 use Rattle.miner.specs.Facts.{Less}
 
 -- two tests of pairs that agree below the width
@@ -102,30 +104,11 @@ module _ (P : ℕ → Relation) where
         → rest′ ≡ those (λ b. mem rest b and non (eqb b (leastBelow width (mem rest)))) → (Part all rest′) × Less rows (byPassed all rest′) left′
     each-turn left left′ rest rest′ k r hp hl hr hn hk hs hm = (
       part-turn rest rest′ r hr hn hm all hp,
-      less-as rows left′ _ _ (λ a x la lx. T-ext _ _ (λ t. either (or-e _ _ t) (more a x) (here a x)) (λ t. less a x (some-e width _ t)))
+      less-as rows left′ _ _
+          (λ a x la lx.
+          sym (some-passed rest rest′ r hr hn hm all hp (λ u. P u a x) ∙ ap (λ (n : ℕ). byPassed all rest a x or P n a x) (sym hk)))
           (less-more rows left left′ _ _ hl hs),
     )
-      where
-        turn : (u : ℕ) → u < width → passed all rest′ u ≡ (passed all rest u or eqb u (leastBelow width (mem rest)))
-        turn = passed-turn rest rest′ r hr hn hm all hp
-
-        more : (a x : ℕ) → T (byPassed all rest a x) → T (byPassed all rest′ a x)
-        more a x t =
-            let u = some-e width (λ v. passed all rest v and P v a x) t in
-            some-i width (λ v. passed all rest′ v and P v a x) (u .0) (u .1)
-            (and-i _ _ (T-eq (sym (turn (u .0) (u .1))) (or-l _ _ (and-l _ _ (u .2)))) (and-r _ _ (u .2)))
-
-        here : (a x : ℕ) → T (P k a x) → T (byPassed all rest′ a x)
-        here a x t =
-            let low = least-low rest rest′ r hr hn hm in
-            some-i width (λ v. passed all rest′ v and P v a x) (leastBelow width (mem rest)) low
-            (and-i _ _ (T-eq (sym (turn _ low)) (or-r _ _ (eqb-refl (leastBelow width (mem rest))))) (subst (λ (n : ℕ). T (P n a x)) hk t))
-
-        less : (a x : ℕ) → (u : ℕ) × (u < width) × T (passed all rest′ u and P u a x) → T (byPassed all rest a x or P k a x)
-        less a x (u, l, t) =
-            either (or-e _ _ (T-eq (turn u l) (and-l _ _ t)))
-            (λ p. or-l _ _ (some-i width (λ v. passed all rest v and P v a x) u l (and-i _ _ p (and-r _ _ t))))
-            (λ e. or-r _ _ (subst (λ (n : ℕ). T (P n a x)) (eqb→eq u _ e ∙ sym hk) (and-r _ _ t)))
 
     pub each-end : (left : List ℕ) (rest : Set) (r : Bool) → Less rows (byPassed all rest) left → r ≡ isEmpty rest → not r ≡ false
         → Less rows (λ a x. someBelow width (λ u. mem all u and P u a x)) left
@@ -150,11 +133,9 @@ ownRow gone u a x = eqb a u and inRow gone a x
 pub own-turn : (gone rows left : List ℕ) (k : ℕ) (row : Set) → row ≡ rowAt gone k
     → left ≡ withRow rows k (those (λ b. mem (rowAt rows k) b and non (mem row b))) → Less rows (ownRow gone k) left
 unfolding inRow _and_
-own-turn gone rows left k row hr hl = less-as rows left _ _ (λ a x la lx. by a x (eqb a k) refl) (less-row rows left k row hl)
-  where
-    by : (a x : ℕ) (t : Bool) → eqb a k ≡ t → (t and mem row x) ≡ (t and mem (rowAt gone a) x)
-    by a x true e = ap (λ (s : Set). mem s x) (hr ∙ ap (rowAt gone) (sym (eqb-true a k e)))
-    by a x false e = refl
+own-turn gone rows left k row hr hl =
+    less-as rows left _ _ (λ a x la lx. ap (λ (s : Set). eqb a k and mem s x) hr ∙ at-same a k (λ n. mem (rowAt gone n) x))
+    (less-row rows left k row hl)
 
 pub own-end : (gone rows left : List ℕ) (all rest : Set) (r : Bool) → Less rows (byPassed (ownRow gone) all rest) left → r ≡ isEmpty rest
     → not r ≡ false → Less rows (λ a x. mem all a and inRow gone a x) left

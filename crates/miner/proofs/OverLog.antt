@@ -14,14 +14,13 @@ use Rattle.sets.proofs.RowLaws.{row-mem, in-rowsOf}
 use Rattle.engine.specs.Relations.{Relations}
 use Rattle.rules.specs.Traces.{Traces, _has_, atSomeFrom, atSome, someTrace}
 use Rattle.rules.specs.Mining.{event, someEvent, before, followed, between, letInBetween, includedAfter, neverMissed, beforeFirst as rule-beforeFirst}
-use Rattle.rules.proofs.Places.{some-at, has-first, has-past, some-of, some-trace}
+use Rattle.rules.proofs.Places.{some-at, has-first, has-rest, has-past, some-of, some-trace}
 use Rattle.rules.proofs.Why.{Small, some-event, the-event}
 use Rattle.rules.proofs.InTurn.{is-event}
 use Rattle.miner.specs.Facts.{letIn, letInSince, reopened, doubted, beforeFirst, stillIncluded, missed}
 use Rattle.tally.proofs.Folds.{heard}
 use Rattle.tally.specs.Passes.{isLater}
-use Rattle.tally.proofs.Heard.{non-every, heard-later}
-use Rattle.tally.proofs.LogLaws.{middle-event, later-event}
+use Rattle.tally.proofs.LogLaws.{non-every, before-later}
 use Rattle.sets.proofs.Tautologies.{by2}
 
 -- ---- the places of a log where an activity stands
@@ -46,6 +45,23 @@ module _ (u : ℕ) (p : List ℕ → List ℕ → Bool) where
   pub at-place : (L : Traces) (past rest : List ℕ) → List·Memᴰ (reverseAux past (u ∷ rest)) L → T (p past rest)
       → T (someTrace L (atSome u p))
   at-place L past rest m h = some-of (atSome u p) m (some-at u p past rest h)
+
+  -- what stands there is an event, and so is what stands later
+  pub place-event : (L : Traces) → T (someTrace L (atSome u p)) → T (event L u)
+  place-event L h = let k = some-place L h in is-event L u (k .2) (has-rest u (k .0) (u ∷ k .1) (has-first u (k .1)))
+
+  pub rest-event : (t : ℕ) → ((past rest : List ℕ) → T (p past rest) → T (rest has t)) → (L : Traces) → T (someTrace L (atSome u p)) → T (event L t)
+  unfolding _has_
+  rest-event t f L h = let k = some-place L h in is-event L t (k .2) (has-rest t (k .0) (u ∷ k .1) (or-r _ _ (f _ _ (k .3))))
+
+module _ (L : Traces) (s u t : ℕ) (h : T (between L s u t)) where
+  pub middle-event : T (event L u)
+  unfolding between
+  middle-event = place-event u _ L h
+
+  pub later-event : T (event L t)
+  unfolding between
+  later-event = rest-event u _ t (λ past rest k. and-r _ _ k) L h
 
 -- two tests that agree at every place of the log where u stands
 pub places-ext : (L : Traces) (u : ℕ) (p q : List ℕ → List ℕ → Bool)
@@ -147,7 +163,7 @@ module _ (L : Traces) where
           (and-i _ _
           (T-eq (sym (row-mem (before L) u (v .0) lu lv)) (at-place (v .0) (λ past rest. past has u) L (p .0) (p .1) (p .2) (and-l _ _ (p .3))))
           (T-eq (sym (in-rowsOf (λ b a. before L a b) s (v .0) ls lv))
-          (T-eq (heard-later L (v .0) s) (at-place (v .0) (λ past rest. rest has s) L (p .0) (p .1) (p .2) (and-r _ _ (p .3))))))
+          (T-eq (before-later L (v .0) s) (at-place (v .0) (λ past rest. rest has s) L (p .0) (p .1) (p .2) (and-r _ _ (p .3))))))
           i))
           (at-place s (λ past rest. letInSince includes u past x) L (q .0) (q .1)
           (subst (λ (σ : List ℕ). List·Memᴰ σ L) (sym (q .2)) (p .2)) (q .3))

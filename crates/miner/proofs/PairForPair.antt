@@ -12,7 +12,7 @@ use Rattle.sets.specs.Rows.{Relation, noRows, rowsOf, turned}
 use Rattle.sets.specs.Tables.{withTable}
 use Rattle.sets.proofs.RowLaws.{rowsOf-ext}
 use Rattle.sets.proofs.TableLaws.{tablesOf-ext, empty-tablesOf, fill-tablesOf}
-use Rattle.engine.specs.Relations.{Relations, relationCount, headOf, graphOf, kept, tablesFrom}
+use Rattle.engine.specs.Relations.{Relations, relationCount, kept, tablesFrom}
 use Rattle.engine.specs.Markings.{openingOf}
 use Rattle.engine.specs.Enabled.{graphAt}
 use Rattle.rules.specs.declared.Profile.{Profile}
@@ -28,8 +28,8 @@ use Rattle.miner.specs.Facts.{letIn, beforeFirst, missed}
 use Rattle.miner.specs.Stages.{includesSix, excludesSix, sevenFrom, fourTables, graphFound}
 use Rattle.miner.proofs.RowReadings.{turned-rows}
 use Rattle.miner.proofs.EarlySteps.{events, chains-read}
-use Rattle.miner.proofs.Exclusions.{never-read}
-use Rattle.miner.proofs.LaterSteps.{betweens, responses-mined, conditions-mined, includes-full, excludes-mined}
+use Rattle.miner.proofs.Exclusions.{never-read, excludes-seven}
+use Rattle.miner.proofs.LaterSteps.{responses-mined, conditions-mined, includes-full}
 use Rattle.miner.proofs.OverLog.{neverFollowing, let-in-is, before-first-is, missed-is}
 
 -- the tables of four relations, put in one after the other
@@ -93,7 +93,8 @@ module _ (L : Traces) where
 
     excludes-are : sevenFrom (events L) (tallied L) (includesSix p (events L) (tallied L) L) (excludesSix p (events L) (tallied L)) L
         ≡ rowsOf (mined L p .excludes)
-    excludes-are = excludes-mined L small p _ (includes-six p)
+    unfolding mined step10 step9 afterEight step8
+    excludes-are = excludes-seven L small p _ (includes-six p)
 
     pub pair-for-pair : (A : ℕ) → graphFound A L p ≡ minedGraph A L p
     unfolding graphFound minedGraph graphFrom

@@ -1,16 +1,16 @@
 -- The readings of rows that are some relation's rows: each is again the rows of a relation. A pair is read by `simp reading`. Assumes
 -- nothing.
-use mathlib.Core.Path.{_≡_, ap, ap₂, _∙_, subst}
+use mathlib.Core.Path.{_≡_, ap₂, _∙_, subst}
 use mathlib.Core.Bool.{Bool}
-use Prim.Native.Nat.{ℕ, _<_, _≤_}
+use Prim.Native.Nat.{ℕ, _<_}
 use native.Mathlib.Omega.{arith}
 use borrow.Author.Tests.{ltb-true, ltb-false}
-use lib.Dec.{T, eqb, eqb→eq, ltb}
+use lib.Dec.{eqb, eqb→eq, ltb}
 use Rattle.sets.specs.Tests.{_and_, _or_, non}
 use Rattle.sets.specs.Members.{width, those, someBelow, leastBelow}
 use Rattle.sets.specs.Rows.{Relation, rowsOf, rowsFor, turned}
 use Rattle.sets.proofs.Tests.{and-l, and-r, and-i, non-i, non-e, non-non, T-ext, T→true, F→false, false→F, eqb-of, split, either}
-use Rattle.sets.proofs.Below.{some-i, some-e, some-ext, least-ext, least-is, least-before}
+use Rattle.sets.proofs.Below.{some-i, some-e, some-ext, least-ext, least-only, least-before}
 use Rattle.sets.proofs.Members.{mem-those}
 use Rattle.sets.proofs.RowLaws.{in-rowsOf, rowsOf-ext}
 use Rattle.rules.specs.Mining.{smallestSource}
@@ -57,25 +57,11 @@ least-none p a l =
     (λ s.
     let u = some-e a p s in
     false→F (least-before width p (u .0) (subst (λ (n : ℕ). u .0 < n) (eqb→eq a (leastBelow width p) (and-r _ _ t)) (u .1))) (u .2))))
-    (λ t. and-i _ _ (and-l _ _ t) (eqb-of (at (and-l _ _ t) (and-r _ _ t))))
-  where
-    k : ℕ
-    k = leastBelow width p
-
-    up : T (p a) → k ≤ a
-    up t = either (split (ltb a k)) (λ h. absurd (false→F (least-before width p a (ltb-true a k (T→true _ h))) t))
-        (λ h. ltb-false a k (F→false _ h))
-
-    down : T (p a) → T (non (someBelow a p)) → a ≤ k
-    down t n =
-        either (split (ltb k a))
-        (λ h.
-        let low : k < a = ltb-true k a (T→true _ h) in
-        absurd (non-e _ n (some-i a p k low (least-is width p (omega arith)))))
-        (λ h. ltb-false k a (F→false _ h))
-
-    at : T (p a) → T (non (someBelow a p)) → a ≡ k
-    at t n = omega (arith, up t, down t n)
+    (λ t.
+    and-i _ _ (and-l _ _ t)
+    (eqb-of (least-only width p a (omega arith) (λ h. and-l _ _ t)
+    (λ b lb h. either (split (ltb b a)) (λ q. absurd (non-e _ (and-r _ _ t) (some-i a p b (ltb-true b a (T→true _ q)) h)))
+    (λ q. ltb-false b a (F→false _ q))))))
 
 -- of a target's sources, as a row has them, the smallest is the rules' one
 pub smallest-read : (r : Relation) (t : ℕ) (p : ℕ → Bool) → ((s : ℕ) → s < width → p s ≡ r s t) → (s : ℕ) → s < width → smallest p s

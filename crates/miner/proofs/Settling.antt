@@ -84,6 +84,12 @@ both : (f k d h : Bool) → (f and k and non d or f and k and non h) ≡ (f and 
 unfolding _and_ _or_ non
 both = by4 (λ f k d h. f and k and non d or f and k and non h) (λ f k d h. f and k and non (d and h)) tt
 
+surely : (f k d h : Bool) → (T k → d ≡ false) → (f and k) ≡ (f and k and non (d and h))
+unfolding _and_ non
+surely true true d h n = sym (ap (λ (b : Bool). non (b and h)) (n tt))
+surely true false d h n = refl
+surely false k d h n = refl
+
 module _ (before laters includes : List ℕ) (u : ℕ) (F asked later : Set) (H : Relation) (hl : later ≡ rowAt laters u) where
   abbrev gone : Relation
   gone a x = mem F a and mem asked x and non (doubted before includes (rowAt laters u) a x and H a x)
@@ -104,16 +110,8 @@ module _ (before laters includes : List ℕ) (u : ℕ) (F asked later : Set) (H 
         (and-i _ _ (T-eq (ap (λ (s : Set). mem s (v .0)) (sym hl)) (and-l _ _ (and-l _ _ (v .2)))) (and-r _ _ (v .2))))))))
 
     pub no-doubt : (rows left : List ℕ) → Less rows (λ a x. mem F a and mem asked x) left → Less rows gone left
-    unfolding non _and_
-    no-doubt rows left l = less-as rows left _ _ (λ a x la lx. by a x lx (mem asked x) refl) l
-      where
-        by : (a x : ℕ) → x < width → (k : Bool) → mem asked x ≡ k
-            → (mem F a and k) ≡ (mem F a and k and non (doubted before includes (rowAt laters u) a x and H a x))
-        by a x lx true e =
-            sym (ap (λ (d : Bool). mem F a and true and non (d and H a x)) (none-in a x lx (true→T e)) ∙ and-true (mem F a and true))
-        by a x lx false e =
-            and-false (mem F a)
-            ∙ sym (ap (λ (c : Bool). c and non (doubted before includes (rowAt laters u) a x and H a x)) (and-false (mem F a)))
+    no-doubt rows left l =
+        less-as rows left _ _ (λ a x la lx. surely (mem F a) (mem asked x) _ (H a x) (none-in a x lx)) l
 
   pub in-doubt : (rows between left : List ℕ) → Less rows (λ a x. mem F a and mem asked x and non (doubted before includes later a x)) between
       → Less between (λ a x. mem F a and mem asked x and non (H a x)) left → Less rows gone left
@@ -126,6 +124,11 @@ module _ (before laters includes : List ℕ) (u : ℕ) (F asked later : Set) (H 
 
 -- ---- all that one u makes redundant
 
+where-so : (m k x : Bool) → (T m → k ≡ x) → (m and k) ≡ (x and m)
+unfolding _and_
+where-so true k x e = e tt ∙ sym (and-true x)
+where-so false k x e = sym (and-false x)
+
 module _ (tally followers includes excludes : List ℕ) (L : Traces) (u : ℕ) (F free out asked : Set) (rows : List ℕ) (b : Bool)
     (hF : F ≡ rowAt followers u) (hf : free ≡ those (λ x. inRow excludes u x and non (inRow includes u x)))
     (ho : out ≡ those (λ x. someBelow width (λ a. mem F a and inRow (tableAt rows 0) a x))) (ha : asked ≡ those (λ x. mem free x and mem out x))
@@ -133,10 +136,6 @@ module _ (tally followers includes excludes : List ℕ) (L : Traces) (u : ℕ) (
   abbrev safe : Relation
   safe a x =
       non (doubted (tableAt tally beforeTable) includes (rowAt (tableAt tally laterTable) u) a x and reopened includes u L a x)
-
-  member : (a x : ℕ) → x < width → inRow followers u x ≡ mem F x
-  unfolding inRow
-  member a x lx = ap (λ (s : Set). mem s x) (sym hF)
 
   -- a pair that is left from a member is asked for where u shuts its target out
   asked-where : (r : Relation) → rows ≡ rowsOf r → (a x : ℕ) → a < width → x < width → T (r a x) → T (mem F a)
@@ -154,19 +153,11 @@ module _ (tally followers includes excludes : List ℕ) (L : Traces) (u : ℕ) (
 
   same-gone : (r : Relation) → rows ≡ rowsOf r → (a x : ℕ) → a < width → x < width → T (r a x)
       → (mem F a and mem asked x and safe a x) ≡ redundantBy tally followers includes excludes L u a x
-  unfolding redundantBy _and_
-  same-gone r hr a x la lx t = by (mem F a) refl
-    where
-      by : (m : Bool) → mem F a ≡ m → (m and mem asked x and safe a x)
-          ≡ (inRow excludes u x and non (inRow includes u x) and inRow followers u a and safe a x)
-      by true e =
-          ap (λ (c : Bool). c and safe a x)
-          (asked-where r hr a x la lx t (true→T e) ∙ sym (and-true (inRow excludes u x and non (inRow includes u x)))
-          ∙ ap (λ (c : Bool). inRow excludes u x and non (inRow includes u x) and c) (sym (member x a la ∙ e)))
-      by false e =
-          sym (ap (λ (c : Bool). c and safe a x)
-          (ap (λ (c : Bool). inRow excludes u x and non (inRow includes u x) and c) (member x a la ∙ e)
-          ∙ and-false (inRow excludes u x and non (inRow includes u x))))
+  unfolding redundantBy inRow
+  same-gone r hr a x la lx t =
+      ap (λ (c : Bool). c and safe a x)
+      (where-so (mem F a) (mem asked x) _ (asked-where r hr a x la lx t)
+      ∙ ap (λ (s : Set). inRow excludes u x and non (inRow includes u x) and mem s a) hF)
 
   pub lost-by : (left : List ℕ) → Less rows (λ a x. mem F a and mem asked x and safe a x) left
       → Less rows (redundantBy tally followers includes excludes L u) left

@@ -3,7 +3,7 @@
 use mathlib.Core.Path.{_≡_, refl, sym, ap, _∙_}
 use mathlib.Core.Bool.{Bool, true, false}
 use mathlib.Core.List.{List, [], reverseAux}
-use Prim.Native.Nat.{ℕ, _+_, _*_, _≤_, _<_}
+use Prim.Native.Nat.{ℕ, _+_, _*_, _<_}
 use borrow.Author.Tests.{ltb-true, ltb-false}
 use lib.Dec.{T, ltb}
 use lib.ListN.{getD, set}
@@ -15,13 +15,13 @@ use Rattle.sets.specs.Tables.{tableAt, withRowIn, gainedIn}
 use Rattle.sets.specs.declared.set.Set.{Set}
 use Rattle.sets.proofs.Tests.{T→true, F→false, true→T, T-eq, split, either}
 use Rattle.sets.proofs.Tautologies.{by3}
-use Rattle.sets.proofs.Members.{those-ext, those-of, mem-those, empty-e}
+use Rattle.sets.proofs.Members.{those-ext, those-of, empty-e}
 use Rattle.sets.proofs.MadeSets.{is-those}
 use Rattle.sets.proofs.TableLaws.{table-row, table-put, table-put-above}
 use Rattle.rules.specs.Traces.{_has_}
 use Rattle.tally.specs.Passes.{notedIn, notSince, reaches, cut}
 use Rattle.tally.specs.Tallies.{unalternatedTable, noteSinceIn, sinceBy}
-use Rattle.tally.proofs.Turns.{seenIn}
+use Rattle.tally.proofs.Turns.{seenIn, noted-where}
 use Rattle.tally.proofs.Since.{since, since-all}
 
 -- what the row lacks and is not met, joined to the row, is what is not met joined to it
@@ -102,33 +102,16 @@ module _ (wide : Bool) (tables : List ℕ) (e : ℕ) (σ rest : List ℕ) (seen 
   past = reverseAux σ []
 
   member : (x : ℕ) → x < width → mem seen x ≡ past has x
-  member x l = ap (λ (s : Set). mem s x) hs ∙ mem-those (λ y. past has y) x l
+  member = is-those seen (λ y. past has y) hs
 
   pick : (x : ℕ) → x < width → (t : Bool) → past has e ≡ t → (when t then non (since e x [] past) else non (mem seen x)) ≡ non (since e x [] past)
   pick x l true q = refl
-  pick x l false q = ap non (member x l ∙ sym (since-all e x [] past none q))
-    where
-      none : [] has e ≡ false
-      none = unfold _has_ in refl
+  pick x l false q = ap non (member x l ∙ sym (since-all e x past q))
 
   pub since-is : sinceBy wide tables e σ seen ≡ noteSinceIn wide tables e past rest
-  unfolding sinceBy noteSinceIn notedIn cut notSince
-  since-is = either (split (ltb e width)) (λ l. inside (ltb-true e width (T→true _ l))) (λ g. outside (ltb-false e width (F→false _ g)))
-    where
-      k : ℕ
-      k = unalternatedTable
-
-      inside : e < width → withRowIn tables k e
-          (those (λ x. mem (rowAt (tableAt tables k) e) x or (reaches wide x and (when mem seen e then non (since e x [] past) else non (mem seen x)))))
-          ≡ withRowIn tables k e (those (λ x. mem (rowAt (tableAt tables k) e) x or (reaches wide x and non (since e x [] past))))
-      inside l =
-          ap (withRowIn tables k e)
-          (those-ext (λ x. mem (rowAt (tableAt tables k) e) x or (reaches wide x and (when mem seen e then non (since e x [] past) else non (mem seen x))))
-          (λ x. mem (rowAt (tableAt tables k) e) x or (reaches wide x and non (since e x [] past)))
-          (λ x lx. ap (λ (t : Bool). mem (rowAt (tableAt tables k) e) x or (reaches wide x and t))
-          (ap (λ (t : Bool). when t then non (since e x [] past) else non (mem seen x)) (member e l) ∙ pick x lx (past has e) refl)))
-
-      outside : width ≤ e → withRowIn tables k e
-          (those (λ x. mem (rowAt (tableAt tables k) e) x or (reaches wide x and (when mem seen e then non (since e x [] past) else non (mem seen x)))))
-          ≡ withRowIn tables k e (those (λ x. mem (rowAt (tableAt tables k) e) x or (reaches wide x and non (since e x [] past))))
-      outside g = sym (table-put-above tables k e _ g) ∙ table-put-above tables k e _ g
+  unfolding sinceBy noteSinceIn cut notSince
+  since-is =
+      noted-where tables unalternatedTable e _ _
+      (λ l x lx.
+      ap (λ (t : Bool). reaches wide x and t)
+      (ap (λ (t : Bool). when t then non (since e x [] past) else non (mem seen x)) (member e l) ∙ pick x lx (past has e) refl))

@@ -47,7 +47,7 @@ module _ {wide : Bool} {σ t₀ t blocks : List ℕ} {seen last : Set} {i : ℕ}
     part = take (i - 0) (drop 0 σ)
 
     pub known : blocks ≡ rowsOf (inBlock part)
-    known = inv .blocks-are ∙ ap (λ (l : List ℕ). rowsOf (inBlock l)) (sym (part-is σ i))
+    known = rw (part-is σ i) (inv .blocks-are)
 
     pub turn : (t′ blocks′ : List ℕ) (one seen′ : Set)
         → blocks′ ≡ rowsOf (λ j x. inBlock part j x or eqb j (length part / 8) and eqb x e)
@@ -59,11 +59,10 @@ module _ {wide : Bool} {σ t₀ t blocks : List ℕ} {seen last : Set} {i : ℕ}
           reached = omega arith;
           seen-is = seen-more _ _ seen one seen′ (inv .seen-is) ho hs ∙ ap seenIn (sym (past-next σ i h));
           last-is = ho ∙ ap lastIn (sym (past-next σ i h));
-          blocks-are = hb ∙ ap (λ (l : List ℕ). rowsOf (λ j x. inBlock l j x or eqb j (length l / 8) and eqb x e)) (part-is σ i) ∙ blocks-next σ i h;
+          blocks-are = (rw (part-is σ i) at hb) ∙ blocks-next σ i h;
           whole =
               forward-next (noteBoth wide) σ _ i t t′ h
-              (ht
-              ∙ ap (λ (l : List ℕ). sinceBy wide (pastBy wide t e seen last) e l seen) (part-is σ i)
+              ((rw (part-is σ i) at ht)
               ∙ since-is wide (pastBy wide t e seen last) e (take i σ) (drop (i + 1) σ) seen (inv .seen-is)
               ∙ ap (λ (l : List ℕ). noteSinceIn wide l e (pastAt σ i) (drop (i + 1) σ))
               (past-is wide t e (pastAt σ i) (drop (i + 1) σ) seen last (inv .seen-is) (inv .last-is)))

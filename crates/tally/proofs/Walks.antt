@@ -1,17 +1,15 @@
 -- A walk over the parts of a log's bytes: one part further, and the end. Assumes nothing.
-use Rattle.sets.specs.Members.{noSet}
-use mathlib.Core.Path.{_≡_, refl, sym, ap, _∙_}
-use mathlib.Core.Bool.{Bool, true, false}
+use Rattle.sets.specs.Members.{noSet, mem, those}
+use mathlib.Core.Path.{_≡_, sym, ap, _∙_}
+use mathlib.Core.Bool.{Bool}
 use mathlib.Core.List.{List, [], _∷_}
 use Prim.Native.Nat.{ℕ, suc, _+_, _-_, _≤_, _<_}
 use native.Mathlib.Omega.{arith}
 use native.Mathlib.Numerals.{add-one}
 use Rattle.sets.specs.Tests.{_or_}
-use Rattle.sets.specs.Members.{mem, those}
 use Rattle.sets.specs.declared.set.Set.{Set}
-use Rattle.sets.proofs.Members.{those-ext, those-of}
+use Rattle.sets.proofs.Members.{those-ext, those-of, mem-none}
 use Rattle.sets.proofs.Tests.{or-assoc, or-false, false-or}
-use Rattle.sets.proofs.Members.{mem-none}
 use Rattle.calllog.specs.Logs.{partAt}
 use Rattle.rules.specs.Traces.{Traces, _has_, someTrace}
 use Rattle.tally.specs.Passes.{through, walked}

@@ -16,9 +16,6 @@ Inv-loop trace last₀ all₀ i₀ last all i =
 abbrev μ-loop : tie.MeasureT-loop
 μ-loop trace last₀ all₀ i₀ last all i = length trace - i
 
-loop-holds : tie.Need-loop-holds Inv-loop μ-loop
-loop-holds c = (search needs, seen-none, refl)
-
 loop-again : tie.Need-loop-again Inv-loop μ-loop
 loop-again c =
     let t = c .before .before .before .before .loop-test .taken in
@@ -33,5 +30,5 @@ returns c =
 pub last-places-spec : {M : Type 1} → statement M
 last-places-spec =
     tie.close
-    (tie.spec Inv-loop μ-loop loop-holds (λ c. search needs) (λ c κs. search needs) (λ c κs. search needs) (λ c. search needs)
-    (λ c. search needs) loop-again returns)
+    (tie.spec Inv-loop μ-loop (λ c. (search needs, seen-none, refl)) (λ c. search needs) (λ c κs. search needs) (λ c κs. search needs)
+    (λ c. search needs) (λ c. search needs) loop-again returns)

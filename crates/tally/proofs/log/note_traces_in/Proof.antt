@@ -51,15 +51,6 @@ Inv-loop log traces wide tally₀ events₀ k₀ tally events k = Walked wide lo
 abbrev μ-loop : tie.MeasureT-loop
 μ-loop log traces wide tally₀ events₀ k₀ tally events k = traces - k
 
-loop-holds : tie.Need-loop-holds Inv-loop μ-loop
-loop-holds c = start _ _ _ _
-
-loop-again : tie.Need-loop-again Inv-loop μ-loop
-loop-again c =
-    let got = c .note-trace .ensures in
-    let cut = c .before .before in
-    turn (cut .before .before .loop .inv) (cut .before .loop-test .taken) _ (cut .trace-at .ensures) _ _ (got .0) (got .1)
-
 returns : tie.Need-returns Inv-loop μ-loop
 returns c =
     let inv = c .before .loop .inv in
@@ -69,4 +60,5 @@ returns c =
 pub note-traces-in-spec : {M : Type 1} → statement M
 note-traces-in-spec =
     tie.close
-    (tie.spec Inv-loop μ-loop loop-holds (λ c κs. search needs) (λ c κs. search needs) (λ c. search needs) (λ c. search needs) loop-again returns)
+    (tie.spec Inv-loop μ-loop (λ c. start _ _ _ _) (λ c κs. search needs) (λ c κs. search needs) (λ c. search needs) (λ c. search needs)
+    (λ c. search (turn, needs)) returns)

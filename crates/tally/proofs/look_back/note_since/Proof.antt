@@ -24,9 +24,6 @@ returns c =
     note-full _ _ _ _ _ _ _ _ _ (those-mem _ (search needs)) (wanted .before .before .row .ensures) (wanted .before .complement .ensures)
     (wanted .in-form .ensures) (c .before .is-empty .ensures) (c .if1 .taken)
 
-unmet-by-requires : tie.Need-unmet-by-requires
-unmet-by-requires c κs = (search needs, search (member-low, those-mem, needs))
-
 -- a repeat
 returns-2 : tie.Need-returns-2
 unfolding sinceBy
@@ -48,5 +45,6 @@ returns-3 c =
 pub note-since-spec : {M : Type 1} → statement M
 note-since-spec =
     tie.close
-    (tie.spec (λ c κs. search needs) (λ c κs. search needs) (λ c κs. search needs) (λ c κs. search needs) returns (λ c κs. search needs) unmet-by-requires
-    (λ c κs. search needs) (λ c κs. search needs) (λ c κs. search needs) (λ c κs. search needs) returns-2 returns-3)
+    (tie.spec (λ c κs. search needs) (λ c κs. search needs) (λ c κs. search needs) (λ c κs. search needs) returns (λ c κs. search needs)
+    (λ c κs. (search needs, search (member-low, those-mem, needs))) (λ c κs. search needs) (λ c κs. search needs) (λ c κs. search needs)
+    (λ c κs. search needs) returns-2 returns-3)
