@@ -138,10 +138,6 @@ module _ (wide : Bool) (L : Traces) (events : Set) (tally : List ℕ) where
     abbrev excludedOf : List ℕ
     excludedOf = rowsFor events (excluders events (tableAt tally beforeTable) (tableAt tally laterTable) (chainsOf events tally))
 
-    pub eight-four : Held (fourTables eightOf answersOf (includesIn wide p events tally L) afterSeven) eightOf answersOf
-        (includesIn wide p events tally L) afterSeven
-    eight-four = held-four _ _ _ _ (length-for events _) (length-for events _) (length-includes p) (length-rowsOf _)
-
     pub eight-by : (t t₁ t₂ t₃ t₄ t₅ t₆ t₇ : List ℕ) → t₁ ≡ withTable t 2 (rowsOf (turned (chainsOf events tally)))
         → t₂ ≡ withTable t₁ 3 excludedOf → t₃ ≡ withTable t₂ 3 (rowsOf (turned (withTable noRows 0 (tableAt t₂ 3))))
         → length t₄ ≡ length t₃
@@ -207,7 +203,7 @@ module _ (wide : Bool) (A : ℕ) (L : Traces) (p : Profile) (events : Set) (t₁
       → s ≡ openingOf events → opening ≡ marked events (inTables t₃) s → graphOf (headOf A events opening) t₃ ≡ graphFoundIn wide A L p
   unfolding graphFoundIn
   found-by hv h₁ h₂ h₃ hs ho =
-      let four = eight-four wide L events (talliedFor wide L) p in
+      let four = held-four _ _ _ _ (length-for events _) (length-for events _) (length-includes wide L events (talliedFor wide L) p) (length-rowsOf _) in
       let is = h₁ (length-replicate {A = ℕ} (relationCount * rowWords) 0) in
       let one : Held t₁ eight (answersOf wide L events (talliedFor wide L) p) included excluding = subst (λ (x : List ℕ). Held x eight
       (answersOf wide L events (talliedFor wide L) p) included excluding) (sym is) four in

@@ -24,10 +24,6 @@ by-target : (a b c d : Bool) → (a and (b and c and d)) ≡ (b and a and (false
 unfolding _and_ _or_ non
 by-target = by4 (λ a b c d. a and (b and c and d)) (λ a b c d. b and a and (false or c and d)) tt
 
-by-source : (a b c d : Bool) → (a and (b and c and d)) ≡ (a and b and (false or c and d))
-unfolding _and_ _or_ non
-by-source = by4 (λ a b c d. a and (b and c and d)) (λ a b c d. a and b and (false or c and d)) tt
-
 module _ (L : Traces) where
   abbrev pub events : Set
   events = those (event L)
@@ -49,7 +45,7 @@ module _ (L : Traces) where
       kept (answers L) _ (unanswered-table L)
       ∙ rowsOf-ext _ _
       (λ s t ls lt.
-      by-source (event L s) (event L t) (non (eqb t s)) (answers L s t)
+      by4 (λ a b c d. a and (b and c and d)) (λ a b c d. a and b and (false or c and d)) (unfold _and_ _or_ non in tt) (event L s) (event L t) (non (eqb t s)) (answers L s t)
       ∙ ap (λ (b : Bool). event L s and event L t and (false or non b and answers L s t)) (eqb-sym t s))
 
   pub chains-read : chainsOf events (tallied L) ≡ rowsOf (λ t s. afterFive L .includes s t)

@@ -31,7 +31,7 @@ use Rattle.miner.specs.Stages.{neverOf, fiveOf, excludesSix, followersOf
 use Rattle.miner.proofs.RowReadings.{turned-rows, absent-rows, united-rows, smallest-read}
 use Rattle.rules.proofs.Why.{Small}
 use Rattle.miner.proofs.OverLog.{reopened-is}
-use Rattle.miner.proofs.Losing.{under}
+use Rattle.miner.proofs.Losing.{where-so}
 use Rattle.miner.proofs.EarlySteps.{events, chains-read}
 
 -- ---- tests alone
@@ -49,30 +49,18 @@ in-events true x ev d =
     (some-ext width (λ u. ev u and true and (false or d u)) (λ u. ev u and d u)
     (λ u l. by2 (λ v w. v and true and (false or w)) (λ v w. v and w) tt (ev u) (d u)))
 
-twice : (e f q o k : Bool) → (e and f and (e and f and (false or q and o) or q and k)) ≡ (q and (e and f and (o or k)))
-unfolding _and_ _or_ non
-twice = by5 (λ e f q o k. e and f and (e and f and (false or q and o) or q and k)) (λ e f q o k. q and (e and f and (o or k))) tt
-
-itself : (e y : Bool) → (e and e and (true and (e and y) or false)) ≡ (e and y)
-unfolding _and_ _or_ non
-itself = by2 (λ e y. e and e and (true and (e and y) or false)) (λ e y. e and y) tt
-
-idem : (a b : Bool) → (a and a and b) ≡ (a and b)
-unfolding _and_ _or_ non
-idem = by2 (λ a b. a and a and b) (λ a b. a and b) tt
-
 two-others : (q a d d′ : Bool) → (q ≡ false → d ≡ d′) → (a and non q and d) ≡ (a and true and non q and d′)
 unfolding _and_ _or_ non
 two-others true a d d′ h = by4 (λ x z w v. x and false and z) (λ x z w v. x and true and false and w) tt a d d′ d
 two-others false a d d′ h = ap (λ (z : Bool). a and true and z) (h refl)
     ∙ by2 (λ x z. x and true and z) (λ x z. x and true and true and z) tt a d′
 
-all-among : (e f g c d : Bool) → g ≡ (e and f and g) → c ≡ (e and f and c) → d ≡ (e and f and d) → (e and f and (e and f and (g or c) or d))
-    ≡ (g or c or d)
+-- two tests of events alone, joined
+pub joined : (e f g b : Bool) → g ≡ (e and f and g) → b ≡ (e and f and b) → (g or b) ≡ (e and f and (g or b))
 unfolding _and_ _or_ non
-all-among true true g c d hg hc hd = refl
-all-among true false g c d hg hc hd = sym (nor _ _ (nor _ _ hg hc) hd)
-all-among false f g c d hg hc hd = sym (nor _ _ (nor _ _ hg hc) hd)
+joined true true g b hg hb = refl
+joined true false g b hg hb = nor _ _ hg hb
+joined false f g b hg hb = nor _ _ hg hb
 
 -- pairs that join a relation among events
 one-more : (e f g p : Bool) → g ≡ (e and f and g) → (e and (g or e and (f and p))) ≡ (e and f and (g or p))
@@ -86,11 +74,6 @@ pub first-too : (e f g p : Bool) → g ≡ (e and f and g) → (e and (g and p))
 unfolding _and_ _or_ non
 first-too true f g p h = refl
 first-too false f g p h = sym (ap (λ (x : Bool). x and p) h)
-
--- the tests of step 7 in the order of the rules
-as-asked : (e x i a l : Bool) → (e and (x and non i and (true and (e and a)) and non l)) ≡ (e and (x and a and non i and non l))
-unfolding _and_ _or_ non
-as-asked = by5 (λ e x i a l. e and (x and non i and (true and (e and a)) and non l)) (λ e x i a l. e and (x and a and non i and non l)) tt
 
 -- what excludes itself by step 1 or by step 3
 unfoldable pub selfExcluding : Traces → ℕ → Bool
@@ -108,10 +91,11 @@ module _ (L : Traces) where
   self-three : (s t : ℕ) → afterThree L .excludes s t ≡ (eqb s t and selfExcluding L s)
   unfolding step3 step2 step1 noRelations noPair _with_ selfExcluding
   self-three s t =
-      twice (event L s) (event L t) (eqb s t) (atMostOnce L s) (someEvent L (λ u. directlyBefore L u t))
+      by5 (λ e f q o k. e and f and (e and f and (false or q and o) or q and k)) (λ e f q o k. q and (e and f and (o or k))) (unfold _and_ _or_ non in tt)
+      (event L s) (event L t) (eqb s t) (atMostOnce L s) (someEvent L (λ u. directlyBefore L u t))
       ∙ at-same s t (λ n. event L s and event L n and (atMostOnce L s or someEvent L (λ u. directlyBefore L u n)))
       ∙ ap (λ (o : Bool). eqb s t and (event L s and event L s and (o or someEvent L (λ u. directlyBefore L u s)))) (once L s)
-      ∙ ap (λ (b : Bool). eqb s t and b) (idem (event L s) (non (before L s s) or someEvent L (λ u. directlyBefore L u s)))
+      ∙ ap (λ (b : Bool). eqb s t and b) (by2 (λ a b. a and a and b) (λ a b. a and b) (unfold _and_ _or_ non in tt) (event L s) _)
 
   self-four : (s : ℕ) → afterFour L .excludes s s ≡ selfExcluding L s
   unfolding step4 smallestSource neverTogether _with_ selfExcluding
@@ -119,7 +103,8 @@ module _ (L : Traces) where
       ap₂ (λ (g c : Bool). event L s and event L s and (g or c))
       (self-three s s ∙ ap (λ (q : Bool). q and selfExcluding L s) (T→true _ (eqb-refl s)))
       (F→false (smallestSource (neverTogether L) s s) (λ t. non-e (eqb s s) (and-r _ _ (and-l _ _ (and-l _ _ t))) (eqb-refl s)))
-      ∙ itself (event L s) (non (before L s s) or someEvent L (λ u. directlyBefore L u s))
+      ∙ by2 (λ e y. e and e and (true and (e and y) or false)) (λ e y. e and y) (unfold _and_ _or_ non in tt) (event L s)
+      (non (before L s s) or someEvent L (λ u. directlyBefore L u s))
 
   -- ---- what excludes a target, by the rows of the tally
 
@@ -177,12 +162,13 @@ module _ (L : Traces) where
       ≡ (afterThree L .excludes s t or smallestSource (neverTogether L) s t or smallestSource (closes L (afterFour L)) s t)
   unfolding afterFive step5 step4 step3 _with_ smallestSource neverTogether closes
   excludes-after-five s t =
-      all-among (event L s) (event L t) (afterThree L .excludes s t) (smallestSource (neverTogether L) s t)
-      (smallestSource (closes L (afterFour L)) s t)
+      let four = joined (event L s) (event L t) (afterThree L .excludes s t) (smallestSource (neverTogether L) s t)
       (with-events (step2 L (step1 L noRelations) .excludes) (λ x y. eqb x y and someEvent L (λ u. directlyBefore L u y)) s t)
-      (among _ _ _ (λ h. and-l _ _ (and-l _ _ (and-l _ _ (and-l _ _ h)))) (λ h. and-r _ _ (and-l _ _ (and-l _ _ (and-l _ _ h)))))
+      (among _ _ _ (λ h. and-l _ _ (and-l _ _ (and-l _ _ (and-l _ _ h)))) (λ h. and-r _ _ (and-l _ _ (and-l _ _ (and-l _ _ h))))) in
+      ap (λ (b : Bool). event L s and event L t and (b or smallestSource (closes L (afterFour L)) s t)) (sym four)
+      ∙ sym (joined (event L s) (event L t) _ (smallestSource (closes L (afterFour L)) s t) four
       (among _ _ _ (λ h. and-r _ _ (and-l _ _ (and-l _ _ (and-l _ _ (and-l _ _ h)))))
-      (λ h. and-l _ _ (and-l _ _ (and-l _ _ (and-l _ _ (and-l _ _ h))))))
+      (λ h. and-l _ _ (and-l _ _ (and-l _ _ (and-l _ _ (and-l _ _ h)))))))
 
   no-event : (s t : ℕ) → event L t ≡ false → false ≡ afterFive L .excludes s t
   unfolding afterFive step5 _with_
@@ -247,7 +233,8 @@ module _ (L : Traces) where
         ∙ simp (mem-those, in-rowsOf, reopened-is)
         (ap (λ (b : Bool). event L u and (six .excludes u t and non (six .includes u t) and (b and (event L u and alternates L u s))
         and non (letInBetween L six u s t))) es
-        ∙ as-asked (event L u) (six .excludes u t) (six .includes u t) (alternates L u s) (letInBetween L six u s t))
+        ∙ by5 (λ e x i a l. e and (x and non i and (true and (e and a)) and non l)) (λ e x i a l. e and (x and a and non i and non l))
+        (unfold _and_ _or_ non in tt) (event L u) (six .excludes u t) (six .includes u t) (alternates L u s) (letInBetween L six u s t))
 
     pub excludes-seven : sevenFrom (events L) (tallied L) includes (excludesSix p (events L) (tallied L)) L ≡ rowsOf (afterSeven L p .excludes)
     unfolding afterSeven step7 _without_ someEvent
@@ -255,5 +242,5 @@ module _ (L : Traces) where
         rowsOf-ext _ _
         (λ s t ls lt.
         ap₂ (λ (x y : Bool). x and non y) (ap (λ (rows : List ℕ). inRow rows s t) (excludes-six p) ∙ in-rowsOf (six .excludes) s t ls lt) refl
-        ∙ under (six .excludes s t) _ _
-        (λ h. some-ext width _ _ (λ u lu. redundant-read u s t lu ls lt (T→true _ (and-l _ _ (and-l _ _ (T-eq (six-events p s t) h)))))))
+        ∙ where-so (six .excludes s t) _ _
+        (λ h. ap non (some-ext width _ _ (λ u lu. redundant-read u s t lu ls lt (T→true _ (and-l _ _ (and-l _ _ (T-eq (six-events p s t) h))))))))

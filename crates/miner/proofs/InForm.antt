@@ -29,9 +29,10 @@ use Rattle.tally.proofs.WholeForm.{heard-in}
 use Rattle.tally.proofs.Tallying.{form-agrees}
 use Rattle.miner.specs.Facts.{letIn, beforeFirst, missed}
 use Rattle.miner.specs.Stages.{conditionsOf, chainsOf, responsesOf, neverOf, includesIn, includesSix, excludesSix, sevenFrom, waitedOf, waitedIn, fourTables, graphFound, graphFoundIn}
+use Rattle.miner.proofs.Losing.{where-so}
 use Rattle.miner.proofs.OverLog.{some-place, rest-event}
 use Rattle.miner.proofs.EarlySteps.{events}
-use Rattle.miner.proofs.AtEvents.{AgreeIn, AgreeAt, where-so, tables-at}
+use Rattle.miner.proofs.AtEvents.{AgreeIn, AgreeAt, tables-at}
 
 module _ (A : ℕ) (L : Traces) (ok : Accepted A L) where
   event-below : (a : ℕ) → T (event L a) → a < A
@@ -64,17 +65,13 @@ module _ (A : ℕ) (L : Traces) (ok : Accepted A L) where
       ∙ in-rowsOf (heard q L) a x la lx in
       said (cut (ltb word A) p) ∙ heard-in (ltb word A) p L a x (all-reached x (T-eq (mem-those (event L) x lx) tx)) ∙ sym (said p)
 
-  waited-as : (eight first first′ unmet unmet′ : List ℕ) → AgreeIn E first first′ → AgreeIn E unmet unmet′
-      → rowsFor E (waited E eight first unmet) ≡ rowsFor E (waited E eight first′ unmet′)
-  unfolding rowsFor waited
-  waited-as eight first first′ unmet unmet′ hf hu =
-      rowsOf-ext _ _ (λ a x la lx. where-so (mem E a) _ _ (λ ta. where-so (mem E x) _ _
-      (λ tx. ap₂ (λ (f u : Bool). inRow eight a x or non (eqb x a) and f and non u) (hf a x la lx ta tx) (hu a x la lx ta tx))))
-
   waited-form : (eight includes excludes : List ℕ) → waitedIn (ltb word A) E eight includes excludes L ≡ waitedOf E eight includes excludes L
+  unfolding rowsFor waited
   waited-form eight includes excludes =
       ap (λ (rows : List ℕ). rowsFor E (reducedOf rows))
-      (waited-as eight _ _ _ _ (walk-at beforeFirst) (walk-at (missed E includes excludes)))
+      (rowsOf-ext _ _ (λ a x la lx. where-so (mem E a) _ _ (λ ta. where-so (mem E x) _ _
+      (λ tx. ap₂ (λ (f u : Bool). inRow eight a x or non (eqb x a) and f and non u) (walk-at beforeFirst a x la lx ta tx)
+      (walk-at (missed E includes excludes) a x la lx ta tx)))))
 
   -- ---- step 6
 

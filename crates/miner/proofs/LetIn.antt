@@ -32,16 +32,6 @@ row-below rows s x t =
     either (split (ltb s width)) (λ l. ltb-true s width (T→true _ l))
     (λ g. absurd (false→F (ap (λ (r : Set). mem r x) (sym (row-out rows s (ltb-false s width (F→false _ g)))) ∙ mem-none x) t))
 
--- ---- tests alone
-
-or-in-form : (g b r : Bool) → (g and b or g and r) ≡ (g and (b or r))
-unfolding _and_ _or_ non
-or-in-form = by3 (λ g b r. g and b or g and r) (λ g b r. g and (b or r)) tt
-
-form-first : (h g b : Bool) → (h and (g and b)) ≡ (g and (h and b))
-unfolding _and_ _or_ non
-form-first = by3 (λ h g b. h and (g and b)) (λ h g b. g and (h and b)) tt
-
 module _ (unfollowed : List ℕ) where
   -- x never directly follows something that stands in the past
   abbrev barredAt : List ℕ → ℕ → Bool
@@ -102,7 +92,8 @@ module _ {wide : Bool} {σ unfollowed rows₀ rows : List ℕ} {after barred : S
             hb ∙ those-of barred (λ x. reaches wide x and barredAt unfollowed (pastAt σ i) x)
             (λ x t. t or reaches wide x and inRow unfollowed (getD σ i 0) x) (inv .barred-is)
             ∙ those-ext _ (λ x. reaches wide x and barredAt unfollowed (getD σ i 0 ∷ pastAt σ i) x)
-            (λ x l. or-in-form (reaches wide x) (barredAt unfollowed (pastAt σ i) x) (inRow unfollowed (getD σ i 0) x)
+            (λ x l. by3 (λ g b r. g and b or g and r) (λ g b r. g and (b or r)) (unfold _and_ _or_ non in tt)
+            (reaches wide x) (barredAt unfollowed (pastAt σ i) x) (inRow unfollowed (getD σ i 0) x)
             ∙ ap (λ (t : Bool). reaches wide x and t) (barred-more unfollowed (pastAt σ i) (getD σ i 0) x))
             ∙ ap (barredIn unfollowed wide) (sym (past-next σ i h));
         whole =
@@ -111,7 +102,7 @@ module _ {wide : Bool} {σ unfollowed rows₀ rows : List ℕ} {after barred : S
             (λ l x k.
             ap₂ _and_ (is-those later (λ y. drop (i + 1) σ has y) rest x k)
             (is-those barred (λ y. reaches wide y and barredAt unfollowed (pastAt σ i) y) (inv .barred-is) x k)
-            ∙ form-first (drop (i + 1) σ has x) (reaches wide x) (barredAt unfollowed (pastAt σ i) x))
+            ∙ by3 (λ h g b. h and (g and b)) (λ h g b. g and (h and b)) (unfold _and_ _or_ non in tt) (drop (i + 1) σ has x) (reaches wide x) (barredAt unfollowed (pastAt σ i) x))
             hr)
             (inv .whole);
       }

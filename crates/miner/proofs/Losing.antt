@@ -25,19 +25,11 @@ Same g h = (a x : ℕ) → a < width → x < width → g a x ≡ h a x
 
 -- ---- one loss, and one after another
 
-non-or : (r g h : Bool) → (r and non g and non h) ≡ (r and non (g or h))
-unfolding _and_ _or_ non
-non-or = by3 (λ r g h. r and non g and non h) (λ r g h. r and non (g or h)) tt
-
--- of a pair that stands in the rows it may be said otherwise whether it is gone
-pub under : (r g h : Bool) → (T r → g ≡ h) → (r and non g) ≡ (r and non h)
+-- what is asked only where a test passes
+pub where-so : (g d d′ : Bool) → (T g → d ≡ d′) → (g and d) ≡ (g and d′)
 unfolding _and_
-under true g h e = ap non (e tt)
-under false g h e = refl
-
-twice : (f g : Bool) → (f and (f and g)) ≡ (f and g)
-unfolding _and_ _or_ non
-twice = by2 (λ f g. f and (f and g)) (λ f g. f and g) tt
+where-so true d d′ h = h tt
+where-so false d d′ h = refl
 
 module _ (rows : List ℕ) where
   -- what is gone may be said otherwise, where the rows have it
@@ -54,7 +46,9 @@ module _ (rows : List ℕ) where
   less-none left g l e r hr = l ∙ hr ∙ rowsOf-ext _ _ (λ a x la lx. sym (ap (λ (b : Bool). r a x and non b) (e a x la lx) ∙ and-true (r a x)))
 
   pub less-more : (left left′ : List ℕ) (g h : Relation) → Less rows g left → Less left h left′ → Less rows (λ a x. g a x or h a x) left′
-  less-more left left′ g h l m r hr = m (λ a x. r a x and non (g a x)) (l r hr) ∙ rowsOf-ext _ _ (λ a x la lx. non-or (r a x) (g a x) (h a x))
+  less-more left left′ g h l m r hr =
+      m (λ a x. r a x and non (g a x)) (l r hr)
+      ∙ rowsOf-ext _ _ (λ a x la lx. by3 (λ r g h. r and non g and non h) (λ r g h. r and non (g or h)) (unfold _and_ _or_ non in tt) (r a x) (g a x) (h a x))
 
   -- row k loses a set
   pub less-row : (left : List ℕ) (k : ℕ) (gone : Set) → left ≡ withRow rows k (those (λ b. mem (rowAt rows k) b and non (mem gone b)))
@@ -81,7 +75,8 @@ module _ (rows : List ℕ) where
       less-by left _ h
       (λ r hr a x la lx.
       ap (λ (b : Bool). r a x and non b)
-      (ap (λ (l : List ℕ). mem F a and inRow l a x) hg ∙ ap (λ (b : Bool). mem F a and b) (in-rowsOf _ a x la lx) ∙ twice (mem F a) (G a x))
+      (ap (λ (l : List ℕ). mem F a and inRow l a x) hg ∙ ap (λ (b : Bool). mem F a and b) (in-rowsOf _ a x la lx)
+      ∙ by2 (λ f g. f and (f and g)) (λ f g. f and g) (unfold _and_ _or_ non in tt) (mem F a) (G a x))
       ∙ e r hr a x la lx) l
 
 -- ---- a loss for each member of a set, the least first

@@ -13,11 +13,11 @@ use Rattle.sets.proofs.Members.{mem-those}
 use Rattle.sets.proofs.RowLaws.{row-mem, in-rowsOf}
 use Rattle.engine.specs.Relations.{Relations}
 use Rattle.rules.specs.Traces.{Traces, _has_, atSomeFrom, atSome, someTrace}
-use Rattle.rules.specs.Mining.{event, someEvent, before, followed, between, letInBetween, includedAfter, neverMissed, beforeFirst as rule-beforeFirst}
+use Rattle.rules.specs.Mining.{event, someEvent, before, followed, between, letInBetween, includedAfter, neverMissed}
 use Rattle.rules.proofs.Places.{some-at, has-first, has-rest, has-past, some-of, some-trace}
 use Rattle.rules.proofs.Why.{Small, some-event, the-event}
 use Rattle.rules.proofs.InTurn.{is-event}
-use Rattle.miner.specs.Facts.{letIn, letInSince, reopened, doubted, beforeFirst, stillIncluded, missed}
+use Rattle.miner.specs.Facts.{letIn, letInSince, reopened, doubted, stillIncluded, missed}
 use Rattle.tally.proofs.Folds.{heard}
 use Rattle.tally.specs.Passes.{isLater}
 use Rattle.tally.proofs.LogLaws.{non-every, before-later}
@@ -173,10 +173,6 @@ module _ (L : Traces) where
 
   -- ---- step 9
 
-  pub before-first-is : (s t : ℕ) → heard beforeFirst L t s ≡ rule-beforeFirst L s t
-  unfolding beforeFirst rule-beforeFirst
-  before-first-is s t = refl
-
   module _ (g : Relations) (s : ℕ) (ls : s < width) where
     -- the replay on sets and rows is the rules', where all that came is below the width
     still-is : (past : List ℕ) → ((a : ℕ) → T (past has a) → a < width)
@@ -189,10 +185,6 @@ module _ (L : Traces) where
         (ap₂ _and_ (still-is past (λ a h. small a (or-r _ _ h))) (ap non (in-rowsOf (g .excludes) y s ly ls)))
         (in-rowsOf (g .includes) y s ly ls)
 
-    waits : (a b : Bool) → (non a and b) ≡ non (a or non b)
-    unfolding _and_ _or_ non
-    waits = by2 (λ a b. non a and b) (λ a b. non (a or non b)) tt
-
     -- what is missed at some t is what the step's test says no to
     pub missed-is : Small L → (t : ℕ)
         → heard (missed (those (event L)) (rowsOf (g .includes)) (rowsOf (g .excludes))) L t s ≡ non (neverMissed L g s t)
@@ -203,5 +195,5 @@ module _ (L : Traces) where
         (λ past rest m.
         ap (λ (b : Bool). non (past has s) and b)
         (still-is past (λ a h. small a (is-event L a m (has-past a past (t ∷ rest) h))))
-        ∙ waits (past has s) (includedAfter L g past s))
+        ∙ by2 (λ a b. non a and b) (λ a b. non (a or non b)) (unfold _and_ _or_ non in tt) (past has s) (includedAfter L g past s))
         ∙ sym (non-every t (λ past rest. past has s or non (includedAfter L g past s)) L)

@@ -3,7 +3,7 @@ use mathlib.Core.Path.{_≡_, refl, sym, ap, ap₂, _∙_}
 use mathlib.Core.Bool.{Bool, true, false}
 use mathlib.Core.List.{List, [], _∷_}
 use Prim.Native.Nat.{ℕ, _+_, _-_, _≤_, _<_}
-use lib.Dec.{T, eqb}
+use lib.Dec.{eqb}
 use lib.ListN.{length, getD, drop, drop-of-length-le}
 use Rattle.sets.specs.Tests.{_and_, _or_, non}
 use Rattle.sets.specs.Members.{width, mem, those, someBelow, isEmpty, noSet}
@@ -146,23 +146,17 @@ module _ (includes : List ℕ) (u : ℕ) where
       unfolding rowsFor
       walk-short b c hb done r hr = now ∙ rowsOf-ext _ _ (λ a x la lx. nothing a x la lx ∙ sym (nor a x la lx))
         where
-          g : Relation
-          g = t .0
-
-          now : rows ≡ rowsOf (λ a x. mem F a and r a x and non (g a x))
+          now : rows ≡ rowsOf (λ a x. mem F a and r a x and non (t .0 a x))
           now = t .1 (λ a x. mem F a and r a x) hr
 
-          empty : T (isEmpty (those (λ x. someBelow width (λ a. mem F a and inRow (tableAt rows 0) a x))))
-          empty = and-r _ _ (true→T (sym hb ∙ done))
-
-          in-row : (a x : ℕ) → a < width → x < width → inRow (tableAt rows 0) a x ≡ (mem F a and r a x and non (g a x))
+          in-row : (a x : ℕ) → a < width → x < width → inRow (tableAt rows 0) a x ≡ (mem F a and r a x and non (t .0 a x))
           in-row a x la lx =
               ap (λ (l : List ℕ). inRow (tableAt l 0) a x) now ∙ ap (λ (l : List ℕ). inRow l a x) (table-rowsOf _) ∙ in-rowsOf _ a x la lx
 
-          nothing : (a x : ℕ) → a < width → x < width → (mem F a and r a x and non (g a x)) ≡ false
+          nothing : (a x : ℕ) → a < width → x < width → (mem F a and r a x and non (t .0 a x)) ≡ false
           nothing a x la lx =
               F→false _
-              (λ q. empty-e _ empty x lx
+              (λ q. empty-e _ (and-r _ _ (true→T (sym hb ∙ done))) x lx
               (T-eq (sym (mem-those _ x lx))
               (some-i width (λ v. mem F v and inRow (tableAt rows 0) v x) a la
               (and-i _ _ (and-l _ _ (and-l _ _ q)) (T-eq (sym (in-row a x la lx)) q)))))

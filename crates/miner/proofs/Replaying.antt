@@ -19,16 +19,6 @@ use Rattle.tally.proofs.Turns.{pastAt, past-next, seenIn, seen-none, joined-by,
 use Rattle.miner.proofs.Gains.{gains-below, seen-next}
 use Rattle.sets.proofs.MadeSets.{is-those}
 
--- ---- tests alone
-
-kept-or-come : (g s o i : Bool) → (g and s and non o or g and i) ≡ (g and (s and non o or i))
-unfolding _and_ _or_ non
-kept-or-come = by4 (λ g s o i. g and s and non o or g and i) (λ g s o i. g and (s and non o or i)) tt
-
-not-yet : (g s h : Bool) → (g and s and non h) ≡ (g and (non h and s))
-unfolding _and_ _or_ non
-not-yet = by3 (λ g s h. g and s and non h) (λ g s h. g and (non h and s)) tt
-
 -- ---- what a turn's functions give
 -- what e excludes goes, then what it includes comes
 pub included-by : (wide : Bool) (included kept r in-row come out-row : Set) (includes excludes : List ℕ) (e : ℕ)
@@ -92,7 +82,8 @@ module _ {wide : Bool} {σ : List ℕ} {events : Set} {includes excludes first�
             ht
             ∙ those-of included (λ x. reaches wide x and stillIncluded events includes excludes (pastAt σ i) x)
             (λ x t. t and non (inRow excludes (getD σ i 0) x) or reaches wide x and inRow includes (getD σ i 0) x) (inv .included-is)
-            ∙ those-ext _ _ (λ x l. kept-or-come (reaches wide x) (stillIncluded events includes excludes (pastAt σ i) x) _ _)
+            ∙ those-ext _ _ (λ x l. by4 (λ g s o i. g and s and non o or g and i) (λ g s o i. g and (s and non o or i)) (unfold _and_ _or_ non in tt)
+            (reaches wide x) (stillIncluded events includes excludes (pastAt σ i) x) _ _)
             ∙ ap (openAfter wide events includes excludes) (sym (past-next σ i h));
         ahead = forward-next (gains (cut wide beforeFirst)) σ _ i first first′ h
             (gains-below (cut wide beforeFirst) first (getD σ i 0) (pastAt σ i) (drop (i + 1) σ) _ first′
@@ -100,6 +91,7 @@ module _ {wide : Bool} {σ : List ℕ} {events : Set} {includes excludes first�
             (inv .ahead);
         waiting = forward-next (gains (cut wide (missed events includes excludes))) σ _ i unmet unmet′ h
             (gains-below (cut wide (missed events includes excludes)) unmet (getD σ i 0) (pastAt σ i) (drop (i + 1) σ) _ unmet′
-            (λ l x k. ap₂ (λ (s t : Bool). s and non t) (included-in x k) (seen-in x k) ∙ not-yet (reaches wide x) _ _) hu)
+            (λ l x k. ap₂ (λ (s t : Bool). s and non t) (included-in x k) (seen-in x k)
+            ∙ by3 (λ g s h. g and s and non h) (λ g s h. g and (non h and s)) (unfold _and_ _or_ non in tt) (reaches wide x) _ _) hu)
             (inv .waiting);
       }

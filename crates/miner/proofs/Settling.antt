@@ -10,7 +10,7 @@ use Rattle.sets.specs.Members.{width, mem, those, someBelow, isEmpty}
 use Rattle.sets.specs.Rows.{Relation, rowAt, inRow, rowsOf, rowsFor}
 use Rattle.sets.specs.Tables.{tableAt}
 use Rattle.sets.specs.declared.set.Set.{Set}
-use Rattle.sets.proofs.Tests.{and-l, and-r, and-i, T-eq, T→true, true→T, F→false, and-true, and-false, and-assoc, true-and, false-and}
+use Rattle.sets.proofs.Tests.{and-l, and-r, and-i, T-eq, T→true, true→T, F→false, and-true, and-comm, and-assoc, true-and, false-and}
 use Rattle.sets.proofs.Tautologies.{by3, by4}
 use Rattle.sets.proofs.Below.{some-i, some-e, some-ext}
 use Rattle.sets.proofs.Members.{empty-e}
@@ -21,7 +21,7 @@ use Rattle.rules.specs.Traces.{Traces}
 use Rattle.tally.specs.Tallies.{beforeTable, laterTable}
 use Rattle.miner.specs.Facts.{Less, doubted, reopened}
 use Rattle.miner.specs.Stages.{followersOf, redundantBy}
-use Rattle.miner.proofs.Losing.{under, less-by, less-as, less-none, less-more, less-rows, byPassed, each-end}
+use Rattle.miner.proofs.Losing.{where-so, less-by, less-as, less-none, less-more, less-rows, byPassed, each-end}
 
 -- what something after u and before a lets in
 pub doubted-is : (before includes : List ℕ) (a : ℕ) (later row between out : Set) → row ≡ rowAt before a
@@ -43,14 +43,6 @@ asked-empty n m s out b h ho hb = hb ∙ ap isEmpty ho ∙ sym (ap (λ (t : Bool
 
 -- ---- what is asked, of the members' rows
 
-again : (r f k : Bool) → (r and non (f and (r and k))) ≡ (r and non (f and k))
-unfolding _and_ _or_ non
-again = by3 (λ r f k. r and non (f and (r and k))) (λ r f k. r and non (f and k)) tt
-
-still : (r f k h : Bool) → (r and non (f and (r and k and non h))) ≡ (r and non (f and k and non h))
-unfolding _and_ _or_ non
-still = by4 (λ r f k h. r and non (f and (r and k and non h))) (λ r f k h. r and non (f and k and non h)) tt
-
 module _ (F asked : Set) (rows left gone : List ℕ) where
   -- all of it
   pub asked-lost : gone ≡ rowsFor F (λ a x. inRow rows a x and mem asked x) → Less rows (λ a x. mem F a and inRow gone a x) left
@@ -59,7 +51,7 @@ module _ (F asked : Set) (rows left gone : List ℕ) where
       less-rows rows left gone F _ _ hg l
       (λ r hr a x la lx.
       ap (λ (b : Bool). r a x and non (mem F a and (b and mem asked x))) (ap (λ (q : List ℕ). inRow q a x) hr ∙ in-rowsOf r a x la lx)
-      ∙ again (r a x) (mem F a) (mem asked x))
+      ∙ by3 (λ r f k. r and non (f and (r and k))) (λ r f k. r and non (f and k)) (unfold _and_ _or_ non in tt) (r a x) (mem F a) (mem asked x))
 
   -- what is not in doubt
   pub sure-lost : (D : Relation) → gone ≡ rowsFor F (λ a x. mem asked x and non (D a x)) → Less rows (λ a x. mem F a and inRow gone a x) left
@@ -76,13 +68,10 @@ module _ (F asked : Set) (rows left gone : List ℕ) where
       less-rows rows left gone F _ _ (hg _ hd) l
       (λ r hr a x la lx.
       ap (λ (b : Bool). r a x and non (mem F a and (b and mem asked x and non (H a x)))) (ap (λ (q : List ℕ). inRow q a x) hr ∙ in-rowsOf r a x la lx)
-      ∙ still (r a x) (mem F a) (mem asked x) (H a x))
+      ∙ by4 (λ r f k h. r and non (f and (r and k and non h))) (λ r f k h. r and non (f and k and non h)) (unfold _and_ _or_ non in tt)
+      (r a x) (mem F a) (mem asked x) (H a x))
 
 -- ---- with doubt and without
-
-both : (f k d h : Bool) → (f and k and non d or f and k and non h) ≡ (f and k and non (d and h))
-unfolding _and_ _or_ non
-both = by4 (λ f k d h. f and k and non d or f and k and non h) (λ f k d h. f and k and non (d and h)) tt
 
 surely : (f k d h : Bool) → (T k → d ≡ false) → (f and k) ≡ (f and k and non (d and h))
 unfolding _and_ non
@@ -119,15 +108,11 @@ module _ (before laters includes : List ℕ) (u : ℕ) (F asked later : Set) (H 
       less-as rows left _ _
       (λ a x la lx.
       ap (λ (s : Set). mem F a and mem asked x and non (doubted before includes s a x) or mem F a and mem asked x and non (H a x)) hl
-      ∙ both (mem F a) (mem asked x) (doubted before includes (rowAt laters u) a x) (H a x))
+      ∙ by4 (λ f k d h. f and k and non d or f and k and non h) (λ f k d h. f and k and non (d and h)) (unfold _and_ _or_ non in tt)
+      (mem F a) (mem asked x) (doubted before includes (rowAt laters u) a x) (H a x))
       (less-more rows between left _ _ l m)
 
 -- ---- all that one u makes redundant
-
-where-so : (m k x : Bool) → (T m → k ≡ x) → (m and k) ≡ (x and m)
-unfolding _and_
-where-so true k x e = e tt ∙ sym (and-true x)
-where-so false k x e = sym (and-false x)
 
 module _ (tally followers includes excludes : List ℕ) (L : Traces) (u : ℕ) (F free out asked : Set) (rows : List ℕ) (b : Bool)
     (hF : F ≡ rowAt followers u) (hf : free ≡ those (λ x. inRow excludes u x and non (inRow includes u x)))
@@ -157,11 +142,12 @@ module _ (tally followers includes excludes : List ℕ) (L : Traces) (u : ℕ) (
   same-gone r hr a x la lx t =
       ap (λ (c : Bool). c and safe a x)
       (where-so (mem F a) (mem asked x) _ (asked-where r hr a x la lx t)
+      ∙ and-comm _ _
       ∙ ap (λ (s : Set). inRow excludes u x and non (inRow includes u x) and mem s a) hF)
 
   pub lost-by : (left : List ℕ) → Less rows (λ a x. mem F a and mem asked x and safe a x) left
       → Less rows (redundantBy tally followers includes excludes L u) left
-  lost-by left l = less-by rows left _ _ (λ r hr a x la lx. under (r a x) _ _ (same-gone r hr a x la lx)) l
+  lost-by left l = less-by rows left _ _ (λ r hr a x la lx. where-so (r a x) _ _ (λ t. ap non (same-gone r hr a x la lx t))) l
 
   pub none-lost : not b ≡ false → Less rows (redundantBy tally followers includes excludes L u) rows
   none-lost n =

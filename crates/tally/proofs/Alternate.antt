@@ -24,11 +24,6 @@ use Rattle.tally.specs.Tallies.{unalternatedTable, noteSinceIn, sinceBy}
 use Rattle.tally.proofs.Turns.{seenIn, noted-where}
 use Rattle.tally.proofs.Since.{since, since-all}
 
--- what the row lacks and is not met, joined to the row, is what is not met joined to it
-absorb : (a r n : Bool) → (a or (r and non a and n)) ≡ (a or (r and n))
-unfolding _and_ _or_ non
-absorb = by3 (λ a r n. a or (r and non a and n)) (λ a r n. a or (r and n)) tt
-
 module _ (wide : Bool) (tables : List ℕ) (k e : ℕ) (past : List ℕ) (seen : Set) (r : Bool) (hr : r ≡ mem seen e) (out : List ℕ) where
   abbrev old : ℕ → Bool
   old x = mem (rowAt (tableAt tables k) e) x
@@ -49,7 +44,7 @@ module _ (wide : Bool) (tables : List ℕ) (k e : ℕ) (past : List ℕ) (seen :
       ∙ ap (λ (s : Set). those (λ x. old x or (reaches wide x and non (mem s x) and notSince e past [] x))) hrow
       ∙ those-ext (λ x. old x or (reaches wide x and non (old x) and notSince e past [] x)) (λ x. old x or (reaches wide x and choice x))
       (λ x l.
-      absorb (old x) (reaches wide x) (notSince e past [] x)
+      by3 (λ a r n. a or (r and non a and n)) (λ a r n. a or (r and n)) (unfold _and_ _or_ non in tt) (old x) (reaches wide x) (notSince e past [] x)
       ∙ ap (λ (t : Bool). old x or (reaches wide x and (when t then notSince e past [] x else non (mem seen x)))) (sym ht ∙ hr)))
 
   pub note-first : (unseen others : Set) → r ≡ false → unseen ≡ those (λ x. non (mem seen x)) → others ≡ those (λ x. reaches wide x and mem unseen x)

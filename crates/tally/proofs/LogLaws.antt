@@ -35,14 +35,12 @@ unfolding someTrace
 some-ext [] p q h = refl
 some-ext (σ ∷ L) p q h = ap₂ _or_ (h σ) (some-ext L p q h)
 
-or-swap : (a b c d : Bool) → (a or b or (c or d)) ≡ (a or c or (b or d))
-unfolding _and_ _or_ non
-or-swap = by4 (λ a b c d. a or b or (c or d)) (λ a b c d. a or c or (b or d)) tt
-
 pub some-or : (L : Traces) (p q : List ℕ → Bool) → someTrace L (λ σ. p σ or q σ) ≡ (someTrace L p or someTrace L q)
-unfolding someTrace _or_
+unfolding someTrace _and_ _or_ non
 some-or [] p q = refl
-some-or (σ ∷ L) p q = ap (λ (t : Bool). p σ or q σ or t) (some-or L p q) ∙ or-swap (p σ) (q σ) (someTrace L p) (someTrace L q)
+some-or (σ ∷ L) p q =
+    ap (λ (t : Bool). p σ or q σ or t) (some-or L p q)
+    ∙ by4 (λ a b c d. a or b or (c or d)) (λ a b c d. a or c or (b or d)) tt (p σ) (q σ) (someTrace L p) (someTrace L q)
 
 -- not at each place is at some place not
 pub non-every : (t : ℕ) (p : List ℕ → List ℕ → Bool) (L : Traces) → non (everyTrace L (atEach t p))
@@ -65,17 +63,14 @@ once L s =
 
 -- a pair is met at its second place with the first behind it, or it was open before, or it is met from its first place on
 module _ (s t : ℕ) where
-  swap : (e p m r a : Bool) → (e and p or ((m or p) and r or a)) ≡ (p and (e or r) or (m and r or a))
-  unfolding _and_ _or_ non
-  swap = by5 (λ e p m r a. e and p or ((m or p) and r or a)) (λ e p m r a. p and (e or r) or (m and r or a)) tt
-
   pub later-from : (past rest : List ℕ)
       → atSomeFrom t (λ q r. q has s) past rest ≡ (past has s and rest has t or atSomeFrom s (λ q r. r has t) past rest)
   unfolding atSomeFrom _has_
   later-from past [] = sym (or-false _ ∙ and-false (past has s))
   later-from past (x ∷ rest) =
       ap (λ (b : Bool). eqb t x and past has s or b) (later-from (x ∷ past) rest)
-      ∙ swap (eqb t x) (past has s) (eqb s x) (rest has t) (atSomeFrom s (λ q r. r has t) (x ∷ past) rest)
+      ∙ by5 (λ e p m r a. e and p or ((m or p) and r or a)) (λ e p m r a. p and (e or r) or (m and r or a)) (unfold _and_ _or_ non in tt)
+      (eqb t x) (past has s) (eqb s x) (rest has t) (atSomeFrom s (λ q r. r has t) (x ∷ past) rest)
 
   pub later-all : (σ : List ℕ) → atSome t (λ q r. q has s) σ ≡ atSome s (λ q r. r has t) σ
   unfolding _and_ _or_ _has_

@@ -22,13 +22,9 @@ loop-again c =
     let v = c .before .before .before .before .before .loop .inv in
     (search needs, seen-next _ _ t _ (v .1) _ (c .and-then .ensures), places-next _ _ _ _ (v .2) _ t (c .before .put-place .ensures))
 
-returns : tie.Need-returns Inv-loop μ-loop
-returns c =
-    let v = c .before .loop .inv in
-    (seen-all _ _ _ (c .loop-test .left) (v .1), places-end _ _ _ _ (v .2) (c .loop-test .left))
-
 pub last-places-spec : {M : Type 1} → statement M
 last-places-spec =
     tie.close
     (tie.spec Inv-loop μ-loop (λ c. (search needs, seen-none, refl)) (λ c. search needs) (λ c κs. search needs) (λ c κs. search needs)
-    (λ c. search needs) (λ c. search needs) loop-again returns)
+    (λ c. search needs) (λ c. search needs) loop-again
+    (λ c. let v = c .before .loop .inv in (seen-all _ _ _ (c .loop-test .left) (v .1), places-end _ _ _ _ (v .2) (c .loop-test .left))))

@@ -51,6 +51,12 @@ Inv-loop log traces wide tally₀ events₀ k₀ tally events k = Walked wide lo
 abbrev μ-loop : tie.MeasureT-loop
 μ-loop log traces wide tally₀ events₀ k₀ tally events k = traces - k
 
+loop-holds : tie.Need-loop-holds Inv-loop μ-loop
+loop-holds c = start _ _ _ _
+
+loop-again : tie.Need-loop-again Inv-loop μ-loop
+loop-again c = search (turn, needs)
+
 returns : tie.Need-returns Inv-loop μ-loop
 returns c =
     let inv = c .before .loop .inv in
@@ -60,5 +66,5 @@ returns c =
 pub note-traces-in-spec : {M : Type 1} → statement M
 note-traces-in-spec =
     tie.close
-    (tie.spec Inv-loop μ-loop (λ c. start _ _ _ _) (λ c κs. search needs) (λ c κs. search needs) (λ c. search needs) (λ c. search needs)
-    (λ c. search (turn, needs)) returns)
+    (tie.spec Inv-loop μ-loop loop-holds (λ c κs. search needs) (λ c κs. search needs) (λ c. search needs) (λ c. search needs)
+    loop-again returns)
