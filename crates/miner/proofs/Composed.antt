@@ -180,7 +180,7 @@ pub tally-by : (wide : Bool) (L : Traces) (events : Set) (p : Profile) (none tal
 tally-by wide L events p none tally t t′ h₀ ht h long = rw (h long, ht, h₀)
 
 -- steps 9 and 10, and the head
-module _ (wide : Bool) (A : ℕ) (L : Traces) (p : Profile) (events : Set) (t₁ t₂ t₃ : List ℕ) (s : State) (opening : Marking) where
+module _ (wide : Bool) (A : ℕ) (L : Traces) (p : Profile) (events : Set) (t t₁ t₂ t₃ : List ℕ) (s : State) (opening : Marking) where
   abbrev eight : List ℕ
   eight = eightOf wide L events (talliedFor wide L) p
 
@@ -196,15 +196,15 @@ module _ (wide : Bool) (A : ℕ) (L : Traces) (p : Profile) (events : Set) (t₁
       (waited events c (aheadOf wide noRows L) (missedOf wide events i x noRows L))
 
   pub found-by : events ≡ those (event L)
-      → (length (noTables relationCount) ≡ relationCount * rowWords → t₁ ≡ fourTables eight (answersOf wide L events (talliedFor wide L) p) included excluding)
+      → (length t ≡ relationCount * rowWords → t₁ ≡ fourTables eight (answersOf wide L events (talliedFor wide L) p) included excluding)
       → t₂ ≡ withTable t₁ 0
       (nineFrom (withTable noRows 0 (tableAt t₁ 0)) (tableAt t₁ 2) (tableAt t₁ 3))
       → t₃ ≡ withTable t₂ 0 (rowsFor events (reducedOf (withTable noRows 0 (tableAt t₂ 0))))
-      → s ≡ openingOf events → opening ≡ marked events (inTables t₃) s → graphOf (headOf A events opening) t₃ ≡ graphFoundIn wide A L p
+      → t ≡ noTables relationCount → s ≡ openingOf events → opening ≡ marked events (inTables t₃) s → graphOf (headOf A events opening) t₃ ≡ graphFoundIn wide A L p
   unfolding graphFoundIn
-  found-by hv h₁ h₂ h₃ hs ho =
+  found-by hv h₁ h₂ h₃ h₀ hs ho =
       let four = held-four _ _ _ _ (length-for events _) (length-for events _) (length-includes wide L events (talliedFor wide L) p) (length-rowsOf _) in
-      let is = h₁ (length-replicate {A = ℕ} (relationCount * rowWords) 0) in
+      let is = h₁ (ap length h₀ ∙ length-replicate {A = ℕ} (relationCount * rowWords) 0) in
       let one : Held t₁ eight (answersOf wide L events (talliedFor wide L) p) included excluding = subst (λ (x : List ℕ). Held x eight
       (answersOf wide L events (talliedFor wide L) p) included excluding) (sym is) four in
       let nine = held-c _ _ _ _ _ t₂ (nineFrom eight included excluding) one (length-for events _)
