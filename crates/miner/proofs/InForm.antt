@@ -24,8 +24,7 @@ use Rattle.rules.proofs.Places.{some-trace}
 use Rattle.steps.specs.Rowwise.{reducedOf, waited}
 use Rattle.tally.specs.Passes.{Fact, gains, forward, through, reaches, cut}
 use Rattle.tally.specs.Tallies.{tallied, talliedFor}
-use Rattle.tally.proofs.Folds.{heard, forward-rowsOf, through-rowsOf, through-all}
-use Rattle.tally.proofs.WholeForm.{heard-in}
+use Rattle.tally.proofs.Folds.{heard, heard-in, forward-rowsOf, through-rowsOf, through-all}
 use Rattle.tally.proofs.Tallying.{form-agrees}
 use Rattle.miner.specs.Facts.{letIn, beforeFirst, missed}
 use Rattle.miner.specs.Stages.{conditionsOf, chainsOf, responsesOf, neverOf, includesIn, includesSix, excludesSix, sevenFrom, waitedOf, waitedIn, fourTables, graphFound, graphFoundIn}

@@ -19,8 +19,7 @@ use Rattle.rules.specs.Traces.{_has_}
 use Rattle.tally.specs.Passes.{gained, gains, forward, reaches, cut}
 use Rattle.miner.specs.Facts.{letIn}
 use Rattle.tally.proofs.Somes.{some-more}
-use Rattle.tally.proofs.Turns.{pastAt, past-next, seenIn, forward-next, forward-end}
-use Rattle.miner.proofs.Gains.{gains-below}
+use Rattle.tally.proofs.Turns.{pastAt, past-next, seenIn, gains-below, forward-next, forward-end}
 use Rattle.sets.proofs.MadeSets.{is-those, none}
 use Rattle.sets.proofs.Tautologies.{by3}
 use Rattle.miner.proofs.After.{LastOf, after-next}

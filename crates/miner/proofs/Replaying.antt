@@ -15,8 +15,7 @@ use Rattle.sets.proofs.Tautologies.{by3, by4}
 use Rattle.rules.specs.Traces.{_has_}
 use Rattle.tally.specs.Passes.{gained, gains, forward, reaches, cut}
 use Rattle.miner.specs.Facts.{beforeFirst, stillIncluded, missed}
-use Rattle.tally.proofs.Turns.{pastAt, past-next, seenIn, seen-none, joined-by, forward-next, forward-end}
-use Rattle.miner.proofs.Gains.{gains-below, seen-next}
+use Rattle.tally.proofs.Turns.{pastAt, past-next, seenIn, seen-none, seen-next, joined-by, gains-below, forward-next, forward-end}
 use Rattle.sets.proofs.MadeSets.{is-those}
 
 -- ---- what a turn's functions give

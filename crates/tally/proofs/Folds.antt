@@ -1,6 +1,6 @@
 -- A pass over a trace, and over all traces, puts into row a what some place of a says: in either order of the places. Assumes nothing.
 use mathlib.Core.Path.{_≡_, refl, sym, ap, _∙_, subst}
-use mathlib.Core.Bool.{Bool, false}
+use mathlib.Core.Bool.{Bool, true, false}
 use mathlib.Core.List.{List, [], _∷_}
 use Prim.Native.Nat.{ℕ}
 use lib.Dec.{T, eqb, eqb→eq}
@@ -9,7 +9,7 @@ use Rattle.sets.specs.Rows.{Relation, noRows, rowsOf}
 use Rattle.sets.proofs.Tests.{and-i, and-l, and-r, or-assoc, or-comm, or-false, false-or, T-ext}
 use Rattle.sets.proofs.RowLaws.{rowsOf-ext, gain-rowsOf, empty-rowsOf}
 use Rattle.rules.specs.Traces.{Traces, atSomeFrom, atSome, someTrace}
-use Rattle.tally.specs.Passes.{Fact, gained, gains, forward, backward, through}
+use Rattle.tally.specs.Passes.{Fact, gained, gains, forward, backward, through, reaches, cut}
 
 -- of two that are the same it may be said of either
 pub at-same : (a e : ℕ) (f : ℕ → Bool) → (eqb a e and f e) ≡ (eqb a e and f a)
@@ -56,6 +56,11 @@ module _ (p : Fact) where
   -- what some trace says
   abbrev pub heard : Traces → Relation
   heard L a x = someTrace L (atSome a (λ q s. p a q s x))
+
+-- what is heard in a form of what the form can hold
+pub heard-in : (wide : Bool) (p : Fact) (L : Traces) (a x : ℕ) → reaches wide x ≡ true → heard (cut wide p) L a x ≡ heard p L a x
+unfolding cut _and_
+heard-in wide p L a x h = ap (λ (b : Bool). someTrace L (atSome a (λ q s. b and p a q s x))) h
 
 -- one pass after another, over all traces: `pass` takes rows and a trace
 module _ (p : Fact) (pass : List ℕ → List ℕ → List ℕ)

@@ -10,5 +10,4 @@ pub mod Onward
 pub mod Homeward
 pub mod Walks
 pub mod LogLaws
-pub mod WholeForm
 pub mod Tallying

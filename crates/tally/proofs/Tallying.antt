@@ -16,11 +16,10 @@ use Rattle.rules.specs.Traces.{Traces, _has_, _beginsWith_, atSome}
 use Rattle.rules.specs.Mining.{precedes, answers, chained, before, followed, alternates}
 use Rattle.tally.specs.Passes.{Fact, Turn, gained, gains, notedIn, forward, backward, through, isEarlier, notEarlier, notDirectly}
 use Rattle.tally.specs.Passes.{notSince, isLater, notLater, isNext, reaches, cut}
-use Rattle.tally.specs.Tallies.{tableCount, beforeTable, laterTable, unprecededTable, unansweredTable, unchainedTable}
-use Rattle.tally.specs.Tallies.{unalternatedTable, followedTable, notePastIn, noteSinceIn, noteRestIn, notedFor, talliedFor, tallied}
-use Rattle.tally.proofs.Folds.{said, heard, forward-rowsOf, backward-rowsOf, through-all}
+use Rattle.tally.specs.Tallies.{tableCount, beforeTable, laterTable, unprecededTable, unansweredTable, unchainedTable, unalternatedTable}
+use Rattle.tally.specs.Tallies.{followedTable, notePastIn, noteSinceIn, noteRestIn, notedFor, talliedFor, notePast, noteSince, noteRest, noted, tallied}
+use Rattle.tally.proofs.Folds.{said, heard, heard-in, forward-rowsOf, backward-rowsOf, through-all}
 use Rattle.tally.proofs.LogLaws.{non-every, some-ext, next-from, before-later}
-use Rattle.tally.proofs.WholeForm.{through-whole, heard-in}
 
 -- ---- a table of a pass is a pass over the table
 
@@ -153,6 +152,11 @@ table-heard wide L (suc (suc (suc (suc (suc (suc zero)))))) l = table-is wide 6 
 table-heard wide L (suc (suc (suc (suc (suc (suc (suc k))))))) l = absurd (omega (arith, l))
 
 -- ---- over the whole width
+
+-- the wide form leaves nothing out
+pub through-whole : (t : List ℕ) (L : Traces) → through (notedFor true) t L ≡ through noted t L
+unfolding notedFor noted notePastIn notePast noteSinceIn noteSince noteRestIn noteRest cut reaches _and_ _or_
+through-whole t L = refl
 
 module _ (L : Traces) where
   whole-is : (k : ℕ) → k < tableCount → (R : Relation) → ((a x : ℕ) → heard (factAt k) L a x ≡ R a x) → tableAt (tallied L) k ≡ rowsOf R

@@ -16,9 +16,10 @@ use Rattle.sets.specs.declared.set.Set.{Set}
 use Rattle.sets.proofs.Tests.{T→true, F→false, split, either, and-comm, or-assoc, or-comm, or-false}
 use Rattle.sets.proofs.Members.{none-those, those-ext, those-of}
 use Rattle.sets.proofs.MadeSets.{Is, is-those}
+use Rattle.sets.proofs.RowLaws.{put-out}
 use Rattle.sets.proofs.TableLaws.{table-put-above}
 use Rattle.rules.specs.Traces.{_has_, _beginsWith_}
-use Rattle.tally.specs.Passes.{Turn, gained, notedIn, forward, backward, reaches, cut, isEarlier, notEarlier, notDirectly}
+use Rattle.tally.specs.Passes.{Fact, Turn, gained, gains, notedIn, forward, backward, reaches, cut, isEarlier, notEarlier, notDirectly}
 use Rattle.tally.specs.Passes.{isLater, notLater, isNext}
 use Rattle.tally.specs.Tallies.{beforeTable, laterTable, unprecededTable, unansweredTable, unchainedTable, followedTable, notePastIn}
 use Rattle.tally.specs.Tallies.{noteRestIn, pastBy, restBy}
@@ -82,6 +83,11 @@ seen-one past e seen r hs hr =
     hr ∙ those-of seen (λ x. past has x) (λ a t. t or eqb a e) hs
     ∙ those-ext (λ a. past has a or eqb a e) (λ a. (e ∷ past) has a) (λ a l. or-comm (past has a) (eqb a e))
 
+-- what was seen, one place further
+pub seen-next : (σ : List ℕ) (i : ℕ) (h : i < length σ) (seen : Set) → seen ≡ seenIn (pastAt σ i) → (r : Set)
+    → r ≡ those (λ x. mem seen x or eqb x (getD σ i 0)) → r ≡ seenIn (pastAt σ (i + 1))
+seen-next σ i h seen hs r hr = seen-one (pastAt σ i) (getD σ i 0) seen r hs hr ∙ ap seenIn (sym (past-next σ i h))
+
 pub seen-more : (past : List ℕ) (e : ℕ) (seen one seen′ : Set) → seen ≡ seenIn past → one ≡ those (λ b. eqb b e)
     → seen′ ≡ those (λ a. mem seen a or mem one a) → seen′ ≡ seenIn (e ∷ past)
 seen-more past e seen one seen′ hs ho hu = seen-one past e seen seen′ hs (with-one seen one seen′ e ho hu)
@@ -99,6 +105,13 @@ put-where e row old put out p q h =
     either (split (ltb e width))
     (λ t. ap put (those-ext _ _ (λ x l. ap (λ (b : Bool). mem row x or b) (h (ltb-true e width (T→true _ t)) x l))))
     (λ f. let g = ltb-false e width (F→false _ f) in sym (out _ g) ∙ out _ g)
+
+-- the row of the event gains what passes, and below the width that is the fact; a number past it has no row
+pub gains-below : (p : Fact) (rows : List ℕ) (e : ℕ) (past rest : List ℕ) (q : ℕ → Bool) (rows′ : List ℕ)
+    → (e < width → (x : ℕ) → x < width → q x ≡ p e past rest x) → rows′ ≡ gained rows e q → rows′ ≡ gains p rows e past rest
+unfolding gains gained
+gains-below p rows e past rest q rows′ f h =
+    h ∙ put-where e (rowAt rows e) rows (withRow rows e) (put-out rows e) q (p e past rest) f
 
 -- ---- the same of tables
 
@@ -191,6 +204,11 @@ module _ (wide : Bool) (tables : List ℕ) (e : ℕ) where
         let next-in = is-those next _ hn in
         thrice-as tables laterTable unansweredTable followedTable e _ _ _ _ _ _ (λ x l. ap (λ (t : Bool). reaches wide x and t) (after-in x l))
         (λ x l. ap (λ (t : Bool). reaches wide x and non t) (after-in x l)) (λ x l. ap (λ (t : Bool). reaches wide x and t) (next-in x l))
+
+-- the pass in the form that was asked for
+pub as-asked : (wide form : Bool) (p : Fact) (rows rows′ σ : List ℕ) → wide ≡ form → rows′ ≡ forward (gains (cut form p)) rows [] σ
+    → rows′ ≡ forward (gains (cut wide p)) rows [] σ
+as-asked wide form p rows rows′ σ h e = e ∙ ap (λ (b : Bool). forward (gains (cut b p)) rows [] σ) (sym h)
 
 -- the forward loop: before the first turn, one turn further, after the last
 module _ (turn : Turn) (σ all : List ℕ) where

@@ -82,10 +82,8 @@ module _ (log : List ℕ) (n k : ℕ) (all : Set) where
       ∙ ap (eventsFrom events) (sym (walked-end log n k h))
       ∙ inv
 
-pub events-start : (log : List ℕ) (n : ℕ) (events : Set) → events ≡ noSet → eventsFrom events (walked log (n - 0) 0)
-    ≡ those (λ x. someTrace (walked log n 0) (λ σ. σ has x))
-events-start log n events e =
-    ap (λ (s : Set). eventsFrom s (walked log (n - 0) 0)) e
-    ∙ ap (eventsFrom noSet) (walked-start log n)
+pub events-start : (log : List ℕ) (n : ℕ) → eventsFrom noSet (walked log (n - 0) 0) ≡ those (λ x. someTrace (walked log n 0) (λ σ. σ has x))
+events-start log n =
+    ap (eventsFrom noSet) (walked-start log n)
     ∙ those-ext (λ x. mem noSet x or someTrace (walked log n 0) (λ σ. σ has x)) (λ x. someTrace (walked log n 0) (λ σ. σ has x))
     (λ x l. ap (λ (t : Bool). t or someTrace (walked log n 0) (λ σ. σ has x)) (mem-none x) ∙ false-or _)

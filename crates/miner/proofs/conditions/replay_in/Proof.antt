@@ -1,5 +1,5 @@
 use borrow.Author.Needs.{needs}
-use Rattle.miner.proofs.Gains.{as-asked}
+use Rattle.tally.proofs.Turns.{as-asked}
 use Rattle.miner.proofs.conditions.replay_in.Statement.{statement}
 use Rattle.miner.proofs.conditions.replay_in.Tie as tie
 

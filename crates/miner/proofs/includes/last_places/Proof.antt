@@ -2,9 +2,8 @@ use mathlib.Core.Path.{_≡_, refl}
 use Prim.Native.Nat.{_≤_, _-_}
 use borrow.Author.Needs.{needs}
 use lib.ListN.{length, drop}
-use Rattle.tally.proofs.Turns.{pastAt, seenIn, seen-none, seen-all}
+use Rattle.tally.proofs.Turns.{pastAt, seenIn, seen-none, seen-next, seen-all}
 use Rattle.miner.specs.Facts.{placesFrom}
-use Rattle.miner.proofs.Gains.{seen-next}
 use Rattle.miner.proofs.After.{places-next, places-end}
 use Rattle.miner.proofs.includes.last_places.Statement.{statement}
 use Rattle.miner.proofs.includes.last_places.Tie as tie

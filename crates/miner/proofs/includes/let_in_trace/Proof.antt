@@ -1,7 +1,7 @@
 use mathlib.Core.Bool.{true, false}
 use borrow.Author.Needs.{needs}
 use Rattle.miner.proofs.After.{last-known}
-use Rattle.miner.proofs.Gains.{as-asked}
+use Rattle.tally.proofs.Turns.{as-asked}
 use Rattle.miner.proofs.includes.let_in_trace.Statement.{statement}
 use Rattle.miner.proofs.includes.let_in_trace.Tie as tie
 

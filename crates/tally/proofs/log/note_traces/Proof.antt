@@ -1,6 +1,6 @@
 use mathlib.Core.Path.{_∙_}
 use borrow.Author.Needs.{needs}
-use Rattle.tally.proofs.WholeForm.{through-whole}
+use Rattle.tally.proofs.Tallying.{through-whole}
 use Rattle.tally.proofs.log.note_traces.Statement.{statement}
 use Rattle.tally.proofs.log.note_traces.Tie as tie
 

@@ -29,7 +29,7 @@ start wide log n t =
     record {
       reached = omega arith;
       a-set = those-mem noSet (omega arith, omega arith);
-      events-are = events-start log n noSet refl;
+      events-are = events-start log n;
       left = through-start (notedFor wide) log n _ t refl;
     }
 

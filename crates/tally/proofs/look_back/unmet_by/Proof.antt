@@ -19,9 +19,6 @@ rest-of : (past : List ℕ) (e : ℕ) (wanted left r : Set) (n : ℕ) → Passed
 rest-of past e wanted left r n h q =
     let same : n - 0 ≡ n = omega arith in (rw same at q) ∙ h .1
 
-part-unmet-end : tie.Need-part-unmet-end
-part-unmet-end c = let a = c .before .before .before .args in c .pass-blocks .ensures (now (a .past)) (search needs) refl .0
-
 returns-2 : tie.Need-returns-2
 returns-2 c =
     let a = c .before .before .before .before .before .args in
@@ -30,5 +27,5 @@ returns-2 c =
 pub unmet-by-spec : {M : Type 1} → statement M
 unmet-by-spec =
     tie.close
-    (tie.spec (λ c κs. search needs) (λ c. search needs) (λ c κs. search needs) (λ c. search needs) (λ c. search needs) part-unmet-end
-    (λ c κs. search needs) returns-2)
+    (tie.spec (λ c κs. search needs) (λ c. search needs) (λ c κs. search needs) (λ c. search needs) (λ c. search needs)
+    (λ c. let a = c .before .before .before .args in c .pass-blocks .ensures (now (a .past)) (search needs) refl .0) (λ c κs. search needs) returns-2)
