@@ -19,7 +19,7 @@ use Rattle.sets.proofs.Members.{Whole, those-ext, those-of, within-i, within-e,
 use Rattle.sets.proofs.MadeSets.{joined, is-those}
 use Rattle.engine.specs.declared.marking.State.{State}
 use Rattle.engine.specs.declared.marking.Marking.{Marking}
-use Rattle.engine.specs.Markings.{stateOf, markingOf}
+use Rattle.engine.specs.Markings.{stateOf, markingOf, fewOf}
 use Rattle.engine.specs.Relations.{Relations}
 use Rattle.engine.specs.Steps.{blocking, waits, blocker, enabled}
 use Rattle.engine.proofs.Stepping.{none-pass}
@@ -56,16 +56,14 @@ module _ (events : Set) (r : Relations) (s : State) where
 
   -- and where only low ones are included, no other
   module _ (low inc live : Set) (few : State) (t : Bool) (hl : low ≡ those (λ a. ltb a word)) (hv : live ≡ those (λ a. mem events a and mem (s .included) a))
-      (ht : t ≡ within (s .included) low) (yes : t ≡ true) (hi : inc ≡ those (λ a. mem (s .included) a and mem low a))
-      (hf : few ≡ stateOf (s .executed) (s .pending) inc) where
+      (ht : t ≡ within (s .included) low) (yes : t ≡ true) (hi : inc ≡ fewOf (s .included)) (hf : few ≡ stateOf (s .executed) (s .pending) inc) where
     is-low : (a : ℕ) → a < width → T (mem (s .included) a) → ltb a word ≡ true
     is-low a l h = sym (is-those low (λ b. ltb b word) hl a l) ∙ T→true _ (within-e (s .included) low (true→T (sym ht ∙ yes)) a l h)
 
     same : (a : ℕ) → a < width → mem (few .included) a ≡ mem (s .included) a
     same a l =
         ap (λ (u : State). mem (u .included) a) hf
-        ∙ is-those inc (λ b. mem (s .included) b and mem low b) hi a l
-        ∙ ap (λ (x : Bool). mem (s .included) a and x) (is-those low (λ b. ltb b word) hl a l)
+        ∙ is-those inc (λ b. mem (s .included) b and ltb b word) hi a l
         ∙ T-ext _ _ (λ h. and-l _ _ h) (λ h. and-i _ _ h (true→T (is-low a l h)))
 
     waits-same : (a : ℕ) → waits r few a ≡ waits r s a
