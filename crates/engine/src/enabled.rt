@@ -36,8 +36,8 @@ fn free(relations: &Relations, s: State, end: u8) -> Set
     out
 }
 
-// The events that are included and wait for nothing. Where no more than the first 64 are included, nobody else is asked, and what is
-// included is cut there.
+// The events that are included and wait for nothing. Where no more than the first 64 are included, nobody past the last of them is asked,
+// and what is included is cut there.
 pub fn enabled_set(events: Set, relations: &Relations, s: State) -> Set
     ensures { λ r. ⌜ r ≡ rules.enabledSet events (inTables (now (relations .entry))) s ⌝ }
 {
@@ -45,7 +45,8 @@ pub fn enabled_set(events: Set, relations: &Relations, s: State) -> Set
     let live = events.intersection(included);
     if included.is_within(Set::below(WORD)) {
         let near = State::of(s.executed, s.pending, marking::few(included));
-        return live.intersection(free(relations, near, WORD));
+        let end = marking::few(live).end();
+        return live.intersection(free(relations, near, end));
     }
     live.intersection(free(relations, s, Activity::LIMIT))
 }
