@@ -23,6 +23,7 @@ use Rattle.sets.proofs.set.Set.count.Reads as Set-count
 use Rattle.sets.proofs.set.Set.least.Reads as Set-least
 use Rattle.sets.proofs.set.Set.without_least.Reads as Set-without-least
 use Rattle.sets.proofs.set.Set.next.Reads as Set-next
+use Rattle.sets.proofs.set.Set.end.Reads as Set-end
 use Rattle.sets.proofs.rows.empty.Reads as empty
 use Rattle.sets.proofs.rows.row.Reads as row
 use Rattle.sets.proofs.rows.put.Reads as put
@@ -247,6 +248,9 @@ Set-without-least-once κ a r r′ s s′ h h′ = h ∙ sym h′
 
 pub Set-next-once : Once Set-next.Post
 Set-next-once κ a r r′ s s′ h h′ = ap {B = Activity} (λ n. record { 0 = n }) (h ∙ sym h′)
+
+pub Set-end-once : Once Set-end.Post
+Set-end-once κ a r r′ s s′ h h′ = h ∙ sym h′
 
 -- ---- sets: rows
 

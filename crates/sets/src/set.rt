@@ -2,7 +2,7 @@
 ghost use mathlib.Core.Path.{_≡_};
 ghost use lib.Dec.{eqb, ltb};
 ghost use Rattle.sets.specs.Tests.{_and_, _or_, non};
-ghost use Rattle.sets.specs.Members.{width, mem, those, within, isEmpty, leastBelow, nextAbove, countBelow};
+ghost use Rattle.sets.specs.Members.{width, mem, those, within, isEmpty, leastBelow, endBelow, nextAbove, countBelow};
 use crate::activity::Activity;
 use crate::activity::WORD;
 
@@ -172,5 +172,16 @@ impl Set {
     {
         let up = self.difference(Set::below(a.0));
         up.difference(Set::one(a)).least()
+    }
+
+    // One more than the greatest member, 0 where there is none: where a walk up the activities can stop.
+    pub fn end(self) -> u8
+        ensures { λ r. ⌜ r ≡ endBelow width (mem self) ⌝ }
+    {
+        let high = self.high;
+        if high != 0 {
+            return Activity::LIMIT - u64::leading_zeros(high) as u8;
+        }
+        WORD - u64::leading_zeros(self.low) as u8
     }
 }
