@@ -231,6 +231,9 @@ within-empty s t u r hu hr =
 word-zero : (x : ℕ) → x < 2 ^ word → everyBelow word (λ a. non (bit x a)) ≡ eqb x 0
 word-zero x h = none-zero word (bit x) ∙ ap (λ (n : ℕ). eqb n 0) (bitsOf-bit word x h)
 
+pub word-some : (x : ℕ) → (x ≡ 0 → ⊥) → x < 2 ^ word → T (someBelow word (bit x))
+word-some x n h = non-false _ (non-some word (bit x) ∙ word-zero x h ∙ ne-eqb x 0 n)
+
 or-zero : (x y : ℕ) → eqb (bitOr x y) 0 ≡ (eqb x 0 and eqb y 0)
 or-zero x y =
     T-ext (eqb (bitOr x y) 0) (eqb x 0 and eqb y 0)
@@ -292,15 +295,12 @@ module _ (s : Set) (hl : s .low < 2 ^ word) (hh : s .high < 2 ^ word) where
       ap (λ (n : ℕ). word + n) (trailing-least word (s .high) ∙ least-ext word (bit (s .high)) (λ a. mem s (word + a)) (λ a l. sym (mem-high s a)))
       ∙ sym (least-past word word (mem s) (λ a l. mem-low s a l ∙ ap (λ (n : ℕ). bit n a) z ∙ bit-zero a))
 
-  some-low : (s .low ≡ 0 → ⊥) → T (someBelow word (bit (s .low)))
-  some-low n = non-false _ (non-some word (bit (s .low)) ∙ word-zero (s .low) hl ∙ ne-eqb (s .low) 0 n)
-
   low-lt : (s .low ≡ 0 → ⊥) → trailingZeros word (s .low) < word
-  low-lt n = subst (λ (k : ℕ). k < word) (sym (trailing-least word (s .low))) (least-lt word (bit (s .low)) (some-low n))
+  low-lt n = subst (λ (k : ℕ). k < word) (sym (trailing-least word (s .low))) (least-lt word (bit (s .low)) (word-some (s .low) n hl))
 
   pub least-low : (s .low ≡ 0 → ⊥) → trailingZeros word (s .low) ≡ leastBelow width (mem s)
   least-low n =
-      let some = some-low n in
+      let some = word-some (s .low) n hl in
       let low : T (someBelow word (mem s)) = subst T (some-ext word (bit (s .low)) (mem s) (λ a l. sym (mem-low s a l))) some in
       trailing-least word (s .low)
       ∙ least-ext word (bit (s .low)) (mem s) (λ a l. sym (mem-low s a l))

@@ -12,7 +12,7 @@ use lib.Dec.{eqb, ltb, eqb-refl, eqb→eq, lt→ltb, ltb→lt}
 use lib.ListN.{length, getD, set, take, drop, length-set, length-append, length-drop, length-replicate, getD-replicate, take-append-drop}
 use lib.Seq.{ext-getD, length-take-le, drop-set-add, drop-set-lt, take-set-le, take-set-lt, drop-drop, drop-at, take-at, getD-take}
 use lib.ListN.{List·getD-eq-default}
-use lib.Seq.{getD-drop, set-out, set-comm, take-all}
+use lib.Seq.{getD-drop, set-out, set-comm, set-getD, take-all}
 use Rattle.sets.specs.Tests.{_and_, _or_, when_then_else_}
 use Rattle.sets.specs.Members.{width, word, mem, those, noSet}
 use Rattle.sets.specs.Rows.{Relation, rowWords, noRows, rowAt, withRow, inRow, rowsOf}
@@ -134,6 +134,47 @@ module _ (tables : List ℕ) (k a : ℕ) (s : Set) where
       ∙ word-other k (width + a) (s .high) (omega arith) (set tables (k * rowWords + a) (s .low)) j n
       ∙ word-other k a (s .low) (omega arith) tables j n)
       (λ f. ap (λ (q : List ℕ). tableAt q j) (sym (table-put-above tables k a s (ltb-false a width (F→false _ f)))))
+
+-- a row that is put where it stands changes nothing
+pub put-back : (tables : List ℕ) (k e : ℕ) → withRowIn tables k e (rowAt (tableAt tables k) e) ≡ tables
+put-back tables k e =
+    either (split (ltb e width))
+    (λ t.
+    let l = ltb-true e width (T→true _ t) in
+    ap (withRowIn tables k e) (sym (table-row tables k e l))
+    ∙ sym (table-put tables k e (record { low = getD tables (k * rowWords + e) 0; high = getD tables (k * rowWords + e + width) 0 }) l)
+    ∙ ap (λ (t : List ℕ). set t (k * rowWords + e + width) (getD tables (k * rowWords + e + width) 0)) (set-getD tables (k * rowWords + e) 0)
+    ∙ set-getD tables (k * rowWords + e + width) 0)
+    (λ f. sym (table-put-above tables k e _ (ltb-false e width (F→false _ f))))
+
+-- puts into different tables, in either order
+pub put-comm : (tables : List ℕ) (j k a b : ℕ) (s t : Set) → (j ≡ k → ⊥) → withRowIn (withRowIn tables j a s) k b t
+    ≡ withRowIn (withRowIn tables k b t) j a s
+put-comm tables j k a b s t ne =
+    either (split (ltb a width))
+    (λ x. either (split (ltb b width)) (λ y. both (ltb-true a width (T→true _ x)) (ltb-true b width (T→true _ y)))
+    (λ y. let g = ltb-false b width (F→false _ y) in sym (table-put-above (withRowIn tables j a s) k b t g)
+    ∙ ap (λ (l : List ℕ). withRowIn l j a s) (table-put-above tables k b t g)))
+    (λ x. let g = ltb-false a width (F→false _ x) in ap (λ (l : List ℕ). withRowIn l k b t) (sym (table-put-above tables j a s g))
+    ∙ table-put-above (withRowIn tables k b t) j a s g)
+  where
+    -- one word, put before a row of another table or after it
+    one-word : (l : List ℕ) (i x : ℕ) → a < width → (j * rowWords + a ≡ i → ⊥) → (j * rowWords + a + width ≡ i → ⊥)
+        → set (withRowIn l j a s) i x ≡ withRowIn (set l i x) j a s
+    one-word l i x la low high =
+        ap (λ (q : List ℕ). set q i x) (sym (table-put l j a s la))
+        ∙ set-comm (set l (j * rowWords + a) (s .low)) (j * rowWords + a + width) i (s .high) x high
+        ∙ ap (λ (q : List ℕ). set q (j * rowWords + a + width) (s .high)) (set-comm l (j * rowWords + a) i (s .low) x low)
+        ∙ table-put (set l i x) j a s la
+
+    both : a < width → b < width → withRowIn (withRowIn tables j a s) k b t ≡ withRowIn (withRowIn tables k b t) j a s
+    both la lb =
+        sym (table-put (withRowIn tables j a s) k b t lb)
+        ∙ ap (λ (l : List ℕ). set l (k * rowWords + b + width) (t .high))
+        (one-word tables (k * rowWords + b) (t .low) la (λ q. ne (omega (arith, la, lb, q))) (λ q. ne (omega (arith, la, lb, q))))
+        ∙ one-word (set tables (k * rowWords + b) (t .low)) (k * rowWords + b + width) (t .high) la (λ q. ne (omega (arith, la, lb, q)))
+        (λ q. ne (omega (arith, la, lb, q)))
+        ∙ ap (λ (l : List ℕ). withRowIn l j a s) (table-put tables k b t lb)
 
 -- a row that is joined with a set
 pub table-join : (tables : List ℕ) (k a : ℕ) (s old new : Set) (out : List ℕ)

@@ -170,8 +170,23 @@ impl Set {
     pub fn next(self, a: Activity) -> Activity
         ensures { λ r. ⌜ r .0 ≡ nextAbove self (a .0) ⌝ }
     {
-        let up = self.difference(Set::below(a.0));
-        up.difference(Set::one(a)).least()
+        let n = a.0;
+        let low = self.low;
+        let high = self.high;
+        if n < WORD - 1 {
+            let up = low >> (n + 1);
+            if up != 0 {
+                return Activity(n + 1 + u64::trailing_zeros(up) as u8);
+            }
+            return Activity(WORD + u64::trailing_zeros(high) as u8);
+        }
+        if n < Activity::LIMIT - 1 {
+            let up = high >> (n - (WORD - 1));
+            if up != 0 {
+                return Activity(n + 1 + u64::trailing_zeros(up) as u8);
+            }
+        }
+        Activity(Activity::LIMIT)
     }
 
     // One more than the greatest member, 0 where there is none: where a walk up the activities can stop.
