@@ -41,7 +41,7 @@ empty-held wide = record { executed = nothing; pending = nothing; included = not
     nothing a t = absurd (false→F (mem-none a) t)
 
 module _ (g : Graph) (ok : judged g ≡ Done) where
-  pub event-below : (x : ℕ) → x < width → T (mem (g .head .events) x) → x < g .head .activities
+  event-below : (x : ℕ) → x < width → T (mem (g .head .events) x) → x < g .head .activities
   event-below x low t =
       ltb-true x (g .head .activities)
       (T→true _
