@@ -129,6 +129,7 @@ use Rattle.miner.proofs.excluded_five.Reads as excluded-five
 use Rattle.miner.proofs.last_places.Reads as last-places
 use Rattle.miner.proofs.mining.responses_eight.Reads as responses-eight
 use Rattle.miner.proofs.mining.mine.Reads as mine
+use Rattle.miner.proofs.mining.mine_into.Reads as mine-into
 use Rattle.months.proofs.filling.fill.Reads as months-fill
 use Rattle.months.proofs.joining.join.Reads as months-join
 use Rattle.months.proofs.reading.relations.Reads as months-relations
@@ -602,6 +603,9 @@ log-note-traces-once κ a r r′ s s′ h h′ = (h .0 ∙ sym (h′ .0), h .1 �
 
 pub mine-once : Once mine.Post
 mine-once κ a r r′ s s′ h h′ = h ∙ sym h′
+
+pub mine-into-once : OnceLent mine-into.Post (λ κ s. now (s .1 .1 .0))
+mine-into-once κ a r r′ s s′ h h′ = (h .0 ∙ sym (h′ .0), h .1 ∙ sym (h′ .1))
 
 pub conditions-eight-once : Once conditions-eight.Post
 conditions-eight-once κ a r r′ s s′ h h′ = h ∙ sym h′
