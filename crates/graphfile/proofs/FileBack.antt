@@ -26,14 +26,16 @@ use Rattle.bytes.proofs.Opens.{opens-is}
 use Rattle.engine.specs.Relations.{relationCount}
 use Rattle.engine.specs.Judged.{rowWithin, rowsWithin, relationsWithin, graphWithin, judgedFor, judged}
 use Rattle.engine.proofs.Acceptable.{judged-at}
-use Rattle.graphfile.specs.Layout.{letters, wideIn, wideFor, headLength, rowLength, rowsLength, rowPlace, activitiesIn, eventsIn, stateIn, headIn, offsetIn, countIn, sumOf}
+use Rattle.graphfile.specs.Layout.{letters, wideFor, headLength, rowLength, rowsLength, rowPlace, activitiesIn, eventsIn, stateIn, headIn, offsetIn, countIn, sumOf}
+use Rattle.bytes.specs.Editions.{wideIn}
 use Rattle.graphfile.specs.Layout.{activitiesPlace, eventsPlace, executedPlace, stateLength, entriesPlace, entryLength, earlierRows, keyIn, rowIn}
 use Rattle.graphfile.specs.Refusals.{mostRows, judgedRow}
 use Rattle.graphfile.specs.Held.{relationsIn, graphIn}
 use Rattle.graphfile.specs.Writing.{rowOf, rowsFrom, rowCount, rowsBefore, entryBytes, entriesBytes, stateBytes}
 use Rattle.graphfile.specs.Writing.{headBytes}
 use Rattle.graphfile.specs.Writing.{relationBytes, relationsBytes, bytesBy, bytesOf}
-use Rattle.bytes.specs.Sets.{setLength, Holds, setBytes, setAt}
+use Rattle.bytes.specs.Sets.{setLength, setBytes, setAt}
+use Rattle.bytes.proofs.SetLaws.{Holds}
 use Rattle.bytes.proofs.Codec.{Bytes}
 use Rattle.bytes.proofs.Parts.{part, meet, length-part, part-whole, part-one}
 use Rattle.bytes.proofs.NumberLaws.{part-number}

@@ -24,7 +24,8 @@ use Rattle.engine.specs.declared.graph.Graph.{Graph}
 use Rattle.bytes.specs.Sets.{setAt}
 use Rattle.graphfile.specs.declared.reader.Reading.{Reading}
 use Rattle.graphfile.specs.declared.reader.Bare.{Bare}
-use Rattle.graphfile.specs.Layout.{wideIn, eventsPlace, headLength, eventsIn, stateIn, headIn, countIn, earlierRows, keyIn, rowIn}
+use Rattle.graphfile.specs.Layout.{eventsPlace, headLength, eventsIn, stateIn, headIn, countIn, earlierRows, keyIn, rowIn}
+use Rattle.bytes.specs.Editions.{wideIn}
 use Rattle.graphfile.specs.Refusals.{rises, rowAnswer, judgedRow, judgedBeforeRows, judgedRelation, judgedFile}
 use Rattle.graphfile.specs.Held.{filled, withRelation, withRelations, relationsIn, graphIn, readOf, bareOf, bareTables}
 use Rattle.graphfile.proofs.Judging.{row-judged}

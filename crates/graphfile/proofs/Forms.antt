@@ -18,7 +18,8 @@ use Rattle.engine.specs.Enabled.{marked}
 use Rattle.bytes.specs.Numbers.{numberLength, numberAt}
 use Rattle.bytes.specs.Sets.{setLength, setAt}
 use Rattle.bytes.specs.Editions.{wideEdition, editionFor, editionIn}
-use Rattle.graphfile.specs.Layout.{wideIn, wideFor, activitiesPlace, eventsPlace, executedPlace, entriesPlace, entryLength, headLength, rowsLength}
+use Rattle.graphfile.specs.Layout.{wideFor, activitiesPlace, eventsPlace, executedPlace, entriesPlace, entryLength, headLength, rowsLength}
+use Rattle.bytes.specs.Editions.{wideIn}
 use Rattle.graphfile.specs.Layout.{eventsIn, stateAt, stateIn, markingAt, headAt, headIn, offsetIn, countIn, rowPlace, keyIn, rowIn}
 use Rattle.graphfile.specs.Markings.{markingLength}
 use Rattle.graphfile.specs.Heads.{loneHeadLength, wideHead, headFrom}

@@ -19,10 +19,12 @@ use Rattle.sets.proofs.Tests.{T→true, F→false, and-l, and-r, or-e, split, e
 use Rattle.sets.proofs.Members.{Whole, whole-empty}
 use Rattle.sets.proofs.RowLaws.{length-put, row-put-same, row-put-other}
 use Rattle.engine.specs.Judged.{rowWithin}
-use Rattle.graphfile.specs.Layout.{wideIn, rowLength, rowPlace, keyIn, rowIn}
+use Rattle.graphfile.specs.Layout.{rowLength, rowPlace, keyIn, rowIn}
+use Rattle.bytes.specs.Editions.{wideIn}
 use Rattle.graphfile.specs.Refusals.{mostRows}
 use Rattle.graphfile.specs.Writing.{rowOf, rowsFor, rowsFrom, countFrom}
-use Rattle.bytes.specs.Sets.{setLength, Holds, setBytes}
+use Rattle.bytes.specs.Sets.{setLength, setBytes}
+use Rattle.bytes.proofs.SetLaws.{Holds}
 use Rattle.bytes.proofs.SetLaws.{length-set, set-read}
 use Rattle.graphfile.proofs.RowLengths.{set-most, rows-suc}
 use Rattle.graphfile.proofs.FileBack.{row-empty, row-some}

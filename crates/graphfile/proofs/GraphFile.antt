@@ -32,11 +32,13 @@ use Rattle.engine.specs.declared.marking.State.{State}
 use Rattle.engine.specs.declared.graph.Graph.{Graph}
 use Rattle.engine.specs.Judged.{stateWithin, rowWithin, rowsWithin, graphWithin, judged}
 use Rattle.engine.proofs.Acceptable.{judged-activities, judged-within, judged-true, events-inside, opening-inside, rows-inside}
-use Rattle.bytes.specs.Sets.{setLength, Holds, setBytes}
+use Rattle.bytes.specs.Sets.{setLength, setBytes}
+use Rattle.bytes.proofs.SetLaws.{Holds}
 use Rattle.bytes.proofs.Parts.{part}
 use Rattle.bytes.proofs.NumberLaws.{number-read}
 use Rattle.bytes.proofs.SetLaws.{set-read}
-use Rattle.graphfile.specs.Layout.{wideIn, wideFor, eventsPlace, executedPlace, entriesPlace, entryLength, rowsLength, rowPlace}
+use Rattle.graphfile.specs.Layout.{wideFor, eventsPlace, executedPlace, entriesPlace, entryLength, rowsLength, rowPlace}
+use Rattle.bytes.specs.Editions.{wideIn}
 use Rattle.graphfile.specs.Layout.{headLength, activitiesIn, eventsIn, stateIn, offsetIn, countIn, sumOf, earlierRows}
 use Rattle.graphfile.specs.Refusals.{mostRows, judgedRow, judgedFile}
 use Rattle.graphfile.specs.Held.{relationsIn, graphIn}

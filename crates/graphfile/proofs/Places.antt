@@ -15,7 +15,8 @@ use Rattle.bytes.specs.Numbers.{valueOf, numberAt}
 use Rattle.bytes.specs.Sets.{wordLength, setLength, setThere, setAt}
 use Rattle.bytes.proofs.Parts.{part, meet, length-part, part-whole}
 use Rattle.bytes.proofs.SetLaws.{at-there, part-first, part-second}
-use Rattle.graphfile.specs.Layout.{wideIn, countIn, sumOf, earlierRows, stateAt, rowPlace, endOf}
+use Rattle.graphfile.specs.Layout.{countIn, sumOf, earlierRows, stateAt, rowPlace, endOf}
+use Rattle.bytes.specs.Editions.{wideIn}
 use Rattle.graphfile.proofs.RowLengths.{rows-le}
 
 -- ---- what the code cuts out for a set, from its place to its end, is all that is read

@@ -2,7 +2,8 @@
 ghost use mathlib.Core.Path.{_≡_};
 ghost use Prim.Native.Nat.{suc, _+_, _*_, _≤_, _<_};
 ghost use lib.ListN.{length};
-ghost use Rattle.graphfile.specs.Layout.{wideIn, wideFor, entriesPlace, headLength, rowsLength, stateLength, stateAt, stateIn, markingAt};
+ghost use Rattle.graphfile.specs.Layout.{wideFor, entriesPlace, headLength, rowsLength, stateLength, stateAt, stateIn, markingAt};
+ghost use Rattle.bytes.specs.Editions.{wideIn};
 ghost use Rattle.graphfile.specs.Layout.{headAt, headIn, offsetIn, countIn, earlierRows, rowPlace, keyIn, rowIn};
 ghost use Rattle.graphfile.specs.Markings.{markingLength};
 ghost use Rattle.graphfile.specs.Heads.{loneHeadLength};

@@ -18,10 +18,9 @@ use Rattle.engine.specs.declared.marking.Marking.{Marking}
 use Rattle.engine.specs.Enabled.{marked, graphAt}
 use Rattle.rules.specs.declared.Profile.{Profile}
 use Rattle.rules.specs.declared.Profile.the-variants.{Full, Light}
-use Rattle.rules.specs.Traces.{Traces, _has_, someTrace}
-use Rattle.rules.specs.Mining.{event}
+use Rattle.rules.specs.Traces.{Traces}
 use Rattle.steps.specs.Rowwise.{excluders, inEither, reducedOf, waited}
-use Rattle.tally.specs.Passes.{through, cut}
+use Rattle.tally.specs.Passes.{through, eventIn, cut}
 use Rattle.tally.specs.Tallies.{tableCount, notedFor, talliedFor, beforeTable, laterTable}
 use Rattle.tally.proofs.Folds.{forward-rowsOf, through-rowsOf}
 use Rattle.miner.specs.Facts.{Less, letIn}
@@ -167,10 +166,6 @@ module _ (wide : Bool) (L : Traces) (events : Set) (tally : List ℕ) where
         (held-r _ _ _ _ _ t₇ _ eight (length-for events _) h₇)
 
 -- from the tally of the traces
-pub events-by : (L : Traces) (r : Set) → r ≡ those (λ x. someTrace L (λ σ. σ has x)) → r ≡ those (event L)
-unfolding event
-events-by L r h = h
-
 pub tally-by : (wide : Bool) (L : Traces) (events : Set) (p : Profile) (none tally t t′ : List ℕ) → none ≡ noTables tableCount → tally ≡ through (notedFor wide) none L
     → (length t ≡ relationCount * rowWords → t′
     ≡ fourTables (eightOf wide L events tally p) (answersOf wide L events tally p) (includesIn wide p events tally L) (afterSeven wide L events tally p))
@@ -195,7 +190,7 @@ module _ (wide : Bool) (A : ℕ) (L : Traces) (p : Profile) (events : Set) (t t�
       rowsFor events
       (waited events c (aheadOf wide noRows L) (missedOf wide events i x noRows L))
 
-  pub found-by : events ≡ those (event L)
+  pub found-by : events ≡ those (eventIn wide L)
       → (length t ≡ relationCount * rowWords → t₁ ≡ fourTables eight (answersOf wide L events (talliedFor wide L) p) included excluding)
       → t₂ ≡ withTable t₁ 0
       (nineFrom (withTable noRows 0 (tableAt t₁ 0)) (tableAt t₁ 2) (tableAt t₁ 3))

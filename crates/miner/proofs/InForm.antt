@@ -7,11 +7,11 @@ use native.Mathlib.Omega.{arith}
 use borrow.Author.Tests.{lt-ltb, ltb-false}
 use lib.Dec.{T, eqb, ltb}
 use Rattle.sets.specs.Tests.{_and_, _or_, non}
-use Rattle.sets.specs.Members.{word, mem}
+use Rattle.sets.specs.Members.{word, mem, those}
 use Rattle.sets.specs.Rows.{Relation, noRows, inRow, rowsOf, rowsFor, turned}
 use Rattle.sets.specs.declared.set.Set.{Set}
-use Rattle.sets.proofs.Tests.{T-eq, T-ext, T→true, true→T, and-l, split, either}
-use Rattle.sets.proofs.Members.{mem-those}
+use Rattle.sets.proofs.Tests.{T-eq, T-ext, T→true, true→T, and-l, and-r, and-i, split, either}
+use Rattle.sets.proofs.Members.{mem-those, those-ext}
 use Rattle.sets.proofs.RowLaws.{in-rowsOf, rowsOf-ext}
 use Rattle.engine.specs.Markings.{openingOf}
 use Rattle.engine.specs.Enabled.{graphAt}
@@ -22,12 +22,12 @@ use Rattle.rules.specs.Mining.{event}
 use Rattle.rules.specs.Replays.{Accepted}
 use Rattle.rules.proofs.Places.{some-trace}
 use Rattle.steps.specs.Rowwise.{reducedOf, waited}
-use Rattle.tally.specs.Passes.{Fact, gains, forward, through, reaches, cut}
+use Rattle.tally.specs.Passes.{Fact, gains, forward, through, reaches, eventIn, cut}
 use Rattle.tally.specs.Tallies.{tallied, talliedFor}
 use Rattle.tally.proofs.Folds.{heard, heard-in, forward-rowsOf, through-rowsOf, through-all}
 use Rattle.tally.proofs.Tallying.{form-agrees}
 use Rattle.miner.specs.Facts.{letIn, beforeFirst, missed}
-use Rattle.miner.specs.Stages.{conditionsOf, chainsOf, responsesOf, neverOf, includesIn, includesSix, excludesSix, sevenFrom, waitedOf, waitedIn, fourTables, graphFound, graphFoundIn}
+use Rattle.miner.specs.Stages.{conditionsOf, chainsOf, responsesOf, neverOf, includesIn, includesSix, excludesSix, sevenFrom, waitedOf, waitedIn, fourTables, tablesIn, graphFound, graphFoundIn}
 use Rattle.miner.proofs.Losing.{where-so}
 use Rattle.miner.proofs.OverLog.{some-place, rest-event}
 use Rattle.miner.proofs.EarlySteps.{events}
@@ -94,12 +94,18 @@ module _ (A : ℕ) (L : Traces) (ok : Accepted A L) where
       ∙ rowsOf-ext _ _ (λ a x la lx. ap (λ (b : Bool). start a x or b) (let-in-same never a x))
       ∙ sym (walk (letIn never))
 
+  -- the events, which are all held
+  events-form : those (eventIn (ltb word A) L) ≡ E
+  unfolding eventIn event
+  events-form = those-ext _ _ (λ x l. T-ext _ _ (and-r _ _) (λ h. and-i _ _ (true→T (all-reached x h)) h))
+
   pub form-graph : (p : Profile) → graphFoundIn (ltb word A) A L p ≡ graphFound A L p
   unfolding graphFoundIn graphFound
   form-graph p =
       let t : List ℕ = talliedFor (ltb word A) L in
       let seven : List ℕ → List ℕ = λ includes. sevenFrom E t includes (excludesSix p E t) L in
-      ap (graphAt A E (openingOf E))
+      ap (λ (v : Set). graphAt A v (openingOf v) (tablesIn (ltb word A) L v t p)) events-form
+      ∙ ap (graphAt A E (openingOf E))
       ((λ i. fourTables (waited-form (rowsFor E (reducedOf (conditionsOf E t))) (includes-form p t i) (seven (includes-form p t i)) i)
       (rowsFor E (reducedOf (responsesOf E t))) (includes-form p t i) (seven (includes-form p t i)))
       ∙ tables-at L t (tallied L) agree p)

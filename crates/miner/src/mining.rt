@@ -9,9 +9,8 @@ ghost use Rattle.sets.specs.Rows.{rowWords, rowsFor};
 ghost use Rattle.sets.specs.Tables.{noTables, tableAt, withTable};
 ghost use Rattle.engine.specs.Relations.{relationCount};
 ghost use Rattle.rules.specs.declared.Profile.the-variants.{Light};
-ghost use Rattle.rules.specs.Mining.{event};
 ghost use Rattle.steps.specs.Rowwise.{reducedOf};
-ghost use Rattle.tally.specs.Passes.{walked};
+ghost use Rattle.tally.specs.Passes.{walked, eventIn};
 ghost use Rattle.tally.specs.Tallies.{talliedFor};
 ghost use Rattle.miner.specs.Stages.{conditionsOf, responsesOf, neverOf, includesIn, excludesSix, sevenFrom};
 ghost use Rattle.miner.specs.Stages.{fourTables, graphFoundIn};
@@ -123,7 +122,7 @@ fn put_eight<'a>(
     put_responses(events, tally, out);
 }
 
-// The same of a log's first traces; it gives their events. The tally, the largest of all, is gone when it returns.
+// The same of a log's first traces; it gives their events, as far as the form holds them. The tally, the largest of all, is gone when it returns.
 fn tables_eight(
     bytes: &[u8],
     traces: usize,
@@ -131,7 +130,7 @@ fn tables_eight(
     profile: Profile,
     out: &mut Relations,
 ) -> Set
-    ensures { λ r. ⌜ r ≡ those (event (walked (now (bytes .entry)) traces 0)) ⌝ }
+    ensures { λ r. ⌜ r ≡ those (eventIn wide (walked (now (bytes .entry)) traces 0)) ⌝ }
     ensures { λ r. ⌜ (length (now (out .entry)) ≡ relationCount * rowWords → now (out .exit) ≡ fourTables
         (rowsFor r (reducedOf (conditionsOf r (talliedFor wide (walked (now (bytes .entry)) traces 0)))))
         (rowsFor r (reducedOf (responsesOf r (talliedFor wide (walked (now (bytes .entry)) traces 0)))))

@@ -32,7 +32,7 @@ use Rattle.graphfile.proofs.Writes.{unjudged-written, unjudged-after}
 use Rattle.graphfile.specs.declared.reader.Reading.{Reading}
 use Rattle.graphfile.specs.declared.reader.Bare.{Bare}
 use Rattle.graphfile.specs.declared.writer.Written.{Written}
-use Rattle.graphfile.specs.Layout.{wideIn}
+use Rattle.bytes.specs.Editions.{wideIn}
 use Rattle.graphfile.specs.Markings.{markingLength, markingFrom, markingInto}
 use Rattle.rules.specs.declared.Profile.{Profile}
 use Rattle.rules.specs.declared.Profile.the-variants.{Full, Light}

@@ -123,7 +123,6 @@ use Rattle.steps.proofs.reduce.reduced.Reads as reduced
 use Rattle.tally.proofs.log.empty.Reads as log-empty
 use Rattle.tally.proofs.in_form.Reads as in-form
 use Rattle.tally.proofs.log.note_traces_in.Reads as log-note-traces-in
-use Rattle.tally.proofs.log.note_traces.Reads as log-note-traces
 use Rattle.miner.proofs.conditions_eight.Reads as conditions-eight
 use Rattle.miner.proofs.excluded_five.Reads as excluded-five
 use Rattle.miner.proofs.last_places.Reads as last-places
@@ -595,9 +594,6 @@ in-form-once κ a r r′ s s′ h h′ = h ∙ sym h′
 
 pub log-note-traces-in-once : OnceLent log-note-traces-in.Post (λ κ s. now (s .1 .1 .1 .0))
 log-note-traces-in-once κ a r r′ s s′ h h′ = (h .0 ∙ sym (h′ .0), h .1 ∙ sym (h′ .1))
-
-pub log-note-traces-once : OnceLent log-note-traces.Post (λ κ s. now (s .1 .1 .0))
-log-note-traces-once κ a r r′ s s′ h h′ = (h .0 ∙ sym (h′ .0), h .1 ∙ sym (h′ .1))
 
 -- ---- miner
 

@@ -13,7 +13,8 @@ use Rattle.sets.specs.Tests.{_and_, _or_, non}
 use Rattle.sets.specs.Rows.{rowAt, withRow}
 use Rattle.sets.specs.Tables.{tableAt, withRowIn, gainedIn}
 use Rattle.sets.specs.declared.set.Set.{Set}
-use Rattle.sets.proofs.Tests.{T→true, F→false, split, either, and-comm, or-assoc, or-comm, or-false}
+use Rattle.sets.proofs.Tests.{T→true, F→false, split, either, and-false, and-comm, or-assoc, or-comm, or-false}
+use Rattle.sets.proofs.Tautologies.{by2, by3}
 use Rattle.sets.proofs.Members.{none-those, those-ext, those-of}
 use Rattle.sets.proofs.MadeSets.{Is, is-those}
 use Rattle.sets.proofs.RowLaws.{put-out}
@@ -47,10 +48,18 @@ seenIn past = those (λ x. past has x)
 abbrev pub lastIn : List ℕ → Set
 lastIn past = those (λ x. past beginsWith x)
 
--- of an empty list both are the empty set
+-- the set of what stands in it that a form holds
+abbrev pub heldIn : Bool → List ℕ → Set
+heldIn wide past = those (λ x. reaches wide x and past has x)
+
+-- of an empty list each is the empty set
 pub seen-none : _≡_ {A = Set} noSet (seenIn [])
 unfolding _has_
 seen-none = none-those (λ x. [] has x) (λ x l. refl)
+
+pub held-none : (wide : Bool) → _≡_ {A = Set} noSet (heldIn wide [])
+unfolding _has_
+held-none wide = none-those (λ x. reaches wide x and [] has x) (λ x l. and-false (reaches wide x))
 
 pub last-none : _≡_ {A = Set} noSet (lastIn [])
 unfolding _beginsWith_
@@ -64,12 +73,19 @@ has-past x (y ∷ xs) ys =
     has-past x xs (y ∷ ys) ∙ sym (or-assoc (xs has x) (eqb x y) (ys has x)) ∙ ap (λ (t : Bool). t or ys has x) (or-comm (xs has x) (eqb x y))
 
 -- after the last turn all of the trace was seen
-pub seen-all : (σ : List ℕ) (i : ℕ) (seen : Set) → length σ ≤ i → seen ≡ seenIn (pastAt σ i) → seen ≡ those (λ x. σ has x)
-unfolding _has_
-seen-all σ i seen h e =
-    e
-    ∙ those-ext (λ x. pastAt σ i has x) (λ x. σ has x)
-    (λ x l. has-past x (take i σ) [] ∙ or-false _ ∙ ap (λ (l : List ℕ). l has x) (take-all i σ h))
+module _ (σ : List ℕ) (i : ℕ) where
+  has-all : length σ ≤ i → (x : ℕ) → pastAt σ i has x ≡ σ has x
+  unfolding _has_
+  has-all h x = has-past x (take i σ) [] ∙ or-false _ ∙ ap (λ (l : List ℕ). l has x) (take-all i σ h)
+
+  pub seen-all : (seen : Set) → length σ ≤ i → seen ≡ seenIn (pastAt σ i) → seen ≡ those (λ x. σ has x)
+  seen-all seen h e = e ∙ those-ext (λ x. pastAt σ i has x) (λ x. σ has x) (λ x l. has-all h x)
+
+  pub held-all : (wide : Bool) (seen : Set) → length σ ≤ i → seen ≡ heldIn wide (pastAt σ i) → seen ≡ heldIn wide σ
+  held-all wide seen h e =
+      e
+      ∙ those-ext (λ x. reaches wide x and pastAt σ i has x) (λ x. reaches wide x and σ has x)
+      (λ x l. ap (λ (t : Bool). reaches wide x and t) (has-all h x))
 
 -- a set with one member more
 pub with-one : (seen one r : Set) (e : ℕ) → one ≡ those (λ b. eqb b e) → r ≡ those (λ a. mem seen a or mem one a) → r
@@ -91,6 +107,17 @@ seen-next σ i h seen hs r hr = seen-one (pastAt σ i) (getD σ i 0) seen r hs h
 pub seen-more : (past : List ℕ) (e : ℕ) (seen one seen′ : Set) → seen ≡ seenIn past → one ≡ those (λ b. eqb b e)
     → seen′ ≡ those (λ a. mem seen a or mem one a) → seen′ ≡ seenIn (e ∷ past)
 seen-more past e seen one seen′ hs ho hu = seen-one past e seen seen′ hs (with-one seen one seen′ e ho hu)
+
+-- the same of what a form holds
+pub held-more : (wide : Bool) (past : List ℕ) (e : ℕ) (seen one both seen′ : Set) → seen ≡ heldIn wide past → one ≡ those (λ b. eqb b e)
+    → both ≡ those (λ a. mem seen a or mem one a) → seen′ ≡ those (λ x. reaches wide x and mem both x) → seen′ ≡ heldIn wide (e ∷ past)
+unfolding _has_
+held-more wide past e seen one both seen′ hs ho hb h =
+    h
+    ∙ those-of both (λ x. mem seen x or eqb x e) (λ x t. reaches wide x and t) (with-one seen one both e ho hb)
+    ∙ those-of seen (λ x. reaches wide x and past has x) (λ x t. reaches wide x and (t or eqb x e)) hs
+    ∙ those-ext (λ x. reaches wide x and (reaches wide x and past has x or eqb x e)) (λ x. reaches wide x and (e ∷ past) has x)
+    (λ x l. by3 (λ r p o. r and (r and p or o)) (λ r p o. r and (o or p)) (unfold _and_ _or_ non in tt) (reaches wide x) (past has x) (eqb x e))
 
 -- a row joined with a set that is known
 pub joined-by : (rows : List ℕ) (e : ℕ) (q : ℕ → Bool) (s : Set) (rows′ : List ℕ) → s ≡ those q
@@ -167,6 +194,10 @@ low-held wide s low r t hl hr =
 formed : (wide : Bool) (s c : Set) (p : ℕ → Bool) → Is s p → c ≡ those (λ x. reaches wide x and mem s x) → Is c (λ x. reaches wide x and p x)
 formed wide s c p hs hc x l = is-those c _ hc x l ∙ ap (λ (t : Bool). reaches wide x and t) (hs x l)
 
+-- in the form, what it does not hold of a list does not stand there
+pub not-held : (r p : Bool) → (r and non (r and p)) ≡ (r and non p)
+not-held = by2 (λ r p. r and non (r and p)) (λ r p. r and non p) (unfold _and_ _or_ non in tt)
+
 -- a place of either pass, as its function puts it down: a set, what is not in it, and another or what is not in that
 module _ (wide : Bool) (tables : List ℕ) (e : ℕ) where
   pub past-put : (seen last s c c′ d d′ : Set) (one two out : List ℕ) → s ≡ those (λ x. reaches wide x and mem seen x)
@@ -189,13 +220,16 @@ module _ (wide : Bool) (tables : List ℕ) (e : ℕ) where
 
   -- by sets of what stands there, it is what the place says
   module _ (past rest : List ℕ) where
-    pub past-is : (seen last : Set) → seen ≡ seenIn past → last ≡ lastIn past → pastBy wide tables e seen last ≡ notePastIn wide tables e past rest
+    pub past-is : (seen last : Set) → seen ≡ heldIn wide past → last ≡ lastIn past → pastBy wide tables e seen last ≡ notePastIn wide tables e past rest
     unfolding pastBy notePastIn cut isEarlier notEarlier notDirectly
     past-is seen last hs hl =
         let seen-in = is-those seen _ hs in
         let last-in = is-those last _ hl in
-        thrice-as tables beforeTable unprecededTable unchainedTable e _ _ _ _ _ _ (λ x l. ap (λ (t : Bool). reaches wide x and t) (seen-in x l))
-        (λ x l. ap (λ (t : Bool). reaches wide x and non t) (seen-in x l)) (λ x l. ap (λ (t : Bool). reaches wide x and non t) (last-in x l))
+        thrice-as tables beforeTable unprecededTable unchainedTable e _ _ _ _ _ _
+        (λ x l.
+        ap (λ (t : Bool). reaches wide x and t) (seen-in x l)
+        ∙ by2 (λ r p. r and (r and p)) (λ r p. r and p) (unfold _and_ _or_ non in tt) (reaches wide x) (past has x))
+        (λ x l. ap (λ (t : Bool). reaches wide x and non t) (seen-in x l) ∙ not-held (reaches wide x) (past has x)) (λ x l. ap (λ (t : Bool). reaches wide x and non t) (last-in x l))
 
     pub rest-is : (after next : Set) → after ≡ seenIn rest → next ≡ lastIn rest → restBy wide tables e after next ≡ noteRestIn wide tables e past rest
     unfolding restBy noteRestIn cut isLater notLater isNext

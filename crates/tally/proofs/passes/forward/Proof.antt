@@ -19,5 +19,6 @@ pub forward-spec : {M : Type 1} → statement M
 forward-spec =
     tie.close
     (tie.spec Inv-loop μ-loop (λ c κs. search needs) (λ c. start _ _ _ _ (c .empty .ensures)) (λ c. search needs) (λ c. search needs)
-    (λ c. search needs) (λ c. search needs) (λ c κs. search (known, needs)) (λ c κs. search needs) (λ c κs. search needs) (λ c. search needs)
+    (λ c. search needs) (λ c. search needs) (λ c κs. search (known, needs)) (λ c κs. search needs) (λ c κs. search needs) (λ c κs. search needs)
+    (λ c. search needs)
     (λ c. search needs) loop-again (λ c. over (c .before .loop .inv) (c .loop-test .left)))
