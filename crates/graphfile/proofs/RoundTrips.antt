@@ -50,7 +50,7 @@ file-round bytes small ok = file-back bytes small (accepted bytes ok)
 pub file-graph : (bytes : List ℕ) → Bytes bytes → judgedFile bytes ≡ Done → judged (graphIn bytes) ≡ Done
 file-graph bytes small ok = graph-back bytes small (accepted bytes ok)
 
--- the length of a file: 52, and 9 for each row that is not empty; 84 and 17 where A is above 64
+-- the length of a file: 52, and 9 for each row below 64 that is not empty; 84, and 17 for each that is not, where A is above 64
 pub file-length : (g : Graph)
     → length (bytesOf g) ≡ headLength (wideFor (g .head .activities)) + rowsLength (wideFor (g .head .activities)) (rowsBefore (wideFor (g .head .activities)) (g .relations) relationCount)
 file-length g = length-file (wideFor (g .head .activities)) g

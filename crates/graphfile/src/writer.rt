@@ -58,7 +58,7 @@ fn rows_end(wide: bool) -> u8
     WORD
 }
 
-// How many rows of relation r are not empty.
+// How many rows of relation r are not empty, of those that the form has a place for.
 fn row_count(relations: &Relations, r: u8, wide: bool) -> usize
     ensures { λ n. ⌜ n ≡ rowCount wide (tableAt (now (relations .entry)) r) ⌝ }
     ensures { λ n. ⌜ n ≤ width ⌝ }
