@@ -7,7 +7,7 @@ use lib.Dec.{ltb}
 use Rattle.sets.specs.Tests.{_and_, _or_, non}
 use Rattle.sets.specs.Members.{word, width, mem}
 use Rattle.sets.specs.declared.set.Set.{Set}
-use Rattle.sets.proofs.Tests.{T→true, T-ext, true→T, or-e, or-r, or-true, or-false, either}
+use Rattle.sets.proofs.Tests.{T-ext, true→T, or-e, or-r, or-true, or-false, either}
 use Rattle.sets.proofs.Members.{Whole, whole-low, those-mem}
 use Rattle.tally.specs.Passes.{reaches}
 use Rattle.tally.specs.Tallies.{looksBack}
