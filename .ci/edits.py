@@ -178,13 +178,12 @@ def files(crates):
 
 def unnamed(crates):
     """The wrong versions that are kept and not named in docs/STATEMENTS.md, and those named and not kept."""
-    stated, seen = named(), set()
+    stated = named()
     for crate, path in files(crates):
-        seen.add(crate)
         names = [w.name for w in wrongs(path)[0]]
         yield from (f"docs/STATEMENTS.md does not name {name} of {os.path.relpath(path, ROOT)}" for name in names if name not in stated[crate])
         stated[crate].difference_update(names)
-    yield from (f"docs/STATEMENTS.md: {name} is no kept wrong version of {crate}" for crate in sorted(seen) for name in sorted(stated[crate]))
+    yield from (f"docs/STATEMENTS.md: {name} is no kept wrong version of {crate}" for crate in sorted(crates or stated) for name in sorted(stated[crate]))
 
 
 def fit(crates):
@@ -217,7 +216,7 @@ def counted(crate, label):
 def told_of(crate, label, ended, faults, kept):
     """The line that says how a try went, and its faults under it."""
     place = f"crates/{crate}/wrong/{label}.edit"
-    how = f"FAILED, {len(faults)} faults" if faults else f"{kept} refused, each by its own proof"
+    how = "FAILED" if faults else f"{kept} refused, each by its own proof"
     print(f"{place}: {how} ({counted(crate, label)}, {ended.took:.0f} s, {ended.used:.0f} s of a processor)")
     for fault in faults:
         print(f"{place}: {fault}")
@@ -243,8 +242,8 @@ def attempt(chosen, ready, at_length):
     began, used, kept = time.monotonic(), 0, collections.Counter()
     with contextlib.closing(trying.tries(queue, ready)) as tries:
         for crate, label, ended in tries:
-            told, faults = judge(crate, paths[crate, label])
-            faults = outcome(crate, label, ended) or faults
+            failed = outcome(crate, label, ended)
+            told, faults = ([], failed) if failed else judge(crate, paths[crate, label])
             told_of(crate, label, ended, faults, len(told))
             print(*told, sep="\n") if told and at_length else None
             used, bad, kept[crate] = used + ended.used, bad + len(faults), kept[crate] + len(told)
@@ -287,7 +286,7 @@ def tell(crates):
 
 
 def main(words):
-    for number in (signal.SIGTERM, signal.SIGHUP):  # as on an interrupt from the keyboard, the checks end too
+    for number in (signal.SIGINT, signal.SIGTERM, signal.SIGHUP):  # so that the checks under way are ended too
         signal.signal(number, lambda number, _: sys.exit(128 + number))
     if words[:1] == ["--fit"]:
         fit(words[1:])

@@ -122,8 +122,8 @@ def at_once():
 def tries(files, ready):
     """Tries files, (crate, label, texts) each and the dearest first, as many at once as there are processors (RT_JOBS: another number). A file
     waits until its crate is ready. Gives each as it ends. Whatever ends this ends the checks too."""
-    the_kit = kit()
-    name, waiting, running = folder_name(the_kit), list(files), {}
+    the_kit, waiting, running = kit(), list(files), {}
+    name = folder_name(the_kit) if waiting else None
     try:
         while waiting or running:
             for file in [file for file in waiting if ready(file[0])][: at_once() - len(running)]:
