@@ -15,13 +15,13 @@ use Rattle.sets.specs.Rows.{rowWords, noRows, rowAt, withRow}
 use Rattle.sets.specs.Tables.{noTables, tableAt, withRowsIn, withTable}
 use Rattle.sets.proofs.Tests.{eqb-of, split, either}
 use Rattle.sets.proofs.RowLaws.{rows-ext, row-put-same, row-put-other}
-use Rattle.sets.proofs.TableLaws.{table-put-same, table-put-other, rows-length, row-taken, tables-ext, length-table}
+use Rattle.sets.proofs.TableLaws.{table-put-same, table-put-other, length-rows-in, row-taken, tables-ext, length-table}
 use Rattle.engine.specs.Relations.{relationCount}
 use Rattle.miner.specs.Stages.{fourTables}
 
 module _ (tables : List ℕ) (k : ℕ) (rows : List ℕ) where
   put-length : length (withTable tables k rows) ≡ length tables
-  put-length = rows-length tables k rows width (withTable tables k rows) refl
+  put-length = length-rows-in tables k rows width
 
   others : (m j : ℕ) → (j ≡ k → ⊥) → tableAt (withRowsIn tables k rows m) j ≡ tableAt tables j
   unfolding withRowsIn
@@ -34,7 +34,7 @@ module _ (tables : List ℕ) (k : ℕ) (rows : List ℕ) where
     there zero lm a la = absurd (not-suc-le-zero la)
     there (suc m) lm a la =
         let held = withRowsIn tables k rows m in
-        let long : length (tableAt held k) ≡ rowWords = length-table n held k (rows-length tables k rows m held refl ∙ h) l in
+        let long : length (tableAt held k) ≡ rowWords = length-table n held k (length-rows-in tables k rows m ∙ h) l in
         ap (λ (x : List ℕ). rowAt x a) (table-put-same held k m (rowAt rows m))
         ∙ either (split (eqb a m))
         (λ t.

@@ -184,7 +184,7 @@ table-join tables k a s old new out ho hn h = h ∙ ap (withRowIn tables k a) (h
 
 pub ruleset placing = (word-past, word-put-past, table-row-is, table-row-above, table-put-is, table-put-above)
 
-length-rows-in : (tables : List ℕ) (k : ℕ) (rows : List ℕ) (i : ℕ) → length (withRowsIn tables k rows i) ≡ length tables
+pub length-rows-in : (tables : List ℕ) (k : ℕ) (rows : List ℕ) (i : ℕ) → length (withRowsIn tables k rows i) ≡ length tables
 unfolding withRowsIn
 length-rows-in tables k rows zero = refl
 length-rows-in tables k rows (suc i) = length-put-in (withRowsIn tables k rows i) k i (rowAt rows i) ∙ length-rows-in tables k rows i
