@@ -1,25 +1,30 @@
 -- Sets in bytes: what is put is read again at its place, and does not show elsewhere; what is read, put down again, is what was there. Assumes nothing.
 use mathlib.Core.Path.{_≡_, refl, sym, ap, ap₂, _∙_, subst}
 use mathlib.Core.Bool.{Bool, true, false, not}
-use mathlib.Core.Logic.{_⊎_, inl, inr}
+use mathlib.Core.Logic.{inl, inr}
 use mathlib.Core.List.{List, [], _∷_, _++_}
-use Prim.Native.Nat.{ℕ, _+_, _^_, _≤_, _<_}
+use Prim.Native.Nat.{ℕ, _+_, _*_, _^_, _≤_, _<_}
 use native.Mathlib.Omega.{arith}
 use borrow.Author.Tests.{lt-ltb, le-ltb, ltb-false, not-true, not-false}
-use lib.Dec.{ltb}
+use lib.Dec.{T, ltb}
 use lib.ListN.{length, getD, take, drop, length-append}
-use lib.Seq.{sets, length-sets, take-add, take-at, drop-at, drop-drop}
+use lib.Seq.{sets, length-sets, take-at, drop-at}
 use Rattle.sets.specs.Tests.{when_then_else_}
-use Rattle.sets.specs.Members.{mem, noSet}
+use Rattle.sets.specs.Members.{word, mem, those, noSet}
 use Rattle.bytes.specs.Numbers.{littleEndian, valueOf, numberAt}
 use Rattle.sets.specs.declared.set.Set.{Set}
 use Rattle.sets.proofs.Tests.{false→F}
+use Rattle.sets.proofs.Bits.{bitsOf-ext}
 use Rattle.sets.proofs.Members.{Whole, whole-fits, whole-low, those-mem, mem-none, none-high, low-alone}
-use Rattle.bytes.specs.Sets.{wordLength, setLength, Holds, setBytes, setThere, setAt, setPut}
+use Rattle.bytes.specs.Sets.{wordLength, setLength, setBytes, setThere, setAt, setPut}
 use Rattle.bytes.proofs.Codec.{Bytes, length-number}
 use Rattle.bytes.proofs.Parts.{part, meet, length-part, part-room, follow, Apart, part-apart, getD-apart, part-stored}
 use Rattle.bytes.proofs.Rooms.{ways}
 use Rattle.bytes.proofs.NumberLaws.{number-read, part-number, number-below}
+
+-- the form can hold the set: no member is past its last bit
+abbrev pub Holds : Bool → Set → Type 0
+Holds wide s = (a : ℕ) → T (mem s a) → a < 8 * setLength wide
 
 -- ---- ways through the code
 
@@ -282,3 +287,8 @@ set-holds false l bytes at =
   where
     there : Holds false (setThere false l at)
     there a t = low-alone (numberAt wordLength l at) a t
+
+-- two sets that agree below 64 have the same narrow form
+pub narrow-ext : (p q : ℕ → Bool) → ((a : ℕ) → a < word → p a ≡ q a) → setBytes false (those p) ≡ setBytes false (those q)
+unfolding setBytes those
+narrow-ext p q e = ap (λ (n : ℕ). littleEndian wordLength n ++ []) (bitsOf-ext word p q e)

@@ -24,6 +24,10 @@ editionFor a = when ltb word a then wideEdition else narrowEdition
 abbrev pub editionIn : List ℕ → ℕ
 editionIn bytes = getD bytes 2 0
 
+-- whether it has wide sets
+abbrev pub wideIn : List ℕ → Bool
+wideIn bytes = eqb (editionIn bytes) wideEdition
+
 -- a file opens with its letters, and with one of the editions
 unfoldable pub opensFile : List ℕ → List ℕ → Bool
 opensFile letters bytes = opensWith letters bytes and (eqb (editionIn bytes) narrowEdition or eqb (editionIn bytes) wideEdition)

@@ -1,12 +1,12 @@
 -- Sets as bytes (01, "Sizes": a set is 8 bytes, bit a for activity a; numbers are little-endian. 02, 10/12: 16 bytes in files of edition 2).
 use mathlib.Core.Bool.{Bool, true, false}
 use mathlib.Core.List.{List, [], _++_}
-use Prim.Native.Nat.{ℕ, _+_, _*_, _/_, _<_}
-use lib.Dec.{T, ltb}
+use Prim.Native.Nat.{ℕ, _+_, _/_}
+use lib.Dec.{ltb}
 use lib.ListN.{length}
 use lib.Seq.{sets}
 use Rattle.sets.specs.Tests.{when_then_else_}
-use Rattle.sets.specs.Members.{width, word, mem, noSet}
+use Rattle.sets.specs.Members.{width, word, noSet}
 use Rattle.bytes.specs.Numbers.{littleEndian, numberAt}
 use Rattle.sets.specs.declared.set.Set.{Set}
 
@@ -18,10 +18,6 @@ wordLength = word / 8
 abbrev pub setLength : Bool → ℕ
 setLength true = width / 8
 setLength false = wordLength
-
--- the form can hold the set: no member is past its last bit
-abbrev pub Holds : Bool → Set → Type 0
-Holds wide s = (a : ℕ) → T (mem s a) → a < 8 * setLength wide
 
 -- the bytes of a set; a member that the form cannot hold leaves no trace in them
 unfoldable pub setBytes : Bool → Set → List ℕ

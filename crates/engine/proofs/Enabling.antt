@@ -1,25 +1,23 @@
 -- The set of enabled activities, gathered from the events that are included; and a marking that is true has that very set. Assumes nothing.
-use mathlib.Core.Path.{_≡_, refl, sym, ap, ap₂, _∙_}
-use mathlib.Core.Bool.{Bool, true, false, not}
-use mathlib.Core.List.{List}
+use mathlib.Core.Path.{_≡_, refl, sym, ap, ap₂, _∙_, subst}
+use mathlib.Core.Bool.{Bool, true, false}
 use Prim.Native.Nat.{ℕ, _≤_, _<_}
 use native.Mathlib.Omega.{arith}
 use borrow.Author.Tests.{lt-ltb}
 use lib.Dec.{T, eqb, ltb}
 use Rattle.sets.specs.Tests.{_and_, _or_, non, when_then_else_}
-use Rattle.sets.specs.Members.{width, word, mem, those, isEmpty, within}
+use Rattle.sets.specs.Members.{width, word, mem, those, endBelow, isEmpty, within}
 use Rattle.sets.specs.Answers.{isDone}
 use Rattle.sets.specs.declared.set.Set.{Set}
-use Rattle.sets.specs.declared.answer.Answer.{Answer}
 use Rattle.sets.specs.declared.answer.Answer.the-variants.{Done, NoEvent, NotIncluded, Waiting}
 use Rattle.sets.proofs.Tests.{T-ext, T-eq, and-l, and-r, and-i, T→true, true→T, true-and}
-use Rattle.sets.proofs.Below.{some-ext}
+use Rattle.sets.proofs.Below.{some-ext, end-past}
 use Rattle.sets.proofs.Loops.{Gathered}
 use Rattle.sets.proofs.Members.{Whole, those-ext, those-of, within-i, within-e, mem-those}
 use Rattle.sets.proofs.MadeSets.{joined, is-those}
 use Rattle.engine.specs.declared.marking.State.{State}
 use Rattle.engine.specs.declared.marking.Marking.{Marking}
-use Rattle.engine.specs.Markings.{stateOf, markingOf}
+use Rattle.engine.specs.Markings.{stateOf, markingOf, fewOf}
 use Rattle.engine.specs.Relations.{Relations}
 use Rattle.engine.specs.Steps.{blocking, waits, blocker, enabled}
 use Rattle.engine.proofs.Stepping.{none-pass}
@@ -54,18 +52,17 @@ module _ (events : Set) (r : Relations) (s : State) where
       gathered live rest out hl
       (hp ∙ those-ext _ (λ a. non (waits r s a)) (λ a l. ap (λ (t : Bool). t and non (waits r s a)) (lt-ltb a width l) ∙ true-and _)) ho
 
-  -- and where only low ones are included, no other
-  module _ (low inc live : Set) (few : State) (t : Bool) (hl : low ≡ those (λ a. ltb a word)) (hv : live ≡ those (λ a. mem events a and mem (s .included) a))
-      (ht : t ≡ within (s .included) low) (yes : t ≡ true) (hi : inc ≡ those (λ a. mem (s .included) a and mem low a))
-      (hf : few ≡ stateOf (s .executed) (s .pending) inc) where
+  -- and where only low ones are included, no other, and none past the last of them
+  module _ (low inc live part : Set) (few : State) (t : Bool) (end : ℕ) (hl : low ≡ those (λ a. ltb a word))
+      (hv : live ≡ those (λ a. mem events a and mem (s .included) a)) (ht : t ≡ within (s .included) low) (yes : t ≡ true)
+      (hi : inc ≡ fewOf (s .included)) (hf : few ≡ stateOf (s .executed) (s .pending) inc) (hp : part ≡ fewOf live) (he : end ≡ endBelow width (mem part)) where
     is-low : (a : ℕ) → a < width → T (mem (s .included) a) → ltb a word ≡ true
     is-low a l h = sym (is-those low (λ b. ltb b word) hl a l) ∙ T→true _ (within-e (s .included) low (true→T (sym ht ∙ yes)) a l h)
 
     same : (a : ℕ) → a < width → mem (few .included) a ≡ mem (s .included) a
     same a l =
         ap (λ (u : State). mem (u .included) a) hf
-        ∙ is-those inc (λ b. mem (s .included) b and mem low b) hi a l
-        ∙ ap (λ (x : Bool). mem (s .included) a and x) (is-those low (λ b. ltb b word) hl a l)
+        ∙ is-those inc (λ b. mem (s .included) b and ltb b word) hi a l
         ∙ T-ext _ _ (λ h. and-l _ _ h) (λ h. and-i _ _ h (true→T (is-low a l h)))
 
     waits-same : (a : ℕ) → waits r few a ≡ waits r s a
@@ -74,17 +71,24 @@ module _ (events : Set) (r : Relations) (s : State) where
         some-ext width (blocking r few a) (blocking r s a)
         (λ b l. ap₂ (λ (x y : Bool). r .conditions b a and x and non y) (same b l) (ap (λ (u : State). mem (u .executed) b) hf))
 
-    pub gathered-low : (rest out : Set) → rest ≡ those (λ a. ltb a word and non (waits r few a)) → out ≡ those (λ a. mem live a and mem rest a)
+    below-end : (a : ℕ) → a < width → T (mem events a and mem (s .included) a) → T (ltb a end)
+    below-end a l h =
+        let live-in : T (mem live a) = T-eq (sym (is-those live (λ b. mem events b and mem (s .included) b) hv a l)) h in
+        let part-in : T (mem part a) =
+        T-eq (sym (is-those part (λ b. mem live b and ltb b word) hp a l)) (and-i _ _ live-in (true→T (is-low a l (and-r _ _ h)))) in
+        true→T (lt-ltb a end (subst (λ (n : ℕ). a < n) (sym he) (end-past width (mem part) a l part-in)))
+
+    pub gathered-low : (rest out : Set) → rest ≡ those (λ a. ltb a end and non (waits r few a)) → out ≡ those (λ a. mem live a and mem rest a)
         → out ≡ enabledSet events r s
     unfolding enabledSet
-    gathered-low rest out hp ho =
-        joined _and_ live rest out (λ a. mem events a and mem (s .included) a) (λ a. ltb a word and non (waits r few a))
-        (is-those live (λ a. mem events a and mem (s .included) a) hv) (is-those rest (λ a. ltb a word and non (waits r few a)) hp) ho
+    gathered-low rest out hr ho =
+        joined _and_ live rest out (λ a. mem events a and mem (s .included) a) (λ a. ltb a end and non (waits r few a))
+        (is-those live (λ a. mem events a and mem (s .included) a) hv) (is-those rest (λ a. ltb a end and non (waits r few a)) hr) ho
         ∙ those-ext _ (λ a. isDone (enabled events r s a))
         (λ a l.
-        ap (λ (x : Bool). mem events a and mem (s .included) a and (ltb a word and non x)) (waits-same a)
+        ap (λ (x : Bool). mem events a and mem (s .included) a and (ltb a end and non x)) (waits-same a)
         ∙ T-ext _ _ (λ h. and-i _ _ (and-l _ _ h) (and-r _ _ (and-r _ _ h)))
-        (λ h. and-i _ _ (and-l _ _ h) (and-i _ _ (true→T (is-low a l (and-r _ _ (and-l _ _ h)))) (and-r _ _ h)))
+        (λ h. and-i _ _ (and-l _ _ h) (and-i _ _ (below-end a l (and-l _ _ h)) (and-r _ _ h)))
         ∙ sym (done-parts a))
 
 -- a loop over the activities below an end has gathered those of them

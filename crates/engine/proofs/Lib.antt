@@ -3,5 +3,6 @@ pub mod Judging
 pub mod Stepping
 pub mod Running
 pub mod Enabling
+pub mod Narrow
 pub mod Acceptable
 pub mod Examples

@@ -7,6 +7,7 @@ ghost use Rattle.engine.specs.Relations.{inTables};
 ghost use Rattle.engine.specs.Steps.{waits};
 ghost use Rattle.engine.specs.Enabled as rules;
 use crate::graph::Relations;
+use crate::marking;
 use crate::marking::Marking;
 use crate::marking::State;
 use crate::step;
@@ -35,17 +36,17 @@ fn free(relations: &Relations, s: State, end: u8) -> Set
     out
 }
 
-// The events that are included and wait for nothing. Where no more than the first 64 are included, nobody else is asked, and the second word of
-// what is included is cut off, so that the compiler drops it (02, 10/12).
+// The events that are included and wait for nothing. Where no more than the first 64 are included, nobody past the last of them is asked,
+// and what is included is cut there.
 pub fn enabled_set(events: Set, relations: &Relations, s: State) -> Set
     ensures { λ r. ⌜ r ≡ rules.enabledSet events (inTables (now (relations .entry))) s ⌝ }
 {
     let included = s.included;
     let live = events.intersection(included);
-    let low = Set::below(WORD);
-    if included.is_within(low) {
-        let few = State::of(s.executed, s.pending, included.intersection(low));
-        return live.intersection(free(relations, few, WORD));
+    if included.is_within(Set::below(WORD)) {
+        let near = State::of(s.executed, s.pending, marking::few(included));
+        let end = marking::few(live).end();
+        return live.intersection(free(relations, near, end));
     }
     live.intersection(free(relations, s, Activity::LIMIT))
 }

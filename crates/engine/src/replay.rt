@@ -1,12 +1,18 @@
 // The replay of a trace (01, "A step").
 ghost use mathlib.Core.Path.{_≡_};
+ghost use lib.ListN.{drop};
+ghost use Rattle.engine.specs.Markings.{fewIn};
 ghost use Rattle.engine.specs.Relations.{inTables};
+ghost use Rattle.engine.specs.Steps.{after, gainsFew};
 ghost use Rattle.engine.specs.Replay.{walkedOf, replayFrom, replayOf};
 use crate::enabled;
 use crate::graph::Graph;
 use crate::graph::Head;
+use crate::graph::INCLUDES;
+use crate::graph::RESPONSES;
 use crate::graph::Relations;
 use crate::judge;
+use crate::marking;
 use crate::marking::Marking;
 use crate::marking::State;
 use crate::step;
@@ -14,6 +20,8 @@ use sets::Activity;
 use sets::Answer;
 use sets::Place;
 use sets::Set;
+use sets::activity::WORD;
+use sets::tables;
 
 // Where a replay ends: its answer, the place of the event refused (the length where all are done), the marking then, and
 // whether it is accepting.
@@ -33,11 +41,62 @@ pub struct Walked {
     pub accepting: bool,
 }
 
-// A whole trace on lent relations, from a state: for callers that have judged the graph.
-pub fn walk<'a>(events: Set, relations: &'a Relations, opening: State, trace: &'a [u8]) -> Walked
-    ensures { λ r. ⌜ r ≡ walkedOf (replayFrom events (inTables (now (relations .entry))) opening 0 (now (trace .entry))) ⌝ }
+// The rest of a trace on lent relations, from a state at a place.
+fn walk_on<'a>(
+    events: Set,
+    relations: &'a Relations,
+    from: State,
+    start: usize,
+    trace: &'a [u8],
+) -> Walked
+    ensures { λ r. ⌜ r ≡ walkedOf (replayFrom events (inTables (now (relations .entry))) from start (drop start (now (trace .entry)))) ⌝ }
 {
-    let mut s = opening;
+    let mut s = from;
+    let mut at = start;
+    while at < trace.len() {
+        let a = Activity(trace[at]);
+        let answer = step::ask(events, relations, s, a);
+        if !answer.is_done() {
+            return Walked {
+                answer,
+                place: Place(at),
+                state: s,
+                accepting: false,
+            };
+        }
+        s = step::next(relations, s, a);
+        at += 1;
+    }
+    Walked {
+        answer: Answer::Done,
+        place: Place(at),
+        state: s,
+        accepting: step::is_accepting(s),
+    }
+}
+
+// Whether what a step adds to pending and included lies below 64.
+fn gains_few(relations: &Relations, a: Activity) -> bool
+    ensures { λ r. ⌜ r ≡ gainsFew (inTables (now (relations .entry))) (a .0) ⌝ }
+{
+    let responses = tables::row(relations, RESPONSES, a);
+    let gained = responses.union(tables::row(relations, INCLUDES, a));
+    gained.is_within(Set::below(WORD))
+}
+
+// What of the state after a step lies below 64.
+fn next_few(relations: &Relations, s: State, a: Activity) -> State
+    ensures { λ r. ⌜ r ≡ fewIn (after (inTables (now (relations .entry))) s (a .0)) ⌝ }
+{
+    marking::few_in(step::next(relations, s, a))
+}
+
+// A whole trace on lent relations, from what of a state lies below 64. It is cut there after each step that gains nothing above, which changes
+// nothing, so that the loop goes on one word (02, 10/12).
+fn walk_few<'a>(events: Set, relations: &'a Relations, opening: State, trace: &'a [u8]) -> Walked
+    ensures { λ r. ⌜ r ≡ walkedOf (replayFrom events (inTables (now (relations .entry))) (fewIn opening) 0 (now (trace .entry))) ⌝ }
+{
+    let mut s = marking::few_in(opening);
     let mut i: usize = 0;
     while i < trace.len() {
         let a = Activity(trace[i]);
@@ -50,7 +109,10 @@ pub fn walk<'a>(events: Set, relations: &'a Relations, opening: State, trace: &'
                 accepting: false,
             };
         }
-        s = step::next(relations, s, a);
+        if !gains_few(relations, a) {
+            return walk_on(events, relations, s, i, trace);
+        }
+        s = next_few(relations, s, a);
         i += 1;
     }
     Walked {
@@ -59,6 +121,16 @@ pub fn walk<'a>(events: Set, relations: &'a Relations, opening: State, trace: &'
         state: s,
         accepting: step::is_accepting(s),
     }
+}
+
+// A whole trace on lent relations, from a state: for callers that have judged the graph.
+pub fn walk<'a>(events: Set, relations: &'a Relations, opening: State, trace: &'a [u8]) -> Walked
+    ensures { λ r. ⌜ r ≡ walkedOf (replayFrom events (inTables (now (relations .entry))) opening 0 (now (trace .entry))) ⌝ }
+{
+    if judge::state_within(Set::below(WORD), opening) {
+        return walk_few(events, relations, opening, trace);
+    }
+    walk_on(events, relations, opening, 0, trace)
 }
 
 // The same, with the marking. Its set of enabled activities is worked out once, at the end (02, 6/12).

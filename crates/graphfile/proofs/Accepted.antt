@@ -20,7 +20,8 @@ use Rattle.sets.specs.Sizes.{mostActivities}
 use Rattle.bytes.specs.Editions.{editionFor, editionIn, opensFile, beyond}
 use Rattle.bytes.proofs.Editions.{within-limit, within-both}
 use Rattle.engine.specs.Relations.{relationCount}
-use Rattle.graphfile.specs.Layout.{letters, wideIn, headLength, rowsLength, activitiesIn, eventsIn, stateIn, offsetIn, countIn}
+use Rattle.graphfile.specs.Layout.{letters, headLength, rowsLength, activitiesIn, eventsIn, stateIn, offsetIn, countIn}
+use Rattle.bytes.specs.Editions.{wideIn}
 use Rattle.graphfile.specs.Layout.{earlierRows, endOf}
 use Rattle.graphfile.specs.Refusals.{mostRows, judgedSets, judgedHead, judgedEntry, judgedEnd, judgedBeforeRows, judgedRow, judgedRelation}
 use Rattle.graphfile.specs.Refusals.{judgedFile}

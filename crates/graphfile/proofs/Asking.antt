@@ -11,7 +11,8 @@ use Rattle.sets.specs.declared.answer.Answer.{Answer}
 use Rattle.sets.specs.declared.answer.Answer.the-variants.{TooShort}
 use Rattle.sets.proofs.Asking.{refused, passed, gone-on}
 use Rattle.engine.specs.Relations.{relationCount}
-use Rattle.graphfile.specs.Layout.{wideIn, headLength}
+use Rattle.graphfile.specs.Layout.{headLength}
+use Rattle.bytes.specs.Editions.{wideIn}
 use Rattle.graphfile.proofs.Accepted.{head-done}
 use Rattle.graphfile.specs.Refusals.{judgedHead, judgedEntry, judgedEnd, judgedBeforeRows}
 

@@ -26,20 +26,22 @@ use Rattle.bytes.proofs.Opens.{opens-is}
 use Rattle.engine.specs.Relations.{relationCount}
 use Rattle.engine.specs.Judged.{rowWithin, rowsWithin, relationsWithin, graphWithin, judgedFor, judged}
 use Rattle.engine.proofs.Acceptable.{judged-at}
-use Rattle.graphfile.specs.Layout.{letters, wideIn, wideFor, headLength, rowLength, rowsLength, rowPlace, activitiesIn, eventsIn, stateIn, headIn, offsetIn, countIn, sumOf}
+use Rattle.graphfile.specs.Layout.{letters, wideFor, headLength, rowLength, rowsLength, rowPlace, activitiesIn, eventsIn, stateIn, headIn, offsetIn, countIn, sumOf}
+use Rattle.bytes.specs.Editions.{wideIn}
 use Rattle.graphfile.specs.Layout.{activitiesPlace, eventsPlace, executedPlace, stateLength, entriesPlace, entryLength, earlierRows, keyIn, rowIn}
-use Rattle.graphfile.specs.Refusals.{judgedRow}
+use Rattle.graphfile.specs.Refusals.{mostRows, judgedRow}
 use Rattle.graphfile.specs.Held.{relationsIn, graphIn}
 use Rattle.graphfile.specs.Writing.{rowOf, rowsFrom, rowCount, rowsBefore, entryBytes, entriesBytes, stateBytes}
 use Rattle.graphfile.specs.Writing.{headBytes}
 use Rattle.graphfile.specs.Writing.{relationBytes, relationsBytes, bytesBy, bytesOf}
 use Rattle.bytes.specs.Sets.{setLength, setBytes, setAt}
+use Rattle.bytes.proofs.SetLaws.{Holds}
 use Rattle.bytes.proofs.Codec.{Bytes}
 use Rattle.bytes.proofs.Parts.{part, meet, length-part, part-whole, part-one}
 use Rattle.bytes.proofs.NumberLaws.{part-number}
 use Rattle.bytes.specs.Editions.{wideEdition, editionFor, opensFile}
 use Rattle.bytes.specs.Opens.{opensWith}
-use Rattle.bytes.proofs.SetLaws.{set-part, set-whole}
+use Rattle.bytes.proofs.SetLaws.{set-part, set-whole, set-holds}
 use Rattle.graphfile.proofs.RowLengths.{rows-none, rows-add, rows-suc, rows-le, rows-same}
 use Rattle.graphfile.proofs.Accepted.{Accepted, head-done, entry-done}
 use Rattle.graphfile.proofs.Stores.{length-rows}
@@ -64,7 +66,7 @@ part-row l bytes k h =
     meet l (keyIn l k ∷ []) (setBytes (wideIn l) (rowIn l k)) (rowPlace l k) 1 (rowPlace l k + 1) (setLength (wideIn l)) refl
     (part-one l (rowPlace l k) (omega arith)) (set-part (wideIn l) l bytes (rowPlace l k + 1) (omega arith))
 
-module _ (events : Set) (bytes : List ℕ) (small : Bytes bytes) where
+module _ (events : Set) (bytes : List ℕ) (small : Bytes bytes) (fits : Holds (wideIn bytes) events) where
   abbrev wide : Bool
   wide = wideIn bytes
 
@@ -79,14 +81,14 @@ module _ (events : Set) (bytes : List ℕ) (small : Bytes bytes) where
       ∙ part-row bytes small k room
 
   -- m activities from a on, and n legal rows from row k on, put into rows that are empty from a on
-  rows-back : (m a n k : ℕ) (rows : List ℕ) → a + m ≡ width → length rows ≡ rowWords → ((b : ℕ) → a ≤ b → isEmpty (rowAt rows b) ≡ true)
+  rows-back : (m a n k : ℕ) (rows : List ℕ) → a + m ≡ mostRows wide → length rows ≡ rowWords → ((b : ℕ) → a ≤ b → isEmpty (rowAt rows b) ≡ true)
       → Legal events bytes a n k → rowPlace bytes (k + n) ≤ length bytes
       → rowsFrom wide (rowsFilled bytes rows n k) m a ≡ part bytes (rowPlace bytes k) (rowsLength wide n)
   unfolding rowsFrom rowsFilled
   rows-back zero a zero k rows e len none l room = ap (part bytes (rowPlace bytes k)) (sym (rows-none wide))
   rows-back zero a (suc n) k rows e len none l room =
       let up = l .0 in
-      let low = l .1 .low in
+      let low = fits (keyIn bytes k) (l .1 .event) in
       absurd (omega arith)
   rows-back (suc m) a zero k rows e len none l room =
       ap (λ (r : List ℕ). r ++ rowsFrom wide rows m (suc a)) (row-empty wide a (rowAt rows a) (none a (omega arith)))
@@ -172,13 +174,14 @@ module _ (bytes : List ℕ) (small : Bytes bytes) (ok : Accepted bytes) where
     unfolding relationIn
     relation-back =
         ap (relationBytes form) (table-read bytes relationCount r l (omega arith))
-        ∙ rows-back (eventsIn bytes) bytes small width 0 (countIn bytes r) (earlierRows bytes r) noRows refl refl (λ b h. no-rows b)
+        ∙ rows-back (eventsIn bytes) bytes small (set-holds form bytes small eventsPlace) (mostRows form) 0 (countIn bytes r) (earlierRows bytes r)
+        noRows (zero-add (mostRows form)) refl (λ b h. no-rows b)
         (legal r l) room
 
-    count-back : rowCount (tableAt tables r) ≡ countIn bytes r
+    count-back : rowCount form (tableAt tables r) ≡ countIn bytes r
     count-back =
-        rows-same form (rowCount (tableAt tables r)) (countIn bytes r)
-        (sym (length-rows form (tableAt tables r) width 0)
+        rows-same form (rowCount form (tableAt tables r)) (countIn bytes r)
+        (sym (length-rows form (tableAt tables r) (mostRows form) 0)
         ∙ ap length relation-back
         ∙ length-part bytes (rowPlace bytes (earlierRows bytes r)) (rowsLength form (countIn bytes r))
         (omega (arith, room, rows-add form (earlierRows bytes r) (countIn bytes r))))
@@ -200,8 +203,8 @@ module _ (bytes : List ℕ) (small : Bytes bytes) (ok : Accepted bytes) where
         (part-number bytes small (entriesPlace form + numberLength + entryLength * r) numberLength (omega (arith, ok .long)))
 
   -- as many rows are written before a relation as were read
-  before-back : (r : ℕ) → r ≤ relationCount → rowsBefore tables r ≡ earlierRows bytes r
-  before-back r l = sum-ext (λ k. rowCount (tableAt tables k)) (countIn bytes) r (λ k h. count-back k (omega arith))
+  before-back : (r : ℕ) → r ≤ relationCount → rowsBefore form tables r ≡ earlierRows bytes r
+  before-back r l = sum-ext (λ k. rowCount form (tableAt tables k)) (countIn bytes) r (λ k h. count-back k (omega arith))
 
   -- the letters, the edition and A
   start-back : (letters ++ (editionFor (activitiesIn bytes) ∷ activitiesIn bytes ∷ [])) ≡ part bytes 0 eventsPlace

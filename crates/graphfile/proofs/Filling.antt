@@ -24,7 +24,8 @@ use Rattle.engine.specs.declared.graph.Graph.{Graph}
 use Rattle.bytes.specs.Sets.{setAt}
 use Rattle.graphfile.specs.declared.reader.Reading.{Reading}
 use Rattle.graphfile.specs.declared.reader.Bare.{Bare}
-use Rattle.graphfile.specs.Layout.{wideIn, eventsPlace, headLength, eventsIn, stateIn, headIn, countIn, earlierRows, keyIn, rowIn}
+use Rattle.graphfile.specs.Layout.{eventsPlace, headLength, eventsIn, stateIn, headIn, countIn, earlierRows, keyIn, rowIn}
+use Rattle.bytes.specs.Editions.{wideIn}
 use Rattle.graphfile.specs.Refusals.{rises, rowAnswer, judgedRow, judgedBeforeRows, judgedRelation, judgedFile}
 use Rattle.graphfile.specs.Held.{filled, withRelation, withRelations, relationsIn, graphIn, readOf, bareOf, bareTables}
 use Rattle.graphfile.proofs.Judging.{row-judged}
@@ -48,34 +49,34 @@ module _ (bytes : List ℕ) (r : ℕ) where
       ∙ ap (λ (n : ℕ). filled bytes held r n (first + j)) (sym left)
       ∙ h
 
-  fill-end : (held whole : List ℕ) (count first j : ℕ) → count ≤ j → filled bytes held r (count - j) (first + j) ≡ whole → held ≡ whole
+  pub fill-end : (held whole : List ℕ) (count first j : ℕ) → count ≤ j → filled bytes held r (count - j) (first + j) ≡ whole
+      → Done ≡ Done → held ≡ whole
   unfolding filled
-  fill-end held whole count first j l h =
+  fill-end held whole count first j l h q =
       let none : count - j ≡ 0 = omega arith in
       ap (λ (n : ℕ). filled bytes held r n (first + j)) (sym none) ∙ h
 
-  pub take-end : (held whole : List ℕ) (first count j : ℕ) → firstRefusal j (judgedRow bytes first) ≡ Done
-      → filled bytes held r (count - j) (first + j) ≡ whole → count ≤ j → j ≤ count
-      → (Done ≡ firstRefusal count (judgedRow bytes first)) × (Done ≡ Done → held ≡ whole)
-  take-end held whole first count j f h l g = (turns-end (judgedRow bytes first) count j l g f, λ q. fill-end held whole count first j l h)
-
 -- ---- row by row: judged, then put
 
-module _ (bytes held : List ℕ) (first count j key : ℕ) (events row : Set) (above : Bool) (a : Answer) (d : Bool) (he : events
-    ≡ eventsIn bytes)
+module _ (bytes : List ℕ) (first j key : ℕ) (events row : Set) (above : Bool) (a : Answer) (d : Bool) (he : events ≡ eventsIn bytes)
     (hk : key ≡ keyIn bytes (first + j)) (hr : row ≡ rowIn bytes (first + j)) (hu : above ≡ rises bytes first j)
     (ha : a ≡ rowAnswer events key row above) (hd : d ≡ isDone a) (f : firstRefusal j (judgedRow bytes first) ≡ Done) where
   here : a ≡ judgedRow bytes first j
   here = row-judged bytes first j key events row above a he hk hr hu ha
 
-  pub take-refused : (whole : List ℕ) → j < count → not d ≡ true
-      → (a ≡ firstRefusal count (judgedRow bytes first)) × (a ≡ Done → held ≡ whole)
-  take-refused whole l n = (turn-refused (judgedRow bytes first) j a d here hd f count l n, never-done a _ d here hd n)
+  pub take-stopped : (count : ℕ) → j < count → not d ≡ true → a ≡ firstRefusal count (judgedRow bytes first)
+  take-stopped count l n = turn-refused (judgedRow bytes first) j a d here hd f count l n
 
   pub take-passed : not d ≡ false → firstRefusal (j + 1) (judgedRow bytes first) ≡ Done
   take-passed n = turn-passed (judgedRow bytes first) j a d here hd f n
 
-pub ruleset taking = (turns-begin, fill-begin, take-passed, fill-turn)
+pub ruleset taking = (turns-begin, turns-end, take-passed, take-stopped, fill-begin, fill-turn, fill-end)
+
+-- what holds before each turn of the loop, in either form
+abbrev pub Taken : List ℕ → ℕ → ℕ → ℕ → List ℕ → Set → List ℕ → ℕ → Type 0
+Taken bytes r count first held₀ events held j =
+    (j ≤ count) × (events ≡ eventsIn bytes) × (firstRefusal j (judgedRow bytes first) ≡ Done)
+    × (filled bytes held r (count - j) (first + j) ≡ filled bytes held₀ r count first)
 
 pub relation-taken : (bytes held tables : List ℕ) (r first count : ℕ) (a : Answer) → first ≡ earlierRows bytes r → count ≡ countIn bytes r
     → a ≡ firstRefusal count (judgedRow bytes first) → (a ≡ Done → tables ≡ filled bytes held r count first)

@@ -18,7 +18,8 @@ use Rattle.engine.specs.Enabled.{marked}
 use Rattle.bytes.specs.Numbers.{numberLength, numberAt}
 use Rattle.bytes.specs.Sets.{setLength, setAt}
 use Rattle.bytes.specs.Editions.{wideEdition, editionFor, editionIn}
-use Rattle.graphfile.specs.Layout.{wideIn, wideFor, activitiesPlace, eventsPlace, executedPlace, entriesPlace, entryLength, headLength, rowsLength}
+use Rattle.graphfile.specs.Layout.{wideFor, activitiesPlace, eventsPlace, executedPlace, entriesPlace, entryLength, headLength, rowsLength}
+use Rattle.bytes.specs.Editions.{wideIn}
 use Rattle.graphfile.specs.Layout.{eventsIn, stateAt, stateIn, markingAt, headAt, headIn, offsetIn, countIn, rowPlace, keyIn, rowIn}
 use Rattle.graphfile.specs.Markings.{markingLength}
 use Rattle.graphfile.specs.Heads.{loneHeadLength, wideHead, headFrom}
@@ -31,6 +32,9 @@ wide-by bytes e h = ap (λ (n : ℕ). eqb n 2) h
 
 pub form-by : (a e : ℕ) → e ≡ editionFor a → eqb e 2 ≡ wideFor a
 form-by a e h = ap (λ (n : ℕ). eqb n 2) h
+
+pub form-known : (bytes : List ℕ) (w b : Bool) → w ≡ wideIn bytes → w ≡ b → b ≡ wideIn bytes
+form-known bytes w b hw h = sym h ∙ hw
 
 -- ---- lengths that fit a machine's number
 
@@ -97,6 +101,9 @@ module _ (bytes : List ℕ) (w : Bool) (hw : w ≡ wideIn bytes) where
 
     pub row-fits : rowPlace bytes (suc k) ≤ length bytes → length bytes < 2 ^ 64 → p + 1 < 2 ^ 64
     row-fits l m = omega (arith, place-is, rows-suc (wideIn bytes) k)
+
+    pub row-room : rowPlace bytes (suc k) ≤ length bytes → p + 1 + setLength w ≤ length bytes
+    row-room l = omega (arith, place-is, rows-suc (wideIn bytes) k, ap setLength hw)
 
     pub row-at : (s : Set) → s ≡ setAt w bytes (p + 1) → s ≡ rowIn bytes k
     row-at s h = h ∙ (λ i. setAt (hw i) bytes (place-is i + 1))
@@ -169,4 +176,4 @@ events-found bytes w events hw h = h ∙ ap (λ (b : Bool). setAt b bytes events
 
 pub ruleset walking = (row-there, key-there, key-before, events-found)
 
-pub ruleset forms = (wide-by, form-by, count-at, offset-at, key-room, key-at, row-fits, row-at, head-room, head-long, head-in-is, state-in-is, marking-is, head-is, head-none, head-some, place-fits, file-fits, entry-fits)
+pub ruleset forms = (wide-by, form-by, count-at, offset-at, key-room, key-at, row-fits, row-room, row-at, head-room, head-long, head-in-is, state-in-is, marking-is, head-is, head-none, head-some, place-fits, file-fits, entry-fits)

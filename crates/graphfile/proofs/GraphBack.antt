@@ -7,22 +7,26 @@ use native.Mathlib.Nat.{add-zero, zero-add, le-refl, le-of-suc-le-suc}
 use native.Mathlib.Numerals.{one-add}
 use native.Mathlib.Omega.{arith}
 use lib.Arith.{lt-of-le-ne}
-use lib.Dec.{T, eqb, eqb→eq}
+use borrow.Author.Tests.{ltb-true, ltb-false}
+use lib.Dec.{T, eqb, ltb, eqb→eq}
 use lib.ListN.{length, getD, take, drop}
 use lib.Seq.{take-at, drop-at, drop-drop, getD-drop}
 use Rattle.sets.specs.Tests.{when_then_else_}
 use Rattle.sets.specs.Members.{width, mem, noSet, isEmpty, within}
 use Rattle.sets.specs.Rows.{rowWords, rowAt, withRow}
 use Rattle.sets.specs.declared.set.Set.{Set}
-use Rattle.sets.proofs.Tests.{and-l, and-r, or-e, split, either, false→F, eqb-of}
+use Rattle.sets.proofs.Tests.{T→true, F→false, and-l, and-r, or-e, split, either, false→F, eqb-of}
 use Rattle.sets.proofs.Members.{Whole, whole-empty}
 use Rattle.sets.proofs.RowLaws.{length-put, row-put-same, row-put-other}
 use Rattle.engine.specs.Judged.{rowWithin}
-use Rattle.graphfile.specs.Layout.{wideIn, rowLength, rowPlace, keyIn, rowIn}
+use Rattle.graphfile.specs.Layout.{rowLength, rowPlace, keyIn, rowIn}
+use Rattle.bytes.specs.Editions.{wideIn}
+use Rattle.graphfile.specs.Refusals.{mostRows}
 use Rattle.graphfile.specs.Writing.{rowOf, rowsFor, rowsFrom, countFrom}
-use Rattle.bytes.specs.Sets.{setLength, Holds, setBytes}
+use Rattle.bytes.specs.Sets.{setLength, setBytes}
+use Rattle.bytes.proofs.SetLaws.{Holds}
 use Rattle.bytes.proofs.SetLaws.{length-set, set-read}
-use Rattle.graphfile.proofs.RowLengths.{rows-suc}
+use Rattle.graphfile.proofs.RowLengths.{set-most, rows-suc}
 use Rattle.graphfile.proofs.FileBack.{row-empty, row-some}
 use Rattle.graphfile.proofs.Legal.{LegalRow, Legal, rowsFilled}
 
@@ -54,7 +58,7 @@ module _ (bytes : List ℕ) (k a : ℕ) (s : Set) (rest : List ℕ) (whole : Who
 -- ---- row by row
 
 module _ (events : Set) (bytes rows tail : List ℕ) (whole : (b : ℕ) → Whole (rowAt rows b)) (holds : (b : ℕ) → Holds (wideIn bytes) (rowAt rows b))
-    (inside : (b : ℕ) → b < width → T (rowWithin events b (rowAt rows b))) where
+    (inside : (b : ℕ) → b < width → T (rowWithin events b (rowAt rows b))) (fits : Holds (wideIn bytes) events) where
   -- what is held has the first a rows, and empty ones from there on
   pub record Held (a : ℕ) (held : List ℕ) : Type 0 where
     pub many : length held ≡ rowWords
@@ -161,10 +165,21 @@ module _ (events : Set) (bytes rows tail : List ℕ) (whole : (b : ℕ) → Whol
               (omega arith, legal, subst (λ (x : ℕ). Legal events bytes (suc x) (countFrom rows m (suc a)) (suc k)) (sym key) (next .1)),
         )
 
-  pub rows-forth : (m a k : ℕ) (held : List ℕ) → a + m ≡ width → Held a held
+  -- once the activities are there that the form has a bit for, all is: no other is an event, so no other has a row
+  all-there : (a : ℕ) (held : List ℕ) → mostRows (wideIn bytes) ≤ a → Held a held → (b : ℕ) → b < width → rowAt held b ≡ rowAt rows b
+  unfolding rowWithin
+  all-there a held most h b low =
+      either (split (ltb b a)) (λ t. h .there b (ltb-true b a (T→true _ t)))
+      (λ f.
+      let far = ltb-false b a (F→false _ f) in
+      either (or-e (mem events b) (isEmpty (rowAt rows b)) (and-r _ _ (inside b low)))
+      (λ m. let near = fits b m in absurd (omega arith))
+      (λ e. h .empty b far ∙ whole-empty (rowAt rows b) (whole b) (T→true _ e)))
+
+  pub rows-forth : (m a k : ℕ) (held : List ℕ) → a + m ≡ mostRows (wideIn bytes) → Held a held
       → drop (rowPlace bytes k) bytes ≡ rowsFrom (wideIn bytes) rows m a ++ tail → Back m a k held
   unfolding countFrom rowsFilled
-  rows-forth zero a k held e h here = ((λ b low. h .there b (omega arith)), tt)
+  rows-forth zero a k held e h here = (all-there a held (omega arith) h, tt)
   rows-forth (suc m) a k held e h here =
       pick (isEmpty (rowAt rows a)) refl (λ h′ here′. rows-forth m (suc a) k held (omega arith) h′ here′)
       (λ h′ here′. rows-forth m (suc a) (suc k) (withRow held a (rowAt rows a)) (omega arith) h′ here′)
@@ -174,5 +189,5 @@ module _ (events : Set) (bytes rows tail : List ℕ) (whole : (b : ℕ) → Whol
           → (Held (suc a) (withRow held a (rowAt rows a)) → drop (rowPlace bytes (suc k)) bytes ≡ rowsFrom (wideIn bytes) rows m (suc a) ++ tail
           → Back m (suc a) (suc k) (withRow held a (rowAt rows a)))
           → Back (suc m) a k held
-      pick true t ih ih′ = skip a m k (omega arith) held h here t ih
-      pick false t ih ih′ = take-row a m k (omega arith) held h here t ih′
+      pick true t ih ih′ = skip a m k (omega (arith, set-most (wideIn bytes))) held h here t ih
+      pick false t ih ih′ = take-row a m k (omega (arith, set-most (wideIn bytes))) held h here t ih′

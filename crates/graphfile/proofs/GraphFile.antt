@@ -2,7 +2,7 @@
 use mathlib.Core.Path.{_≡_, refl, sym, ap, _∙_, subst}
 use mathlib.Core.Bool.{Bool, true, false}
 use mathlib.Core.List.{List, [], _++_, append-assoc, append-nil}
-use Prim.Native.Nat.{ℕ, zero, suc, _+_, _-_, _*_, _≤_, _<_}
+use Prim.Native.Nat.{ℕ, zero, suc, _+_, _*_, _≤_, _<_}
 use native.Mathlib.Nat.{zero-add, add-zero, not-suc-le-zero}
 use native.Mathlib.Omega.{arith}
 use borrow.Author.Tests.{ltb-true, ltb-false}
@@ -10,19 +10,18 @@ use lib.Dec.{T, eqb, ltb}
 use lib.ListN.{length, drop, length-append}
 use lib.Seq.{drop-at}
 use Rattle.sets.specs.Tests.{_and_, _or_, when_then_else_}
-use Rattle.sets.specs.Members.{width, word, mem, those, isEmpty, within}
+use Rattle.sets.specs.Members.{width, word, those, isEmpty, within}
 use Rattle.sets.specs.Rows.{rowWords, rowAt, noRows}
 use Rattle.sets.specs.Tables.{tableAt}
-use Rattle.sets.specs.Sizes.{mostActivities}
 use Rattle.bytes.specs.Numbers.{littleEndian, numberLength}
 use Rattle.bytes.specs.Editions.{narrowEdition, wideEdition, editionFor, editionIn, opensFile}
-use Rattle.graphfile.proofs.RowLengths.{rows-most}
+use Rattle.graphfile.proofs.RowLengths.{set-most, rows-most}
 use Rattle.bytes.specs.Opens.{opensWith}
 use Rattle.sets.specs.declared.set.Set.{Set}
 use Rattle.sets.specs.declared.answer.Answer.the-variants.{Done}
-use Rattle.sets.proofs.Tests.{T→true, F→false, false→F, and-l, and-r, or-e, split, either}
+use Rattle.sets.proofs.Tests.{T→true, F→false, false→F, and-l, and-r, split, either}
 use Rattle.sets.proofs.Below.{every-e}
-use Rattle.sets.proofs.Members.{Whole, whole-low, those-e, within-e, within-i, mem-none, empty-noSet}
+use Rattle.sets.proofs.Members.{Whole, within-i, mem-none}
 use Rattle.sets.proofs.RowLaws.{row-out, row-none, rows-ext}
 use Rattle.sets.proofs.TableLaws.{length-table, tables-ext}
 use Rattle.engine.specs.Markings.{stateOf}
@@ -33,11 +32,13 @@ use Rattle.engine.specs.declared.marking.State.{State}
 use Rattle.engine.specs.declared.graph.Graph.{Graph}
 use Rattle.engine.specs.Judged.{stateWithin, rowWithin, rowsWithin, graphWithin, judged}
 use Rattle.engine.proofs.Acceptable.{judged-activities, judged-within, judged-true, events-inside, opening-inside, rows-inside}
-use Rattle.bytes.specs.Sets.{setLength, Holds, setBytes}
+use Rattle.bytes.specs.Sets.{setLength, setBytes}
+use Rattle.bytes.proofs.SetLaws.{Holds}
 use Rattle.bytes.proofs.Parts.{part}
 use Rattle.bytes.proofs.NumberLaws.{number-read}
 use Rattle.bytes.proofs.SetLaws.{set-read}
-use Rattle.graphfile.specs.Layout.{wideIn, wideFor, eventsPlace, executedPlace, entriesPlace, entryLength, rowsLength, rowPlace}
+use Rattle.graphfile.specs.Layout.{wideFor, eventsPlace, executedPlace, entriesPlace, entryLength, rowsLength, rowPlace}
+use Rattle.bytes.specs.Editions.{wideIn}
 use Rattle.graphfile.specs.Layout.{headLength, activitiesIn, eventsIn, stateIn, offsetIn, countIn, sumOf, earlierRows}
 use Rattle.graphfile.specs.Refusals.{mostRows, judgedRow, judgedFile}
 use Rattle.graphfile.specs.Held.{relationsIn, graphIn}
@@ -48,7 +49,7 @@ use Rattle.graphfile.proofs.Places.{sum-ext}
 use Rattle.graphfile.proofs.Stores.{length-head, length-entries, length-relations, length-file}
 use Rattle.graphfile.proofs.Legal.{Legal, rowsFilled, length-rowsFilled, relationIn, length-relationsIn, table-read, legal-done}
 use Rattle.graphfile.proofs.GraphBack.{Held, rows-forth}
-use Rattle.graphfile.proofs.WithinForm.{event-below, set-held}
+use Rattle.graphfile.proofs.WithinForm.{set-held}
 
 -- a graph as every `Graph` of the code is: whole sets, and four tables
 pub record Machine (g : Graph) : Type 0 where
@@ -60,7 +61,7 @@ pub record Machine (g : Graph) : Type 0 where
   pub many : length (g .relations) ≡ relationCount * rowWords
   pub rows : (r a : ℕ) → Whole (rowAt (tableAt (g .relations) r) a)
 
--- ---- a relation has at most as many rows as there are activities
+-- ---- a relation has at most as many rows as activities are gone over
 
 rows-for-le : (s : Set) → rowsFor s ≤ 1
 unfolding rowsFor
@@ -75,34 +76,24 @@ unfolding countFrom
 count-le rows zero a = omega arith
 count-le rows (suc n) a = omega (arith, rows-for-le (rowAt rows a), count-le rows n (suc a))
 
--- nor more than a number from which on all rows are empty
-count-below : (rows : List ℕ) (n a b : ℕ) → ((x : ℕ) → b ≤ x → rowsFor (rowAt rows x) ≡ 0) → countFrom rows n a ≤ b - a
-unfolding countFrom
-count-below rows zero a b f = omega arith
-count-below rows (suc n) a b f =
-    let rest = count-below rows n (suc a) b f in
-    either (split (ltb a b))
-    (λ t. let l = ltb-true a b (T→true _ t) in omega (arith, rows-for-le (rowAt rows a)))
-    (λ g. let l = ltb-false a b (F→false _ g) in omega (arith, f a l))
-
 -- ---- a relation, from where its rows begin
 
 relation-read : (events : Set) (bytes rows tail : List ℕ) (r k : ℕ) → length rows ≡ rowWords → ((b : ℕ) → Whole (rowAt rows b))
     → ((b : ℕ) → Holds (wideIn bytes) (rowAt rows b))
-    → T (rowsWithin events rows) → eventsIn bytes ≡ events → countIn bytes r ≡ rowCount rows → earlierRows bytes r ≡ k
+    → Holds (wideIn bytes) events → T (rowsWithin events rows) → eventsIn bytes ≡ events → countIn bytes r ≡ rowCount (wideIn bytes) rows → earlierRows bytes r ≡ k
     → drop (rowPlace bytes k) bytes ≡ relationBytes (wideIn bytes) rows ++ tail
     → (relationIn bytes r ≡ rows) × ((j : ℕ) → j < countIn bytes r → judgedRow bytes (earlierRows bytes r) j ≡ Done)
 unfolding rowsWithin relationIn
-relation-read events bytes rows tail r k many whole holds inside he hc hk here =
-    let none : Held events bytes rows tail whole holds (λ b l. every-e width (λ a. rowWithin events a (rowAt rows a)) inside b l) 0 noRows =
+relation-read events bytes rows tail r k many whole holds fits inside he hc hk here =
+    let none : Held events bytes rows tail whole holds (λ b l. every-e width (λ a. rowWithin events a (rowAt rows a)) inside b l) fits 0 noRows =
     record { many = refl; there = λ b l. absurd (not-suc-le-zero l); empty = λ b l. row-none b } in
     let back = rows-forth events bytes rows tail whole holds
-    (λ b l. every-e width (λ a. rowWithin events a (rowAt rows a)) inside b l) width 0 k noRows refl none here in
+    (λ b l. every-e width (λ a. rowWithin events a (rowAt rows a)) inside b l) fits (mostRows (wideIn bytes)) 0 k noRows (zero-add (mostRows (wideIn bytes))) none here in
     let legal : Legal (eventsIn bytes) bytes 0 (countIn bytes r) (earlierRows bytes r + 0) =
     subst (λ (x : ℕ). Legal (eventsIn bytes) bytes 0 (countIn bytes r) x) (sym (add-zero (earlierRows bytes r) ∙ hk))
     (subst (λ (n : ℕ). Legal (eventsIn bytes) bytes 0 n k) (sym hc)
-    (subst (λ (s : Set). Legal s bytes 0 (rowCount rows) k) (sym he) (back .1))) in (
-      (λ i. rowsFilled bytes noRows (hc i) (hk i)) ∙ rows-ext _ rows (length-rowsFilled bytes noRows (rowCount rows) k) many (back .0),
+    (subst (λ (s : Set). Legal s bytes 0 (rowCount (wideIn bytes) rows) k) (sym he) (back .1))) in (
+      (λ i. rowsFilled bytes noRows (hc i) (hk i)) ∙ rows-ext _ rows (length-rowsFilled bytes noRows (rowCount (wideIn bytes) rows) k) many (back .0),
       (λ j l.
           ap (judgedRow bytes (earlierRows bytes r)) (sym (zero-add j))
           ∙ legal-done bytes (earlierRows bytes r) (countIn bytes r) 0 0 (λ i e. absurd (omega arith)) legal j l),
@@ -132,7 +123,7 @@ relation-within wide tables (suc n) r l =
 
 -- the entries stand where they are written
 count-part : (wide : Bool) (g : Graph) (r : ℕ) → r < relationCount
-    → part (bytesBy wide g) (entriesPlace wide + numberLength + entryLength * r) numberLength ≡ littleEndian numberLength (rowCount (tableAt (g .relations) r))
+    → part (bytesBy wide g) (entriesPlace wide + numberLength + entryLength * r) numberLength ≡ littleEndian numberLength (rowCount wide (tableAt (g .relations) r))
 unfolding bytesBy headBytes stateBytes entriesBytes setBytes littleEndian
 count-part true g zero l = refl
 count-part true g (suc zero) l = refl
@@ -146,7 +137,7 @@ count-part false g (suc (suc (suc zero))) l = refl
 count-part false g (suc (suc (suc (suc r)))) l = absurd (omega arith)
 
 offset-part : (wide : Bool) (g : Graph) (r : ℕ) → r < relationCount
-    → part (bytesBy wide g) (entriesPlace wide + entryLength * r) numberLength ≡ littleEndian numberLength (rowsLength wide (rowsBefore (g .relations) r))
+    → part (bytesBy wide g) (entriesPlace wide + entryLength * r) numberLength ≡ littleEndian numberLength (rowsLength wide (rowsBefore wide (g .relations) r))
 unfolding bytesBy headBytes stateBytes entriesBytes setBytes littleEndian
 offset-part true g zero l = refl
 offset-part true g (suc zero) l = refl
@@ -173,15 +164,6 @@ unfolding bytesBy headBytes stateBytes setBytes littleEndian
 state-part true g = (refl, refl, refl)
 state-part false g = (refl, refl, refl)
 
--- the form that goes with A has room for A rows
-form-room : (a : ℕ) → a ≤ mostActivities → a ≤ mostRows (wideFor a)
-unfolding editionFor
-form-room a l = by (ltb word a) refl
-  where
-    by : (b : Bool) → ltb word a ≡ b → a ≤ mostRows (eqb (when b then wideEdition else narrowEdition) wideEdition)
-    by true e = l
-    by false e = ltb-false word a e
-
 edition-known : (a : ℕ) → T (eqb (editionFor a) narrowEdition or eqb (editionFor a) wideEdition)
 unfolding editionFor _or_
 edition-known a = by (ltb word a)
@@ -199,16 +181,13 @@ module _ (g : Graph) (machine : Machine g) (ok : judged g ≡ Done) where
 
   -- the number of rows of a relation, and of those before it
   abbrev count : ℕ → ℕ
-  count r = rowCount (tableAt (g .relations) r)
+  count r = rowCount form (tableAt (g .relations) r)
 
   abbrev before : ℕ → ℕ
-  before r = rowsBefore (g .relations) r
+  before r = rowsBefore form (g .relations) r
 
   within-read : T (graphWithin g)
   within-read = judged-within g 0 ok
-
-  event-low : (x : ℕ) → T (mem (g .head .events) x) → x < g .head .activities
-  event-low x t = event-below g ok x (whole-low (g .head .events) (machine .events) x t) t
 
   -- the file says its form
   edition-read : editionIn file ≡ editionFor (g .head .activities)
@@ -260,17 +239,17 @@ module _ (g : Graph) (machine : Machine g) (ok : judged g ≡ Done) where
 
   -- ---- the entries
 
-  few : (r : ℕ) → count r ≤ width
-  few r = count-le (tableAt (g .relations) r) width 0
+  few : (r : ℕ) → count r ≤ mostRows form
+  few r = count-le (tableAt (g .relations) r) (mostRows form) 0
 
   before-few : (r : ℕ) → before r ≤ width * r
   unfolding sumOf
   before-few zero = omega arith
-  before-few (suc r) = omega (arith, few r, before-few r)
+  before-few (suc r) = omega (arith, few r, set-most form, before-few r)
 
   count-read : (r : ℕ) → r < relationCount → countIn file r ≡ count r
   unfolding bytesBy headBytes
-  count-read r l = number-read file numberLength (entriesPlace form + numberLength + entryLength * r) (count r) (count-part form g r l) (omega (arith, few r))
+  count-read r l = number-read file numberLength (entriesPlace form + numberLength + entryLength * r) (count r) (count-part form g r l) (omega (arith, few r, set-most form))
 
   offset-read : (r : ℕ) → r < relationCount → offsetIn file r ≡ rowsLength form (before r)
   unfolding bytesBy headBytes
@@ -318,31 +297,15 @@ module _ (g : Graph) (machine : Machine g) (ok : judged g ≡ Done) where
   table-back r l =
       let here = relation-within form (g .relations) relationCount r l in
       relation-read (g .head .events) file (tableAt (g .relations) r) (here .0) r (before r) (table-length r l) (machine .rows r) (row-held r l)
-      (rows-inside g within-read r l) events-read (count-read r l) (before-read r (omega arith)) (begins r (here .0) (here .1))
+      (set-held g ok (g .head .events) (machine .events) (same-inside (g .head .events))) (rows-inside g within-read r l) events-read (count-read r l) (before-read r (omega arith)) (begins r (here .0) (here .1))
 
   relations-read : relationsIn file relationCount ≡ g .relations
   relations-read =
       tables-ext relationCount (relationsIn file relationCount) (g .relations) (length-relationsIn file relationCount) (machine .many)
       (λ r l. table-read file relationCount r l (omega arith) ∙ table-back r l .0)
 
-  -- a relation has no more rows than its form allows: one for each event, and those are below A
-  none-above : (r : ℕ) → r < relationCount → (x : ℕ) → g .head .activities ≤ x → rowsFor (rowAt (tableAt (g .relations) r) x) ≡ 0
-  unfolding rowsWithin rowWithin rowsFor
-  none-above r l x far =
-      ap (λ (b : Bool). when b then 0 else 1)
-      (either (split (ltb x width))
-      (λ t.
-      let inside = every-e width (λ a. rowWithin (g .head .events) a (rowAt (tableAt (g .relations) r) a)) (rows-inside g within-read r l) x (ltb-true x width (T→true _ t)) in
-      either (or-e (mem (g .head .events) x) (isEmpty (rowAt (tableAt (g .relations) r) x)) (and-r _ _ inside))
-      (λ m. let low = event-low x m in absurd (omega arith))
-      (λ e. T→true _ e))
-      (λ f. ap isEmpty (sym (row-out (tableAt (g .relations) r) x (ltb-false x width (F→false _ f)))) ∙ empty-noSet))
-
   rows-few : (r : ℕ) → r < relationCount → countIn file r ≤ mostRows form
-  rows-few r l =
-      let count-is = count-read r l in
-      let low = count-below (tableAt (g .relations) r) width 0 (g .head .activities) (none-above r l) in
-      omega (arith, form-room (g .head .activities) (judged-activities g 0 ok))
+  rows-few r l = let count-is = count-read r l in omega (arith, few r)
 
   -- ---- the file is accepted, and holds the graph
 

@@ -17,7 +17,8 @@ use Rattle.bytes.specs.Sets.{setAt}
 use Rattle.bytes.specs.Editions.{editionIn, opensFile, beyond}
 use Rattle.engine.specs.declared.marking.State.{State}
 use Rattle.engine.specs.Relations.{relationCount}
-use Rattle.graphfile.specs.Layout.{letters, wideIn, eventsPlace, headLength, rowsLength, activitiesIn, eventsIn, stateIn, offsetIn, countIn}
+use Rattle.graphfile.specs.Layout.{letters, eventsPlace, headLength, rowsLength, activitiesIn, eventsIn, stateIn, offsetIn, countIn}
+use Rattle.bytes.specs.Editions.{wideIn}
 use Rattle.graphfile.specs.Layout.{earlierRows, keyIn, rowIn, endOf}
 use Rattle.graphfile.specs.Refusals.{mostRows, judgedSets, judgedHead, judgedEntry, judgedEnd, rises, rowAnswer, judgedRow}
 

@@ -13,7 +13,8 @@ use lib.Seq.{sets, length-sets, drop-drop}
 use Rattle.sets.specs.Tests.{when_then_else_}
 use Rattle.bytes.specs.Numbers.{littleEndian}
 use Rattle.sets.proofs.Members.{Whole}
-use Rattle.bytes.specs.Sets.{setLength, Holds, setBytes, setAt, setPut}
+use Rattle.bytes.specs.Sets.{setLength, setBytes, setAt, setPut}
+use Rattle.bytes.proofs.SetLaws.{Holds}
 use Rattle.bytes.proofs.Parts.{part, follow, Apart, drop-stored}
 use Rattle.bytes.proofs.SetLaws.{length-set, set-stored, set-read, set-apart}
 use Rattle.engine.specs.Markings.{emptyMarking, stateOf, markingOf}

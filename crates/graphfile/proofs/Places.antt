@@ -1,19 +1,55 @@
 -- What the reads at fixed places find. Assumes nothing.
 use mathlib.Core.Path.{_≡_, refl, sym, ap, ap₂, _∙_, subst}
-use mathlib.Core.Bool.{Bool}
-use mathlib.Core.List.{List}
+use mathlib.Core.Bool.{Bool, true, false}
+use mathlib.Core.List.{List, _++_}
 use Prim.Native.Nat.{ℕ, zero, suc, _+_, _-_, _*_, _≤_, _<_}
 use native.Mathlib.Nat.{zero-add, suc-add, le-refl, le-trans}
 use native.Mathlib.Numerals.{add-one}
 use native.Mathlib.Omega.{arith}
-use lib.ListN.{length}
+use lib.ListN.{length, take, drop}
 use Rattle.sets.specs.declared.set.Set.{Set}
 use Rattle.engine.specs.declared.marking.State.{State}
 use Rattle.engine.specs.Markings.{stateOf}
 use Rattle.engine.specs.Relations.{relationCount}
-use Rattle.bytes.specs.Sets.{setLength, setAt}
-use Rattle.graphfile.specs.Layout.{wideIn, countIn, sumOf, earlierRows, stateAt, rowPlace, endOf}
+use Rattle.bytes.specs.Numbers.{valueOf, numberAt}
+use Rattle.bytes.specs.Sets.{wordLength, setLength, setThere, setAt}
+use Rattle.bytes.proofs.Parts.{part, meet, length-part, part-whole}
+use Rattle.bytes.proofs.SetLaws.{at-there, part-first, part-second}
+use Rattle.graphfile.specs.Layout.{countIn, sumOf, earlierRows, stateAt, rowPlace, endOf}
+use Rattle.bytes.specs.Editions.{wideIn}
 use Rattle.graphfile.proofs.RowLengths.{rows-le}
+
+-- ---- what the code cuts out for a set, from its place to its end, is all that is read
+
+set-alone : (wide : Bool) (bytes : List ℕ) (at : ℕ) → at + setLength wide ≤ length bytes
+    → setAt wide (part bytes at (setLength wide)) 0 ≡ setAt wide bytes at
+unfolding setThere numberAt
+set-alone wide bytes at room =
+    at-there wide (part bytes at (setLength wide)) 0 (omega (arith, length-part bytes at (setLength wide) room))
+    ∙ by wide room
+    ∙ sym (at-there wide bytes at room)
+  where
+    by : (t : Bool) → at + setLength t ≤ length bytes → setThere t (part bytes at (setLength t)) 0 ≡ setThere t bytes at
+    by true r =
+        let low = part bytes at wordLength in
+        let high = part bytes (at + wordLength) wordLength in
+        let all = part bytes at (wordLength + wordLength) in
+        let long : length all ≡ wordLength + wordLength = length-part bytes at (wordLength + wordLength) r in
+        let short : length low ≡ wordLength = length-part bytes at wordLength (omega arith) in
+        let room′ : 0 + wordLength ≤ length all = omega arith in
+        let both : part all 0 (wordLength + wordLength) ≡ low ++ high =
+        part-whole all (wordLength + wordLength) long ∙ sym (meet bytes low high at wordLength (at + wordLength) wordLength refl refl refl) in
+        λ i. record {
+          low = valueOf (part-first all low high 0 wordLength wordLength short room′ both i);
+          high = valueOf (part-second all low high 0 wordLength wordLength short room′ both i);
+        }
+    by false r = λ i. record { low = valueOf (part-whole (part bytes at wordLength) wordLength (length-part bytes at wordLength r) i); high = 0 }
+
+pub set-cut : (wide : Bool) (bytes : List ℕ) (at n : ℕ) (s : Set) → at + setLength wide ≤ length bytes → n ≡ setLength wide
+    → s ≡ setAt wide (take (at + n - at) (drop at bytes)) 0 → s ≡ setAt wide bytes at
+set-cut wide bytes at n s room e h =
+    let same : at + n - at ≡ setLength wide = omega arith in
+    h ∙ ap (λ (k : ℕ). setAt wide (part bytes at k) 0) same ∙ set-alone wide bytes at room
 
 -- ---- a state
 

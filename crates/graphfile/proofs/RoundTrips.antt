@@ -50,9 +50,9 @@ file-round bytes small ok = file-back bytes small (accepted bytes ok)
 pub file-graph : (bytes : List ℕ) → Bytes bytes → judgedFile bytes ≡ Done → judged (graphIn bytes) ≡ Done
 file-graph bytes small ok = graph-back bytes small (accepted bytes ok)
 
--- the length of a file: 52, and 9 for each row that is not empty; 84 and 17 where A is above 64
+-- the length of a file: 52, and 9 for each row below 64 that is not empty; 84, and 17 for each that is not, where A is above 64
 pub file-length : (g : Graph)
-    → length (bytesOf g) ≡ headLength (wideFor (g .head .activities)) + rowsLength (wideFor (g .head .activities)) (rowsBefore (g .relations) relationCount)
+    → length (bytesOf g) ≡ headLength (wideFor (g .head .activities)) + rowsLength (wideFor (g .head .activities)) (rowsBefore (wideFor (g .head .activities)) (g .relations) relationCount)
 file-length g = length-file (wideFor (g .head .activities)) g
 
 -- ---- a write that is done, and a read that is
@@ -147,7 +147,7 @@ fileOfG =
 -- computed part by part: at 128 the whole is more than one declaration may take
 
 abbrev counted : ℕ → ℕ
-counted k = rowCount (tableAt tablesOfG k)
+counted k = rowCount false (tableAt tablesOfG k)
 
 count-0 : counted 0 ≡ 2
 unfolding countFrom rowsFor rowAt tableAt tablesOf rowsOf listFrom isEmpty everyBelow bit bitsOf mem those non _and_ _or_

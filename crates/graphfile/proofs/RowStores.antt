@@ -3,20 +3,21 @@ use mathlib.Core.Path.{_≡_, refl, sym, ap, _∙_}
 use mathlib.Core.Bool.{Bool, true, false}
 use mathlib.Core.List.{List, [], _∷_, _++_}
 use Prim.Native.Nat.{ℕ, suc, _+_, _-_, _*_, _^_, _≤_, _<_}
-use native.Mathlib.Nat.{add-zero, zero-add}
+use native.Mathlib.Nat.{add-zero, zero-add, sub-zero}
 use native.Mathlib.Numerals.{add-one}
 use native.Mathlib.Omega.{arith}
 use lib.ListN.{length, set, length-set}
 use lib.Seq.{sets, length-sets}
 use Rattle.sets.specs.Tests.{when_then_else_}
-use Rattle.sets.specs.Members.{width, isEmpty}
+use Rattle.sets.specs.Members.{isEmpty}
 use Rattle.sets.specs.Rows.{rowAt}
 use Rattle.sets.specs.declared.set.Set.{Set}
 use Rattle.bytes.specs.Sets.{setLength, setBytes, setPut}
 use Rattle.bytes.proofs.SetLaws.{set-stored, set-kept}
 use Rattle.graphfile.specs.Layout.{rowLength, rowsLength}
 use Rattle.graphfile.proofs.RowLengths.{rows-none, rows-one, rows-add}
-use Rattle.graphfile.specs.Writing.{rowOf, rowsFor, rowsFrom, countFrom, rowCount}
+use Rattle.graphfile.specs.Refusals.{mostRows}
+use Rattle.graphfile.specs.Writing.{rowOf, rowsFor, rowsFrom, countFrom, relationBytes, rowCount}
 use Rattle.graphfile.proofs.Stores.{length-row}
 use Rattle.bytes.proofs.Parts.{follow}
 
@@ -63,76 +64,94 @@ module _ (wide : Bool) (s : Set) (e : Bool) (h : e ≡ isEmpty s) where
     pub room-key : at < length out
     room-key = omega (arith, length-one t)
 
+-- ---- as the code has the end, by the form
+
+pub end-wide : (wide : Bool) → wide ≡ true → 128 ≡ mostRows wide
+end-wide wide w = ap mostRows (sym w)
+
+pub end-narrow : (wide : Bool) → wide ≡ false → 64 ≡ mostRows wide
+end-narrow wide w = ap mostRows (sym w)
+
 -- ---- one activity after the other
 
-module _ (rows : List ℕ) (a : ℕ) (l : a < width) where
-  left : width - a ≡ suc (width - (a + 1))
+module _ (rows : List ℕ) (most a : ℕ) (l : a < most) where
+  left : most - a ≡ suc (most - (a + 1))
   left = omega arith
 
-  count-step : countFrom rows (width - a) a ≡ rowsFor (rowAt rows a) + countFrom rows (width - (a + 1)) (a + 1)
+  count-step : countFrom rows (most - a) a ≡ rowsFor (rowAt rows a) + countFrom rows (most - (a + 1)) (a + 1)
   unfolding countFrom
   count-step = ap (λ (n : ℕ). countFrom rows n a) left
-      ∙ ap (λ (b : ℕ). rowsFor (rowAt rows a) + countFrom rows (width - (a + 1)) b) (sym (add-one a))
+      ∙ ap (λ (b : ℕ). rowsFor (rowAt rows a) + countFrom rows (most - (a + 1)) b) (sym (add-one a))
 
-  pub count-turn : (s : Set) → s ≡ rowAt rows a → (n k whole : ℕ) → n + countFrom rows (width - a) a ≡ whole → k ≡ rowsFor s
-      → n + k + countFrom rows (width - (a + 1)) (a + 1) ≡ whole
+  pub count-turn : (s : Set) → s ≡ rowAt rows a → (n k whole : ℕ) → n + countFrom rows (most - a) a ≡ whole → k ≡ rowsFor s
+      → n + k + countFrom rows (most - (a + 1)) (a + 1) ≡ whole
   count-turn s h n k whole e f = let g : k ≡ rowsFor (rowAt rows a) = f ∙ ap rowsFor h in omega (arith, count-step)
 
   module _ (wide : Bool) where
-    rows-step : rowsFrom wide rows (width - a) a ≡ rowOf wide a (rowAt rows a) ++ rowsFrom wide rows (width - (a + 1)) (a + 1)
+    rows-step : rowsFrom wide rows (most - a) a ≡ rowOf wide a (rowAt rows a) ++ rowsFrom wide rows (most - (a + 1)) (a + 1)
     unfolding rowsFrom
     rows-step = ap (λ (n : ℕ). rowsFrom wide rows n a) left
-        ∙ ap (λ (b : ℕ). rowOf wide a (rowAt rows a) ++ rowsFrom wide rows (width - (a + 1)) b) (sym (add-one a))
+        ∙ ap (λ (b : ℕ). rowOf wide a (rowAt rows a) ++ rowsFrom wide rows (most - (a + 1)) b) (sym (add-one a))
 
     module _ (s : Set) (h : s ≡ rowAt rows a) where
       -- the bytes of this row and of those after it
-      length-step : rowsLength wide (countFrom rows (width - a) a) ≡ rowsLength wide (rowsFor s) + rowsLength wide (countFrom rows (width - (a + 1)) (a + 1))
+      length-step : rowsLength wide (countFrom rows (most - a) a) ≡ rowsLength wide (rowsFor s) + rowsLength wide (countFrom rows (most - (a + 1)) (a + 1))
       length-step =
           ap (rowsLength wide) count-step
-          ∙ rows-add wide (rowsFor (rowAt rows a)) (countFrom rows (width - (a + 1)) (a + 1))
-          ∙ ap (λ (v : Set). rowsLength wide (rowsFor v) + rowsLength wide (countFrom rows (width - (a + 1)) (a + 1))) (sym h)
+          ∙ rows-add wide (rowsFor (rowAt rows a)) (countFrom rows (most - (a + 1)) (a + 1))
+          ∙ ap (λ (v : Set). rowsLength wide (rowsFor v) + rowsLength wide (countFrom rows (most - (a + 1)) (a + 1))) (sym h)
 
       -- the place after the row, and what room the rows from here on need
-      pub place-turn : (next next′ end : ℕ) → next + rowsLength wide (countFrom rows (width - a) a) ≡ end → next′ ≡ next + rowsLength wide (rowsFor s)
-          → next′ + rowsLength wide (countFrom rows (width - (a + 1)) (a + 1)) ≡ end
+      pub place-turn : (next next′ end : ℕ) → next + rowsLength wide (countFrom rows (most - a) a) ≡ end → next′ ≡ next + rowsLength wide (rowsFor s)
+          → next′ + rowsLength wide (countFrom rows (most - (a + 1)) (a + 1)) ≡ end
       place-turn next next′ end e f = omega (arith, length-step)
 
-      pub place-room : (next end : ℕ) (out out₀ : List ℕ) → next + rowsLength wide (countFrom rows (width - a) a) ≡ end → end ≤ length out₀
+      pub place-room : (next end : ℕ) (out out₀ : List ℕ) → next + rowsLength wide (countFrom rows (most - a) a) ≡ end → end ≤ length out₀
           → length out ≡ length out₀
           → next + rowsLength wide (rowsFor s) ≤ length out
       place-room next end out out₀ e f g = omega (arith, length-step)
 
-      pub rows-turn : (out out′ whole : List ℕ) (next next′ : ℕ) → sets out next (rowsFrom wide rows (width - a) a) ≡ whole
+      pub rows-turn : (out out′ whole : List ℕ) (next next′ : ℕ) → sets out next (rowsFrom wide rows (most - a) a) ≡ whole
           → next′ ≡ next + rowsLength wide (rowsFor s) → out′ ≡ sets out next (rowOf wide a s)
-          → sets out′ next′ (rowsFrom wide rows (width - (a + 1)) (a + 1)) ≡ whole
+          → sets out′ next′ (rowsFrom wide rows (most - (a + 1)) (a + 1)) ≡ whole
       rows-turn out out′ whole next next′ e f g =
           let p : next′ ≡ next + length (rowOf wide a s) = omega (arith, length-row wide a s) in
-          follow out out′ _ (rowOf wide a s) (rowsFrom wide rows (width - (a + 1)) (a + 1)) next next′ p g refl
-          ∙ ap (λ (v : Set). sets out next (rowOf wide a v ++ rowsFrom wide rows (width - (a + 1)) (a + 1))) h
+          follow out out′ _ (rowOf wide a s) (rowsFrom wide rows (most - (a + 1)) (a + 1)) next next′ p g refl
+          ∙ ap (λ (v : Set). sets out next (rowOf wide a v ++ rowsFrom wide rows (most - (a + 1)) (a + 1))) h
           ∙ ap (sets out next) (sym rows-step)
           ∙ e
 
-pub count-begin : (rows : List ℕ) → 0 + countFrom rows (width - 0) 0 ≡ rowCount rows
-count-begin rows = zero-add (rowCount rows)
+module _ (wide : Bool) (rows : List ℕ) (most : ℕ) (h : most ≡ mostRows wide) where
+  all : most - 0 ≡ mostRows wide
+  all = sub-zero most ∙ h
 
-pub count-end : (rows : List ℕ) (a n whole : ℕ) → width ≤ a → n + countFrom rows (width - a) a ≡ whole → n ≡ whole
+  pub count-begin : 0 + countFrom rows (most - 0) 0 ≡ rowCount wide rows
+  count-begin = zero-add _ ∙ ap (λ (n : ℕ). countFrom rows n 0) all
+
+  pub place-begin : (at : ℕ) → at + rowsLength wide (countFrom rows (most - 0) 0) ≡ at + rowsLength wide (rowCount wide rows)
+  place-begin at = ap (λ (n : ℕ). at + rowsLength wide (countFrom rows n 0)) all
+
+  pub rows-begin : (out : List ℕ) (at : ℕ) → sets out at (rowsFrom wide rows (most - 0) 0) ≡ sets out at (relationBytes wide rows)
+  rows-begin out at = ap (λ (n : ℕ). sets out at (rowsFrom wide rows n 0)) all
+
+pub count-end : (rows : List ℕ) (most a n whole : ℕ) → most ≤ a → n + countFrom rows (most - a) a ≡ whole → n ≡ whole
 unfolding countFrom
-count-end rows a n whole l e =
-    let none : width - a ≡ 0 = omega arith in
+count-end rows most a n whole l e =
+    let none : most - a ≡ 0 = omega arith in
     sym (add-zero n) ∙ ap (λ (k : ℕ). n + countFrom rows k a) (sym none) ∙ e
 
-pub place-end : (wide : Bool) (rows : List ℕ) (a next end : ℕ) → width ≤ a → next + rowsLength wide (countFrom rows (width - a) a) ≡ end → next ≡ end
+pub place-end : (wide : Bool) (rows : List ℕ) (most a next end : ℕ) → most ≤ a → next + rowsLength wide (countFrom rows (most - a) a) ≡ end → next ≡ end
 unfolding countFrom
-place-end wide rows a next end l e =
-    let none : width - a ≡ 0 = omega arith in
+place-end wide rows most a next end l e =
+    let none : most - a ≡ 0 = omega arith in
     let zero-long = rows-none wide in
     let same = ap (λ (k : ℕ). next + rowsLength wide (countFrom rows k a)) none in
     omega (arith, e)
 
-pub rows-end : (wide : Bool) (rows out whole : List ℕ) (a next : ℕ) → width ≤ a → sets out next (rowsFrom wide rows (width - a) a) ≡ whole → out ≡ whole
+pub rows-end : (wide : Bool) (rows out whole : List ℕ) (most a next : ℕ) → most ≤ a → sets out next (rowsFrom wide rows (most - a) a) ≡ whole → out ≡ whole
 unfolding rowsFrom
-rows-end wide rows out whole a next l e =
-    let none : width - a ≡ 0 = omega arith in
+rows-end wide rows out whole most a next l e =
+    let none : most - a ≡ 0 = omega arith in
     ap (λ (n : ℕ). sets out next (rowsFrom wide rows n a)) (sym none) ∙ e
 
 pub kept-length : (out out′ out₀ vs : List ℕ) (at : ℕ) → length out ≡ length out₀ → out′ ≡ sets out at vs → length out′ ≡ length out₀
@@ -144,3 +163,5 @@ row-length wide out out′ at a next s f = set-kept wide (set out at a) out′ n
 pub ruleset one-row = (for-none, for-one, row-none, row-one, place-none, place-one, room-key)
 
 pub ruleset counts = (count-begin, count-turn, count-end)
+
+pub ruleset each-row = (place-begin, rows-begin, place-room, place-turn, rows-turn, place-end, rows-end)

@@ -8,7 +8,7 @@ use native.Mathlib.Omega.{arith}
 use lib.ListN.{length, set, length-append}
 use lib.Seq.{sets, length-sets}
 use Rattle.sets.specs.Tests.{when_then_else_}
-use Rattle.sets.specs.Members.{width, isEmpty}
+use Rattle.sets.specs.Members.{isEmpty}
 use Rattle.sets.specs.Rows.{rowAt}
 use Rattle.sets.specs.Tables.{tableAt}
 use Rattle.sets.specs.declared.set.Set.{Set}
@@ -23,6 +23,7 @@ use Rattle.bytes.proofs.Parts.{follow}
 use Rattle.bytes.proofs.NumberLaws.{number-stored, number-kept}
 use Rattle.bytes.proofs.SetLaws.{length-set, set-stored, set-kept}
 use Rattle.graphfile.specs.Layout.{letters, eventsPlace, executedPlace, stateLength, entriesPlace, entryLength, headLength, rowLength, rowsLength, sumOf}
+use Rattle.graphfile.specs.Refusals.{mostRows}
 use Rattle.graphfile.specs.Writing.{rowOf, rowsFor, rowsFrom, countFrom, rowCount, rowsBefore, entryBytes, entriesBytes}
 use Rattle.graphfile.specs.Writing.{stateBytes, headBytes, relationBytes, relationsBytes, bytesBy}
 use Rattle.bytes.specs.Editions.{editionFor}
@@ -47,8 +48,8 @@ pub length-entries : (wide : Bool) (tables : List ℕ) (r : ℕ) → length (ent
 unfolding entriesBytes
 length-entries wide tables zero = refl
 length-entries wide tables (suc r) =
-    length-append (entriesBytes wide tables r) (entryBytes wide (rowsBefore tables r) (rowCount (tableAt tables r)))
-    ∙ omega (arith, length-entries wide tables r, length-entry wide (rowsBefore tables r) (rowCount (tableAt tables r)))
+    length-append (entriesBytes wide tables r) (entryBytes wide (rowsBefore wide tables r) (rowCount wide (tableAt tables r)))
+    ∙ omega (arith, length-entries wide tables r, length-entry wide (rowsBefore wide tables r) (rowCount wide (tableAt tables r)))
 
 pub length-row : (wide : Bool) (a : ℕ) (s : Set) → length (rowOf wide a s) ≡ rowsLength wide (rowsFor s)
 unfolding rowOf rowsFor
@@ -65,7 +66,7 @@ length-rows wide rows (suc n) a =
     length-append (rowOf wide a (rowAt rows a)) (rowsFrom wide rows n (suc a))
     ∙ omega (arith, length-row wide a (rowAt rows a), length-rows wide rows n (suc a), rows-add wide (rowsFor (rowAt rows a)) (countFrom rows n (suc a)))
 
-pub length-relations : (wide : Bool) (tables : List ℕ) (r : ℕ) → length (relationsBytes wide tables r) ≡ rowsLength wide (rowsBefore tables r)
+pub length-relations : (wide : Bool) (tables : List ℕ) (r : ℕ) → length (relationsBytes wide tables r) ≡ rowsLength wide (rowsBefore wide tables r)
 unfolding relationsBytes sumOf
 length-relations wide tables zero = sym (rows-none wide)
 length-relations wide tables (suc r) =
@@ -73,11 +74,11 @@ length-relations wide tables (suc r) =
     ∙ omega (
       arith,
       length-relations wide tables r,
-      length-rows wide (tableAt tables r) width 0,
-      rows-add wide (rowsBefore tables r) (rowCount (tableAt tables r)),
+      length-rows wide (tableAt tables r) (mostRows wide) 0,
+      rows-add wide (rowsBefore wide tables r) (rowCount wide (tableAt tables r)),
     )
 
-pub length-file : (wide : Bool) (g : Graph) → length (bytesBy wide g) ≡ headLength wide + rowsLength wide (rowsBefore (g .relations) relationCount)
+pub length-file : (wide : Bool) (g : Graph) → length (bytesBy wide g) ≡ headLength wide + rowsLength wide (rowsBefore wide (g .relations) relationCount)
 unfolding bytesBy
 length-file wide g =
     simp length-append
@@ -154,8 +155,8 @@ module _ (wide : Bool) (tables : List ℕ) (out₀ : List ℕ) where
 
   module _ (out : List ℕ) (r : ℕ) where
     pub entries-turn : (out′ : List ℕ) (earlier count p : ℕ) → p ≡ entriesPlace wide → out ≡ sets out₀ (entriesPlace wide) (entriesBytes wide tables r)
-        → earlier ≡ rowsBefore tables r
-        → count ≡ rowCount (tableAt tables r) → out′ ≡ sets out (p + entryLength * r) (entryBytes wide earlier count)
+        → earlier ≡ rowsBefore wide tables r
+        → count ≡ rowCount wide (tableAt tables r) → out′ ≡ sets out (p + entryLength * r) (entryBytes wide earlier count)
         → out′ ≡ sets out₀ (entriesPlace wide) (entriesBytes wide tables (r + 1))
     unfolding entriesBytes
     entries-turn out′ earlier count p hp h e c s =
@@ -168,24 +169,24 @@ module _ (wide : Bool) (tables : List ℕ) (out₀ : List ℕ) where
         → out ≡ sets out₀ (entriesPlace wide) (entriesBytes wide tables relationCount)
     entries-all a b h = let same : r ≡ relationCount = omega arith in h ∙ ap (λ (n : ℕ). sets out₀ (entriesPlace wide) (entriesBytes wide tables n)) same
 
-    module _ (next : ℕ) (place : next ≡ headLength wide + rowsLength wide (rowsBefore tables r)) where
-      pub relation-room : r < relationCount → headLength wide + rowsLength wide (rowsBefore tables relationCount) ≤ length out₀
-          → length out ≡ length out₀ → next + rowsLength wide (rowCount (tableAt tables r)) ≤ length out
+    module _ (next : ℕ) (place : next ≡ headLength wide + rowsLength wide (rowsBefore wide tables r)) where
+      pub relation-room : r < relationCount → headLength wide + rowsLength wide (rowsBefore wide tables relationCount) ≤ length out₀
+          → length out ≡ length out₀ → next + rowsLength wide (rowCount wide (tableAt tables r)) ≤ length out
       relation-room l room same =
-          let all = sum-room (λ k. rowCount (tableAt tables k)) r relationCount l in
+          let all = sum-room (λ k. rowCount wide (tableAt tables k)) r relationCount l in
           omega (
             arith,
-            rows-add wide (rowsBefore tables r) (rowCount (tableAt tables r)),
-            rows-le wide (rowsBefore tables r + rowCount (tableAt tables r)) (rowsBefore tables relationCount) all,
+            rows-add wide (rowsBefore wide tables r) (rowCount wide (tableAt tables r)),
+            rows-le wide (rowsBefore wide tables r + rowCount wide (tableAt tables r)) (rowsBefore wide tables relationCount) all,
           )
 
-      pub place-turn : (next′ : ℕ) → next′ ≡ next + rowsLength wide (rowCount (tableAt tables r))
-          → next′ ≡ headLength wide + rowsLength wide (rowsBefore tables (r + 1))
+      pub place-turn : (next′ : ℕ) → next′ ≡ next + rowsLength wide (rowCount wide (tableAt tables r))
+          → next′ ≡ headLength wide + rowsLength wide (rowsBefore wide tables (r + 1))
       unfolding sumOf
       place-turn next′ e =
-          let more : next′ ≡ headLength wide + rowsLength wide (rowsBefore tables (suc r)) =
-          omega (arith, rows-add wide (rowsBefore tables r) (rowCount (tableAt tables r))) in
-          more ∙ ap (λ (n : ℕ). headLength wide + rowsLength wide (rowsBefore tables n)) (sym (add-one r))
+          let more : next′ ≡ headLength wide + rowsLength wide (rowsBefore wide tables (suc r)) =
+          omega (arith, rows-add wide (rowsBefore wide tables r) (rowCount wide (tableAt tables r))) in
+          more ∙ ap (λ (n : ℕ). headLength wide + rowsLength wide (rowsBefore wide tables n)) (sym (add-one r))
 
       pub relations-turn : (out′ : List ℕ) → out ≡ sets out₀ (headLength wide) (relationsBytes wide tables r)
           → out′ ≡ sets out next (relationBytes wide (tableAt tables r)) → out′ ≡ sets out₀ (headLength wide) (relationsBytes wide tables (r + 1))
@@ -200,7 +201,7 @@ module _ (wide : Bool) (tables : List ℕ) (out₀ : List ℕ) where
     relations-all a b h =
         let same : r ≡ relationCount = omega arith in h ∙ ap (λ (n : ℕ). sets out₀ (headLength wide) (relationsBytes wide tables n)) same
 
-pub first-place : (wide : Bool) (tables : List ℕ) (n : ℕ) → n ≡ headLength wide → n ≡ headLength wide + rowsLength wide (rowsBefore tables 0)
+pub first-place : (wide : Bool) (tables : List ℕ) (n : ℕ) → n ≡ headLength wide → n ≡ headLength wide + rowsLength wide (rowsBefore wide tables 0)
 unfolding sumOf
 first-place wide tables n e = omega (arith, rows-none wide)
 

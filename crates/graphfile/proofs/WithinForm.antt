@@ -13,7 +13,8 @@ use Rattle.sets.specs.declared.answer.Answer.the-variants.{Done}
 use Rattle.sets.proofs.Tests.{T→true, T-eq, false→F, and-l}
 use Rattle.sets.proofs.Members.{Whole, whole-low, those-e, within-e, within-i, mem-none}
 use Rattle.bytes.specs.Editions.{narrowEdition, wideEdition, editionFor}
-use Rattle.bytes.specs.Sets.{setLength, Holds}
+use Rattle.bytes.specs.Sets.{setLength}
+use Rattle.bytes.proofs.SetLaws.{Holds}
 use Rattle.engine.specs.Markings.{emptyMarking}
 use Rattle.engine.specs.Relations.{relationsOf}
 use Rattle.engine.specs.Judged.{judged}
@@ -41,7 +42,7 @@ empty-held wide = record { executed = nothing; pending = nothing; included = not
     nothing a t = absurd (false→F (mem-none a) t)
 
 module _ (g : Graph) (ok : judged g ≡ Done) where
-  pub event-below : (x : ℕ) → x < width → T (mem (g .head .events) x) → x < g .head .activities
+  event-below : (x : ℕ) → x < width → T (mem (g .head .events) x) → x < g .head .activities
   event-below x low t =
       ltb-true x (g .head .activities)
       (T→true _

@@ -34,7 +34,7 @@ module _ (g : Graph) (a : Answer) (b : Bool) (h : isDone a ≡ b) where
 -- ---- room or none
 
 module _ (g : Graph) (out : List ℕ) (rows head long : ℕ) (wide : Bool) (hw : wide ≡ wideFor (g .head .activities))
-    (hl : rows ≡ rowsBefore (g .relations) relationCount) (hh : head ≡ headLength wide) (hr : long ≡ rowsLength wide rows) where
+    (hl : rows ≡ rowsBefore wide (g .relations) relationCount) (hh : head ≡ headLength wide) (hr : long ≡ rowsLength wide rows) where
   abbrev len : ℕ
   len = head + long
 
@@ -67,8 +67,8 @@ module _ (g : Graph) (out : List ℕ) (rows head long : ℕ) (wide : Bool) (hw :
         ∙ sym (buffer-is g (judgedRoom g (length out)) true (ap isDone (enough l)) out),
   )
 
-pub file-room : (tables out : List ℕ) (rows head long : ℕ) (wide : Bool) → rows ≡ rowsBefore tables relationCount → head ≡ headLength wide
-    → long ≡ rowsLength wide rows → head + long ≤ length out → headLength wide + rowsLength wide (rowsBefore tables relationCount) ≤ length out
+pub file-room : (tables out : List ℕ) (rows head long : ℕ) (wide : Bool) → rows ≡ rowsBefore wide tables relationCount → head ≡ headLength wide
+    → long ≡ rowsLength wide rows → head + long ≤ length out → headLength wide + rowsLength wide (rowsBefore wide tables relationCount) ≤ length out
 file-room tables out rows head long wide hl hh hr l = omega (arith, hr ∙ ap (rowsLength wide) hl)
 
 -- ---- judged first

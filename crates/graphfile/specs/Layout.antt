@@ -13,16 +13,13 @@ use Rattle.engine.specs.Relations.{relationCount, headOf}
 use Rattle.engine.specs.Enabled.{graphAt}
 use Rattle.bytes.specs.Numbers.{numberAt, numberLength}
 use Rattle.bytes.specs.Sets.{setLength, setAt}
-use Rattle.bytes.specs.Editions.{wideEdition, editionFor, editionIn}
+use Rattle.bytes.specs.Editions.{wideEdition, editionFor, wideIn}
 
 -- the two letters, B and G; the edition comes after them
 abbrev pub letters : List ℕ
 letters = 66 ∷ 71 ∷ []
 
--- a file has wide sets where it is of edition 2, and the file of a graph is so by its A
-abbrev pub wideIn : List ℕ → Bool
-wideIn bytes = eqb (editionIn bytes) wideEdition
-
+-- the file of a graph has wide sets by its A
 abbrev pub wideFor : ℕ → Bool
 wideFor a = eqb (editionFor a) wideEdition
 

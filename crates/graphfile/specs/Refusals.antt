@@ -14,7 +14,8 @@ use Rattle.engine.specs.Relations.{relationCount}
 use Rattle.sets.specs.Answers.{thenAsk, firstRefusal}
 use Rattle.bytes.specs.Sets.{setLength}
 use Rattle.bytes.specs.Editions.{editionIn, opensFile, beyond}
-use Rattle.graphfile.specs.Layout.{letters, wideIn, headLength, rowsLength, activitiesIn, eventsIn, stateIn, offsetIn, countIn, earlierRows, keyIn, rowIn, endOf}
+use Rattle.graphfile.specs.Layout.{letters, headLength, rowsLength, activitiesIn, eventsIn, stateIn, offsetIn, countIn, earlierRows, keyIn, rowIn, endOf}
+use Rattle.bytes.specs.Editions.{wideIn}
 
 -- the limit on a relation's rows, whatever A is: 64 in edition 1, 128 in edition 2
 abbrev pub mostRows : Bool → ℕ

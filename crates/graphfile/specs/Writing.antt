@@ -5,7 +5,7 @@ use Prim.Native.Nat.{ℕ, zero, suc, _+_, _*_}
 use lib.Dec.{ltb}
 use lib.ListN.{length, drop}
 use Rattle.sets.specs.Tests.{when_then_else_}
-use Rattle.sets.specs.Members.{width, isEmpty}
+use Rattle.sets.specs.Members.{isEmpty}
 use Rattle.sets.specs.Rows.{rowAt}
 use Rattle.sets.specs.Tables.{tableAt}
 use Rattle.sets.specs.Answers.{isDone, thenAsk}
@@ -22,6 +22,7 @@ use Rattle.bytes.specs.Numbers.{littleEndian, numberLength}
 use Rattle.bytes.specs.Sets.{setBytes}
 use Rattle.bytes.specs.Editions.{editionFor}
 use Rattle.graphfile.specs.Layout.{letters, wideFor, rowsLength, sumOf}
+use Rattle.graphfile.specs.Refusals.{mostRows}
 
 -- the row of an activity: a key and a set; nothing where the set is empty
 unfoldable pub rowOf : Bool → ℕ → Set → List ℕ
@@ -39,16 +40,16 @@ unfoldable pub countFrom : List ℕ → ℕ → ℕ → ℕ
 countFrom rows zero a = 0
 countFrom rows (suc n) a = rowsFor (rowAt rows a) + countFrom rows n (suc a)
 
--- a relation's rows in the file, and how many there are
+-- a relation's rows in the file, and how many there are: those of the activities that the form has a bit for. In an accepted graph no other has one
 abbrev pub relationBytes : Bool → List ℕ → List ℕ
-relationBytes wide rows = rowsFrom wide rows width 0
+relationBytes wide rows = rowsFrom wide rows (mostRows wide) 0
 
-abbrev pub rowCount : List ℕ → ℕ
-rowCount rows = countFrom rows width 0
+abbrev pub rowCount : Bool → List ℕ → ℕ
+rowCount wide rows = countFrom rows (mostRows wide) 0
 
 -- how many rows the relations before r have; all that the file has where r is 4
-abbrev pub rowsBefore : List ℕ → ℕ → ℕ
-rowsBefore tables r = sumOf (λ k. rowCount (tableAt tables k)) r
+abbrev pub rowsBefore : Bool → List ℕ → ℕ → ℕ
+rowsBefore wide tables r = sumOf (λ k. rowCount wide (tableAt tables k)) r
 
 -- an entry: the bytes of the earlier rows, and the number of rows
 abbrev pub entryBytes : Bool → ℕ → ℕ → List ℕ
@@ -57,7 +58,7 @@ entryBytes wide earlier count = littleEndian numberLength (rowsLength wide earli
 -- the entries of the relations before r
 unfoldable pub entriesBytes : Bool → List ℕ → ℕ → List ℕ
 entriesBytes wide tables zero = []
-entriesBytes wide tables (suc r) = entriesBytes wide tables r ++ entryBytes wide (rowsBefore tables r) (rowCount (tableAt tables r))
+entriesBytes wide tables (suc r) = entriesBytes wide tables r ++ entryBytes wide (rowsBefore wide tables r) (rowCount wide (tableAt tables r))
 
 -- the rows of the relations before r
 unfoldable pub relationsBytes : Bool → List ℕ → ℕ → List ℕ

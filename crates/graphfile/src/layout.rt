@@ -2,11 +2,13 @@
 ghost use mathlib.Core.Path.{_≡_};
 ghost use Prim.Native.Nat.{suc, _+_, _*_, _≤_, _<_};
 ghost use lib.ListN.{length};
-ghost use Rattle.graphfile.specs.Layout.{wideIn, wideFor, entriesPlace, headLength, rowsLength, stateLength, stateAt, stateIn, markingAt};
+ghost use Rattle.graphfile.specs.Layout.{wideFor, entriesPlace, headLength, rowsLength, stateLength, stateAt, stateIn, markingAt};
+ghost use Rattle.bytes.specs.Editions.{wideIn};
 ghost use Rattle.graphfile.specs.Layout.{headAt, headIn, offsetIn, countIn, earlierRows, rowPlace, keyIn, rowIn};
 ghost use Rattle.graphfile.specs.Markings.{markingLength};
 ghost use Rattle.graphfile.specs.Heads.{loneHeadLength};
 ghost use Rattle.engine.specs.Relations.{relationCount};
+ghost use Rattle.bytes.specs.Sets.{setLength, setAt};
 use bytes::edition::WIDE;
 use bytes::edition::edition_for;
 use bytes::edition::edition_in;
@@ -89,6 +91,15 @@ fn row_place(wide: bool, k: usize) -> usize
     ensures { λ r. ⌜ r ≡ headLength wide + rowsLength wide k ⌝ }
 {
     head_length(wide) + rows_length(wide, k)
+}
+
+// The set at a place whose bytes are there. It is read from a part of just its length: then the compiler sees that there is room, and asks for it at no row.
+fn set_in(bytes: &[u8], at: usize, wide: bool) -> Set
+    requires { ⌜ at + setLength wide ≤ length (now bytes) ⌝ }
+    ensures { λ r. ⌜ r ≡ setAt wide (now (bytes .entry)) at ⌝ }
+{
+    let end = at + length(wide);
+    set_at(&bytes[at..end], 0, wide)
 }
 
 // What a file holds of a marking, from a place on: executed, pending, included.
@@ -192,5 +203,5 @@ pub(crate) fn row_in(bytes: &[u8], k: usize, wide: bool) -> Set
     requires { ⌜ (k < 65536 * relationCount) × (rowPlace (now bytes) (suc k) ≤ length (now bytes)) ⌝ }
     ensures { λ r. ⌜ r ≡ rowIn (now (bytes .entry)) k ⌝ }
 {
-    set_at(bytes, row_place(wide, k) + 1, wide)
+    set_in(bytes, row_place(wide, k) + 1, wide)
 }

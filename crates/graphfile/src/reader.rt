@@ -1,11 +1,13 @@
 // The reader: what a file holds. A row is judged and put into its relation in one step, so that the rows are walked once.
 ghost use mathlib.Core.Path.{_≡_};
+ghost use mathlib.Core.Bool.{true, false};
 ghost use Prim.Native.Nat.{_+_, _*_, _≤_, _<_};
 ghost use lib.ListN.{length};
 ghost use Rattle.sets.specs.Answers.{firstRefusal};
 ghost use Rattle.sets.specs.declared.answer.Answer.the-variants.{Done};
 ghost use Rattle.engine.specs.Relations.{relationCount};
 ghost use Rattle.graphfile.specs.Layout.{rowPlace, endOf};
+ghost use Rattle.bytes.specs.Editions.{wideIn};
 ghost use Rattle.graphfile.specs.Refusals.{judgedRow, judgedRelation, judgedFile};
 ghost use Rattle.graphfile.specs.Held.{filled, withRelation, withRelations, bareOf, bareTables, readOf};
 use crate::layout;
@@ -28,19 +30,20 @@ pub struct Reading {
     pub graph: Graph,
 }
 
-// So many rows of the file, each put at its key into table r, up to the first that is refused.
-fn take_rows(bytes: &[u8], r: u8, count: usize, first: usize, held: &mut Relations) -> Answer
+// So many rows of a file of edition 1, each put at its key into table r, up to the first that is refused. The form is written out, here and in
+// the twin for edition 2: where it is handed to one loop, the compiler asks for it at each row.
+fn take_rows_narrow(bytes: &[u8], r: u8, count: usize, first: usize, held: &mut Relations) -> Answer
+    requires { ⌜ false ≡ wideIn (now bytes) ⌝ }
     requires { ⌜ (first + count ≤ 65536 * relationCount) × (rowPlace (now bytes) (first + count) ≤ length (now bytes)) ⌝ }
     ensures { λ a. ⌜ a ≡ firstRefusal count (judgedRow (now (bytes .entry)) first) ⌝ }
     ensures { λ a. ⌜ (a ≡ Done → now (held .exit) ≡ filled (now (bytes .entry)) (now (held .entry)) r count first) ⌝ }
 {
-    let wide = layout::is_wide(bytes);
-    let events = set_at(bytes, layout::EVENTS, wide);
+    let events = set_at(bytes, layout::EVENTS, false);
     let mut j = 0;
     while j < count {
-        let key = Activity(layout::key_in(bytes, first + j, wide));
-        let row = layout::row_in(bytes, first + j, wide);
-        let above = refusal::key_rises(bytes, first, j, wide);
+        let key = Activity(layout::key_in(bytes, first + j, false));
+        let row = layout::row_in(bytes, first + j, false);
+        let above = refusal::key_rises(bytes, first, j, false);
         let answer = refusal::judge_row(events, key, row, above);
         if !answer.is_done() {
             return answer;
@@ -49,6 +52,41 @@ fn take_rows(bytes: &[u8], r: u8, count: usize, first: usize, held: &mut Relatio
         j += 1;
     }
     Answer::Done
+}
+
+// The same of edition 2.
+fn take_rows_wide(bytes: &[u8], r: u8, count: usize, first: usize, held: &mut Relations) -> Answer
+    requires { ⌜ true ≡ wideIn (now bytes) ⌝ }
+    requires { ⌜ (first + count ≤ 65536 * relationCount) × (rowPlace (now bytes) (first + count) ≤ length (now bytes)) ⌝ }
+    ensures { λ a. ⌜ a ≡ firstRefusal count (judgedRow (now (bytes .entry)) first) ⌝ }
+    ensures { λ a. ⌜ (a ≡ Done → now (held .exit) ≡ filled (now (bytes .entry)) (now (held .entry)) r count first) ⌝ }
+{
+    let events = set_at(bytes, layout::EVENTS, true);
+    let mut j = 0;
+    while j < count {
+        let key = Activity(layout::key_in(bytes, first + j, true));
+        let row = layout::row_in(bytes, first + j, true);
+        let above = refusal::key_rises(bytes, first, j, true);
+        let answer = refusal::judge_row(events, key, row, above);
+        if !answer.is_done() {
+            return answer;
+        }
+        tables::put(held, r, key, row);
+        j += 1;
+    }
+    Answer::Done
+}
+
+// The same of either.
+fn take_rows(bytes: &[u8], r: u8, count: usize, first: usize, held: &mut Relations) -> Answer
+    requires { ⌜ (first + count ≤ 65536 * relationCount) × (rowPlace (now bytes) (first + count) ≤ length (now bytes)) ⌝ }
+    ensures { λ a. ⌜ a ≡ firstRefusal count (judgedRow (now (bytes .entry)) first) ⌝ }
+    ensures { λ a. ⌜ (a ≡ Done → now (held .exit) ≡ filled (now (bytes .entry)) (now (held .entry)) r count first) ⌝ }
+{
+    if layout::is_wide(bytes) {
+        return take_rows_wide(bytes, r, count, first, held);
+    }
+    take_rows_narrow(bytes, r, count, first, held)
 }
 
 // The rows of relation r.

@@ -9,6 +9,7 @@ ghost use Rattle.sets.specs.Tables.{tableAt};
 ghost use Rattle.engine.specs.Relations.{relationCount, graphOf};
 ghost use Rattle.bytes.specs.Editions.{editionFor};
 ghost use Rattle.graphfile.specs.Layout.{letters, wideFor, eventsPlace, entriesPlace, stateLength, entryLength, headLength, rowsLength};
+ghost use Rattle.graphfile.specs.Refusals.{mostRows};
 ghost use Rattle.graphfile.specs.Writing.{rowsFor, rowOf, rowCount, rowsBefore, relationBytes};
 ghost use Rattle.graphfile.specs.Writing.{entryBytes, entriesBytes, stateBytes, headBytes, relationsBytes, bytesBy, writtenOf, fileAfter, unjudgedOf, unjudgedAfter};
 use crate::layout;
@@ -26,6 +27,7 @@ use engine::judge::judge_for;
 use sets::Activity;
 use sets::Answer;
 use sets::Set;
+use sets::activity::WORD;
 use sets::tables;
 
 // What a write gives: the answer, and the file's length; 0 where it is refused.
@@ -45,14 +47,26 @@ fn rows_for(s: Set) -> usize
     1
 }
 
-// How many rows of relation r are not empty.
-fn row_count(relations: &Relations, r: u8) -> usize
-    ensures { λ n. ⌜ n ≡ rowCount (tableAt (now (relations .entry)) r) ⌝ }
+// The activities that a form has a bit for are below it: no other has a row in the file, so the loops over the rows end there.
+fn rows_end(wide: bool) -> u8
+    ensures { λ r. ⌜ r ≡ mostRows wide ⌝ }
+    ensures { λ r. ⌜ r ≤ width ⌝ }
+{
+    if wide {
+        return Activity::LIMIT;
+    }
+    WORD
+}
+
+// How many rows of relation r are not empty, of those that the form has a place for.
+fn row_count(relations: &Relations, r: u8, wide: bool) -> usize
+    ensures { λ n. ⌜ n ≡ rowCount wide (tableAt (now (relations .entry)) r) ⌝ }
     ensures { λ n. ⌜ n ≤ width ⌝ }
 {
+    let end = rows_end(wide);
     let mut n = 0;
     let mut a: u8 = 0;
-    while a < Activity::LIMIT {
+    while a < end {
         n += rows_for(tables::row(relations, r, Activity(a)));
         a += 1;
     }
@@ -60,14 +74,14 @@ fn row_count(relations: &Relations, r: u8) -> usize
 }
 
 // How many rows the file has.
-fn row_total(relations: &Relations) -> usize
-    ensures { λ n. ⌜ n ≡ rowsBefore (now (relations .entry)) relationCount ⌝ }
+fn row_total(relations: &Relations, wide: bool) -> usize
+    ensures { λ n. ⌜ n ≡ rowsBefore wide (now (relations .entry)) relationCount ⌝ }
     ensures { λ n. ⌜ n ≤ width * relationCount ⌝ }
 {
     let mut rows = 0;
     let mut r: u8 = 0;
     while r < KINDS {
-        rows += row_count(relations, r);
+        rows += row_count(relations, r, wide);
         r += 1;
     }
     rows
@@ -89,13 +103,14 @@ fn put_row(out: &mut [u8], at: usize, key: Activity, s: Set, wide: bool) -> usiz
 
 // Stores the rows of relation r, and gives the place after them.
 fn put_rows(out: &mut [u8], at: usize, relations: &Relations, r: u8, wide: bool) -> usize
-    requires { ⌜ at + rowsLength wide (rowCount (tableAt (now relations) r)) ≤ length (now out) ⌝ }
-    ensures { λ n. ⌜ n ≡ at + rowsLength wide (rowCount (tableAt (now (relations .entry)) r)) ⌝ }
+    requires { ⌜ at + rowsLength wide (rowCount wide (tableAt (now relations) r)) ≤ length (now out) ⌝ }
+    ensures { λ n. ⌜ n ≡ at + rowsLength wide (rowCount wide (tableAt (now (relations .entry)) r)) ⌝ }
     ensures { λ _. ⌜ now (out .exit) ≡ sets (now (out .entry)) at (relationBytes wide (tableAt (now (relations .entry)) r)) ⌝ }
 {
+    let end = rows_end(wide);
     let mut next = at;
     let mut a: u8 = 0;
-    while a < Activity::LIMIT {
+    while a < end {
         let key = Activity(a);
         next = put_row(out, next, key, tables::row(relations, r, key), wide);
         a += 1;
@@ -159,7 +174,7 @@ fn put_entries(out: &mut [u8], relations: &Relations, wide: bool)
     let mut earlier = 0;
     let mut r: u8 = 0;
     while r < KINDS {
-        let count = row_count(relations, r);
+        let count = row_count(relations, r, wide);
         put_entry(
             out,
             entries + layout::ENTRY * r as usize,
@@ -174,7 +189,7 @@ fn put_entries(out: &mut [u8], relations: &Relations, wide: bool)
 
 // Stores the rows of the four relations.
 fn put_relations(out: &mut [u8], relations: &Relations, wide: bool)
-    requires { ⌜ headLength wide + rowsLength wide (rowsBefore (now relations) relationCount) ≤ length (now out) ⌝ }
+    requires { ⌜ headLength wide + rowsLength wide (rowsBefore wide (now relations) relationCount) ≤ length (now out) ⌝ }
     ensures { λ _. ⌜ now (out .exit) ≡ sets (now (out .entry)) (headLength wide) (relationsBytes wide (now (relations .entry)) relationCount) ⌝ }
 {
     let mut next = layout::head_length(wide);
@@ -187,7 +202,7 @@ fn put_relations(out: &mut [u8], relations: &Relations, wide: bool)
 
 // Stores the file of a graph, in either form.
 fn put_file(out: &mut [u8], head: Head, relations: &Relations, wide: bool)
-    requires { ⌜ headLength wide + rowsLength wide (rowsBefore (now relations) relationCount) ≤ length (now out) ⌝ }
+    requires { ⌜ headLength wide + rowsLength wide (rowsBefore wide (now relations) relationCount) ≤ length (now out) ⌝ }
     ensures { λ _. ⌜ now (out .exit) ≡ sets (now (out .entry)) 0 (bytesBy wide (graphOf head (now (relations .entry)))) ⌝ }
 {
     put_head(out, head, wide);
@@ -202,7 +217,7 @@ pub fn write_unjudged(head: Head, relations: &Relations, out: &mut [u8]) -> Writ
     ensures { λ _. ⌜ now (out .exit) ≡ unjudgedAfter (graphOf head (now (relations .entry))) (now (out .entry)) ⌝ }
 {
     let wide = layout::wide_for(head.activities);
-    let length = layout::head_length(wide) + layout::rows_length(wide, row_total(relations));
+    let length = layout::head_length(wide) + layout::rows_length(wide, row_total(relations, wide));
     if out.len() < length {
         return Written {
             answer: Answer::BufferTooSmall,

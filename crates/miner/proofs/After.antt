@@ -1,19 +1,20 @@
 -- The table of last places, and what it tells of what stands after a place. Assumes nothing.
 use mathlib.Core.Path.{_≡_, refl, sym, ap, _∙_, subst}
 use mathlib.Core.Bool.{Bool, true, false, cond}
-use mathlib.Core.List.{List, [], _∷_, _++_, append-assoc, append-nil}
-use Prim.Native.Nat.{ℕ, suc, _+_, _≤_, _<_}
-use native.Mathlib.Nat.{not-suc-le-zero}
+use mathlib.Core.Logic.{_⊎_, inl, inr}
+use mathlib.Core.List.{List, [], _∷_}
+use Prim.Native.Nat.{ℕ, zero, suc, _+_, _≤_, _<_}
+use native.Mathlib.Nat.{not-suc-le-zero, le-of-suc-le-suc}
 use native.Mathlib.Numerals.{add-one}
 use native.Mathlib.Omega.{arith}
 use borrow.Author.Tests.{lt-ltb, le-ltb, ltb-true, ltb-false, eq-eqb, ne-eqb, eqb-true, eqb-false}
-use lib.Dec.{eqb, ltb}
-use lib.ListN.{length, getD, set, drop, length-set, replicate, length-append, length-replicate, List·getD-append, drop-of-length-le}
-use lib.Seq.{drop-append-le, getD-at, getD-set-same, getD-set-other}
+use lib.Dec.{T, eqb, ltb, eqb→eq}
+use lib.ListN.{length, getD, set, drop, length-set, replicate, length-replicate, drop-of-length-le}
+use lib.Seq.{getD-set-same, getD-set-other}
 use Rattle.sets.specs.Tests.{_and_, _or_, non}
 use Rattle.sets.specs.Members.{width, mem, those}
 use Rattle.sets.specs.declared.set.Set.{Set}
-use Rattle.sets.proofs.Tests.{T→true, F→false, split, either, and-comm, and-true, or-assoc, or-true, or-false, false-and, non-non}
+use Rattle.sets.proofs.Tests.{T→true, true→T, F→false, or-e, neither, split, either, and-comm, and-true, false-and, non-non}
 use Rattle.sets.proofs.Members.{those-ext, those-of, those-mem, Fits}
 use Rattle.rules.specs.Traces.{_has_}
 use Rattle.tally.proofs.Turns.{rest-next, seenIn}
@@ -52,57 +53,46 @@ module _ (last : List ℕ) (e i : ℕ) where
 abbrev pub LastOf : List ℕ → List ℕ → Type 0
 LastOf last τ = (i : ℕ) → i < length τ → getD τ i 0 < width → eqb (getD last (getD τ i 0) 0) i ≡ non (drop (i + 1) τ has getD τ i 0)
 
-has-snoc : (xs : List ℕ) (y x : ℕ) → (xs ++ y ∷ []) has x ≡ (xs has x or eqb x y)
-unfolding _has_ _or_
-has-snoc [] y x = or-false (eqb x y)
-has-snoc (z ∷ xs) y x = ap (λ (b : Bool). eqb x z or b) (has-snoc xs y x) ∙ sym (or-assoc (eqb x z) (xs has x) (eqb x y))
+-- what does not come again keeps its place
+kept-from : (last : List ℕ) (i : ℕ) (rest : List ℕ) (x : ℕ) → rest has x ≡ false → getD (placesFrom last i rest) x 0 ≡ getD last x 0
+unfolding placesFrom _has_
+kept-from last i [] x h = refl
+kept-from last i (e ∷ rest) x h =
+    let apart = neither _ _ h in kept-from (putPlace last e i) (suc i) rest x (apart .1) ∙ place-other last e i x (apart .0)
 
--- what the list says of a place that was there before an event came to its end
-module _ (last τ : List ℕ) (e : ℕ) (len : length last ≡ width) (h : LastOf last τ) where
-  abbrev table : List ℕ
-  table = putPlace last e (length τ)
+-- what comes again has a later one
+later-from : (last : List ℕ) (i : ℕ) (rest : List ℕ) (x : ℕ) → length last ≡ width → x < width → T (rest has x)
+    → i ≤ getD (placesFrom last i rest) x 0
+unfolding placesFrom _has_
+later-from last i [] x len l t = absurd t
+later-from last i (e ∷ rest) x len l t = go (split (rest has x)) (later-from (putPlace last e i) (suc i) rest x (length-place last e i ∙ len) l)
+  where
+    go : T (rest has x) ⊎ (T (rest has x) → ⊥) → (T (rest has x) → suc i ≤ getD (placesFrom (putPlace last e i) (suc i) rest) x 0)
+        → i ≤ getD (placesFrom (putPlace last e i) (suc i) rest) x 0
+    go (inl again) ih = omega (arith, ih again)
+    go (inr none) ih =
+        let same : x ≡ e = either (or-e _ _ t) (eqb→eq x e) (λ k. absurd (none k)) in
+        let here : getD (placesFrom (putPlace last e i) (suc i) rest) x 0 ≡ i = kept-from (putPlace last e i) (suc i) rest x (F→false _ none)
+        ∙ ap (λ (n : ℕ). getD (putPlace last e i) n 0) same ∙ place-same last e i len (subst (λ (n : ℕ). n < width) same l) in
+        omega (arith, here)
 
-  earlier-place : (i : ℕ) → i < length τ → getD τ i 0 < width → eqb (getD table (getD τ i 0) 0) i
-      ≡ non (drop (i + 1) τ has getD τ i 0 or eqb (getD τ i 0) e)
-  unfolding non
-  earlier-place i l k = pick (eqb (getD τ i 0) e) refl
-    where
-      pick : (b : Bool) → eqb (getD τ i 0) e ≡ b → eqb (getD table (getD τ i 0) 0) i
-          ≡ non (drop (i + 1) τ has getD τ i 0 or eqb (getD τ i 0) e)
-      pick true t =
-          let same : getD τ i 0 ≡ e = eqb-true (getD τ i 0) e t in
-          ap (λ (x : ℕ). eqb (getD table x 0) i) same
-          ∙ ap (λ (n : ℕ). eqb n i) (place-same last e (length τ) len (subst (λ (x : ℕ). x < width) same k))
-          ∙ ne-eqb (length τ) i (λ q. omega arith)
-          ∙ sym (ap non (ap (λ (c : Bool). drop (i + 1) τ has getD τ i 0 or c) t ∙ or-true (drop (i + 1) τ has getD τ i 0)))
-      pick false f =
-          ap (λ (n : ℕ). eqb n i) (place-other last e (length τ) (getD τ i 0) f)
-          ∙ h i l k
-          ∙ sym (ap non (ap (λ (c : Bool). drop (i + 1) τ has getD τ i 0 or c) f ∙ or-false (drop (i + 1) τ has getD τ i 0)))
-
-  last-snoc : LastOf table (τ ++ e ∷ [])
-  unfolding non _has_
-  last-snoc i l k =
-      either (split (ltb i (length τ))) (λ t. before (ltb-true i (length τ) (T→true _ t)))
-      (λ g. here (ltb-false i (length τ) (F→false _ g)))
-    where
-      before : i < length τ → eqb (getD table (getD (τ ++ e ∷ []) i 0) 0) i ≡ non (drop (i + 1) (τ ++ e ∷ []) has getD (τ ++ e ∷ []) i 0)
-      before b =
-          let q : getD (τ ++ e ∷ []) i 0 ≡ getD τ i 0 = List·getD-append τ (e ∷ []) 0 i b in
-          ap (λ (x : ℕ). eqb (getD table x 0) i) q
-          ∙ earlier-place i b (subst (λ (x : ℕ). x < width) q k)
-          ∙ ap non (sym (has-snoc (drop (i + 1) τ) e (getD τ i 0)))
-          ∙ ap (λ (r : List ℕ). non (r has getD τ i 0)) (sym (drop-append-le (i + 1) τ (e ∷ []) (omega arith)))
-          ∙ ap (λ (x : ℕ). non (drop (i + 1) (τ ++ e ∷ []) has x)) (sym q)
-
-      here : length τ ≤ i → eqb (getD table (getD (τ ++ e ∷ []) i 0) 0) i ≡ non (drop (i + 1) (τ ++ e ∷ []) has getD (τ ++ e ∷ []) i 0)
-      here g =
-          let end : length τ ≡ i = omega (arith, length-append τ (e ∷ [])) in
-          let q : getD (τ ++ e ∷ []) i 0 ≡ e = getD-at τ e [] 0 i end in
-          ap (λ (x : ℕ). eqb (getD table x 0) i) q
-          ∙ eq-eqb (getD table e 0) i (place-same last e (length τ) len (subst (λ (x : ℕ). x < width) q k) ∙ end)
-          ∙ sym (ap (λ (r : List ℕ). non (r has getD (τ ++ e ∷ []) i 0))
-          (drop-of-length-le (τ ++ e ∷ []) {i = i + 1} (omega (arith, length-append τ (e ∷ [])))))
+last-from : (last : List ℕ) (i : ℕ) (rest : List ℕ) (k : ℕ) → length last ≡ width → k < length rest → getD rest k 0 < width
+    → eqb (getD (placesFrom last i rest) (getD rest k 0) 0) (i + k) ≡ non (drop (suc k) rest has getD rest k 0)
+unfolding placesFrom non
+last-from last i [] k len h l = absurd (not-suc-le-zero h)
+last-from last i (e ∷ rest) zero len h l = go (rest has e) refl
+  where
+    go : (b : Bool) → rest has e ≡ b → eqb (getD (placesFrom (putPlace last e i) (suc i) rest) e 0) (i + 0) ≡ non b
+    go true q =
+        let later = later-from (putPlace last e i) (suc i) rest e (length-place last e i ∙ len) l (true→T q) in
+        ne-eqb _ (i + 0) (λ s. omega (arith, later, s))
+    go false q =
+        let here = kept-from (putPlace last e i) (suc i) rest e q ∙ place-same last e i len l in
+        eq-eqb _ (i + 0) (omega (arith, here))
+last-from last i (e ∷ rest) (suc k) len h l =
+    let next : i + suc k ≡ suc i + k = omega arith in
+    ap (eqb (getD (placesFrom (putPlace last e i) (suc i) rest) (getD rest k 0) 0)) next
+    ∙ last-from (putPlace last e i) (suc i) rest k (length-place last e i ∙ len) (le-of-suc-le-suc h) l
 
 -- ---- the pass that fills the table: what is left of it, from the table as it is, gives the whole
 
@@ -116,22 +106,14 @@ module _ (σ all : List ℕ) (i : ℕ) (last : List ℕ) (inv : placesFrom last 
   unfolding placesFrom
   places-end h = ap (placesFrom last i) (sym (drop-of-length-le σ h)) ∙ inv
 
--- what it leaves are the last places
-last-from : (last τ rest : List ℕ) → length last ≡ width → LastOf last τ → LastOf (placesFrom last (length τ) rest) (τ ++ rest)
-unfolding placesFrom
-last-from last τ [] len h = subst (LastOf last) (sym (append-nil τ)) h
-last-from last τ (e ∷ rest) len h =
-    let one : length (τ ++ e ∷ []) ≡ suc (length τ) = length-append τ (e ∷ []) ∙ add-one (length τ) in
-    subst (LastOf (placesFrom (putPlace last e (length τ)) (suc (length τ)) rest)) (append-assoc τ (e ∷ []) rest)
-    (subst (λ (n : ℕ). LastOf (placesFrom (putPlace last e (length τ)) n rest) ((τ ++ e ∷ []) ++ rest)) one
-    (last-from (putPlace last e (length τ)) (τ ++ e ∷ []) rest (length-place last e (length τ) ∙ len) (last-snoc last τ e len h)))
-
-last-of : (last σ : List ℕ) → length last ≡ width → LastOf (placesFrom last 0 σ) σ
-last-of last σ len = last-from last [] σ len (λ i h. absurd (not-suc-le-zero h))
-
 -- from a table of zeros
 pub last-known : (σ last : List ℕ) → last ≡ placesFrom (replicate width 0) 0 σ → LastOf last σ
-last-known σ last h = subst (λ (l : List ℕ). LastOf l σ) (sym h) (last-of (replicate width 0) σ (length-replicate {A = ℕ} width 0))
+last-known σ last h i l k =
+    let first : i ≡ 0 + i = omega arith in
+    ap (λ (table : List ℕ). eqb (getD table (getD σ i 0) 0) i) h
+    ∙ ap (eqb (getD (placesFrom (replicate width 0) 0 σ) (getD σ i 0) 0)) first
+    ∙ last-from (replicate width 0) 0 σ i (length-replicate {A = ℕ} width 0) l k
+    ∙ ap (λ (n : ℕ). non (drop n σ has getD σ i 0)) (sym (add-one i))
 
 -- ---- what stands after a place, from what stands from it on
 

@@ -1,56 +1,36 @@
 -- The stages of mining ask a tally at events alone: two tallies that agree there give the same rows. So who fills a tally may leave out what
 -- no event asks, as a pass over the half of the width where all events are, or a tally that is kept in narrower sets. Assumes nothing.
-use mathlib.Core.Path.{_≡_, refl, sym, ap, ap₂, _∙_}
-use mathlib.Core.Bool.{Bool, true, false}
+use mathlib.Core.Path.{_≡_, sym, ap, ap₂, _∙_}
+use mathlib.Core.Bool.{Bool}
 use mathlib.Core.List.{List, [], _∷_}
 use Prim.Native.Nat.{ℕ, _<_}
 use native.Mathlib.Omega.{arith}
-use lib.Dec.{T, eqb, eqb-refl}
+use lib.Dec.{T, eqb}
 use Rattle.sets.specs.Tests.{_and_, _or_, non}
-use Rattle.sets.specs.Members.{width, mem, those, someBelow, leastBelow}
+use Rattle.sets.specs.Members.{width, mem, someBelow}
 use Rattle.sets.specs.Rows.{Relation, rowAt, inRow, rowsOf, rowsFor, turned}
 use Rattle.sets.specs.Tables.{tableAt}
 use Rattle.sets.specs.declared.set.Set.{Set}
-use Rattle.sets.proofs.Tests.{and-l, and-r, or-e, or-l, or-r, and-comm, T-eq, either}
-use Rattle.sets.proofs.Below.{some-ext, least-ext}
+use Rattle.sets.proofs.Tests.{and-l, and-r, or-e, and-comm, and-assoc, T-eq, either}
+use Rattle.sets.proofs.Below.{some-ext}
 use Rattle.sets.proofs.Members.{those-i}
 use Rattle.sets.proofs.RowLaws.{in-rowsOf, rowsOf-ext}
 use Rattle.rules.specs.declared.Profile.{Profile}
 use Rattle.rules.specs.declared.Profile.the-variants.{Full, Light}
-use Rattle.rules.specs.Traces.{Traces, _has_}
+use Rattle.rules.specs.Traces.{Traces}
 use Rattle.rules.specs.Mining.{event}
-use Rattle.rules.proofs.InTurn.{is-event}
 use Rattle.steps.specs.Rowwise.{unbroken, absent, excludesItself, smallest, apart, closing, excluders, inEither, reducedOf}
-use Rattle.tally.specs.Passes.{Fact, gains, forward}
+use Rattle.steps.proofs.Sources.{smallest-as}
+use Rattle.tally.specs.Passes.{gains, forward}
 use Rattle.tally.specs.Tallies.{tableCount, beforeTable, laterTable, unprecededTable, unansweredTable, unchainedTable, unalternatedTable}
 use Rattle.tally.specs.Tallies.{followedTable}
 use Rattle.tally.proofs.Folds.{heard, forward-rowsOf, through-rowsOf}
-use Rattle.tally.proofs.Turns.{has-past}
 use Rattle.miner.specs.Facts.{letIn, reopened, doubted}
 use Rattle.miner.specs.Stages.{conditionsOf, chainsOf, responsesOf, neverOf, fiveFrom, fiveOf, includesFrom, includesSix, excludesSix}
 use Rattle.miner.specs.Stages.{followersOf, redundantBy, sevenFrom, waitedOf, fourTables, tablesAfterSix, tablesRead}
-use Rattle.miner.proofs.OverLog.{some-place}
+use Rattle.miner.proofs.Losing.{where-so}
+use Rattle.miner.proofs.OverLog.{place-event}
 use Rattle.miner.proofs.EarlySteps.{events}
-
--- ---- tests alone
-
--- what is asked only where a test passes
-pub where-so : (g d d′ : Bool) → (T g → d ≡ d′) → (g and d) ≡ (g and d′)
-unfolding _and_
-where-so true d d′ h = h tt
-where-so false d d′ h = refl
-
-where-then : (d d′ g : Bool) → (T g → d ≡ d′) → (d and g) ≡ (d′ and g)
-where-then d d′ g h = and-comm d g ∙ where-so g d d′ h ∙ and-comm g d′
-
-where-first : (g c c′ d d′ : Bool) → (T g → c ≡ c′) → (T g → d ≡ d′) → (g and c and d) ≡ (g and c′ and d′)
-unfolding _and_
-where-first true c c′ d d′ hc hd = ap₂ _and_ (hc tt) (hd tt)
-where-first false c c′ d d′ hc hd = refl
-
-smallest-as : (p q : ℕ → Bool) → ((a : ℕ) → a < width → p a ≡ q a) → (a : ℕ) → a < width → smallest p a ≡ smallest q a
-unfolding smallest
-smallest-as p q h a l = ap₂ (λ (b : Bool) (n : ℕ). b and eqb a n) (h a l) (least-ext width p q h)
 
 -- ---- rows that agree at the members of a set
 
@@ -92,7 +72,8 @@ module _ (events : Set) where
     unfolding closing
     closing-as itself s ls es t lt =
         ap (λ (b : Bool). b and non itself)
-        (where-first (mem events t) _ _ _ _ (λ et. hl s t ls lt es et) (λ et. ap non (hb s t ls lt es et)))
+        (and-assoc _ _ _ ∙ where-so (mem events t) _ _ (λ et. ap₂ (λ (b c : Bool). b and non c) (hl s t ls lt es et) (hb s t ls lt es et))
+        ∙ sym (and-assoc _ _ _))
 
     excluders-as : (chains : List ℕ) → rowsFor events (excluders events before later chains) ≡ rowsFor events (excluders events before′ later′ chains)
     unfolding rowsFor excluders excludesItself
@@ -125,13 +106,11 @@ module _ (events : Set) (tally tally′ : List ℕ) (same : AgreeAt events tally
   pub alternating-at : rowsFor events (absent events (tableAt tally unalternatedTable)) ≡ rowsFor events (absent events (tableAt tally′ unalternatedTable))
   alternating-at = absent-as events _ _ (same unalternatedTable (omega arith))
 
-  pub five-from-at : (chains : List ℕ) → fiveFrom events tally chains ≡ fiveFrom events tally′ chains
-  five-from-at chains =
-      ap (λ (rows : List ℕ). rowsOf (turned rows))
-      (excluders-as events _ _ _ _ (same beforeTable (omega arith)) (same laterTable (omega arith)) chains)
-
   pub five-at : fiveOf events tally ≡ fiveOf events tally′
-  five-at = five-from-at (chainsOf events tally) ∙ ap (fiveFrom events tally′) chains-at
+  five-at =
+      ap (λ (rows : List ℕ). rowsOf (turned rows))
+      (excluders-as events _ _ _ _ (same beforeTable (omega arith)) (same laterTable (omega arith)) (chainsOf events tally))
+      ∙ ap (fiveFrom events tally′) chains-at
 
   pub excludes-six-at : (p : Profile) → excludesSix p events tally ≡ excludesSix p events tally′
   excludes-six-at Full = ap₂ (λ (x y : List ℕ). rowsFor events (inEither x y)) five-at never-at
@@ -141,9 +120,6 @@ module _ (events : Set) (tally tally′ : List ℕ) (same : AgreeAt events tally
   includes-six-at Full L = ap₂ (λ (x y : List ℕ). includesFrom x y L) chains-at never-at
   includes-six-at Light L = ap (λ (rows : List ℕ). rowsOf (turned rows)) chains-at
 
-  pub followers-at : followersOf events tally ≡ followersOf events tally′
-  followers-at = ap (λ (rows : List ℕ). rowsOf (turned rows)) alternating-at
-
   -- ---- step 7, where nothing but events includes anything
   module _ (includes : List ℕ) (inside : Inside events includes) where
     doubted-at : (u s x : ℕ) → u < width → s < width → x < width → T (mem events u) → T (mem events s)
@@ -152,9 +128,9 @@ module _ (events : Set) (tally tally′ : List ℕ) (same : AgreeAt events tally
     unfolding doubted inRow
     doubted-at u s x lu ls lx eu es =
         some-ext width _ _
-        (λ v lv. where-then _ _ (inRow includes v x)
+        (λ v lv. and-comm _ _ ∙ where-so (inRow includes v x) _ _
         (λ t. let ev = inside v x lv lx t in
-        ap₂ _and_ (same laterTable (omega arith) u v lu lv eu ev) (same beforeTable (omega arith) s v ls lv es ev)))
+        ap₂ _and_ (same laterTable (omega arith) u v lu lv eu ev) (same beforeTable (omega arith) s v ls lv es ev)) ∙ and-comm _ _)
 
     followers-events : (u s : ℕ) → u < width → s < width → T (inRow (followersOf events tally) u s) → T (mem events s) × T (mem events u)
     unfolding turned rowsFor absent
@@ -178,26 +154,17 @@ module _ (events : Set) (tally tally′ : List ℕ) (same : AgreeAt events tally
         (λ s x ls lx. ap (λ (b : Bool). inRow excludes s x and non b)
         (some-ext width _ _ (λ u lu. ap (λ (b : Bool). mem events u and b)
         (redundant-at excludes L u s x lu ls lx
-        ∙ ap (λ (f : List ℕ). redundantBy tally′ f includes excludes L u s x) followers-at))))
+        ∙ ap (λ (f : List ℕ). redundantBy tally′ f includes excludes L u s x)
+        (ap (λ (rows : List ℕ). rowsOf (turned rows)) alternating-at)))))
 
   -- from the includes and excludes after step 6 to the tables after step 10
   pub after-six-at : (L : Traces) (includes six : List ℕ) → Inside events includes
       → tablesAfterSix L events tally includes six ≡ tablesAfterSix L events tally′ includes six
   after-six-at L includes six inside =
-      λ i. tablesFor (conditions-at i) (responses-at i) (seven-at includes inside six L i)
-    where
-      tablesFor : List ℕ → List ℕ → List ℕ → List ℕ
-      tablesFor conditions responses seven =
-          fourTables (waitedOf events (rowsFor events (reducedOf conditions)) includes seven L) (rowsFor events (reducedOf responses)) includes seven
+      λ i. fourTables (waitedOf events (rowsFor events (reducedOf (conditions-at i))) includes (seven-at includes inside six L i) L)
+      (rowsFor events (reducedOf (responses-at i))) includes (seven-at includes inside six L i)
 
 -- ---- the graph of a log
-
--- what a place says puts into the row of its activity: of an event
-heard-event : (p : Fact) (L : Traces) (u x : ℕ) → T (heard p L u x) → T (event L u)
-unfolding _has_
-heard-event p L u x h =
-    let k = some-place u (λ past rest. p u past rest x) L h in
-    is-event L u (k .2) (T-eq (sym (has-past u (k .0) (u ∷ k .1))) (or-r _ _ (or-l _ _ (eqb-refl u))))
 
 module _ (L : Traces) (tally : List ℕ) where
   chains-inside : Inside (events L) (rowsOf (turned (chainsOf (events L) tally)))
@@ -217,7 +184,7 @@ module _ (L : Traces) (tally : List ℕ) where
       let there = T-eq (ap (λ (rows : List ℕ). inRow rows a x) all ∙ in-rowsOf (λ b y. start b y or heard (letIn never) L b y) a x la lx) t in
       either (or-e _ _ there)
       (λ c. chains-inside a x la lx (T-eq (sym (in-rowsOf start a x la lx)) c))
-      (λ c. those-i (event L) a la (heard-event (letIn never) L a x c))
+      (λ c. those-i (event L) a la (place-event a _ L c))
 
   -- all tables that mining reads
   pub tables-at : (tally′ : List ℕ) → AgreeAt (events L) tally tally′ → (p : Profile) → tablesRead L (events L) tally p ≡ tablesRead L (events L) tally′ p

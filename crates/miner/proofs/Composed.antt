@@ -16,27 +16,23 @@ use Rattle.engine.specs.Relations.{relationCount, headOf, graphOf, inTables}
 use Rattle.engine.specs.declared.marking.State.{State}
 use Rattle.engine.specs.declared.marking.Marking.{Marking}
 use Rattle.engine.specs.Enabled.{marked, graphAt}
-use Rattle.engine.specs.declared.graph.Graph.{Graph}
 use Rattle.rules.specs.declared.Profile.{Profile}
 use Rattle.rules.specs.declared.Profile.the-variants.{Full, Light}
-use Rattle.rules.specs.Traces.{Traces, _has_, someTrace}
-use Rattle.rules.specs.Mining.{event}
+use Rattle.rules.specs.Traces.{Traces}
 use Rattle.steps.specs.Rowwise.{excluders, inEither, reducedOf, waited}
-use Rattle.tally.specs.Passes.{gains, forward, through, cut}
+use Rattle.tally.specs.Passes.{through, eventIn, cut}
 use Rattle.tally.specs.Tallies.{tableCount, notedFor, talliedFor, beforeTable, laterTable}
 use Rattle.tally.proofs.Folds.{forward-rowsOf, through-rowsOf}
-use Rattle.miner.specs.Facts.{Less, letIn, beforeFirst, missed}
+use Rattle.miner.specs.Facts.{Less, letIn}
 use Rattle.miner.specs.Stages.{conditionsOf, chainsOf, responsesOf, neverOf, fiveOf, followersOf, redundantBy, sevenFrom, includesIn, excludesSix}
-use Rattle.miner.specs.Stages.{letInOf}
-use Rattle.miner.specs.Stages.{waitedIn, aheadOf, missedOf, fourTables, tablesIn, graphFoundIn}
+use Rattle.miner.specs.Stages.{letInOf, waitedIn, aheadOf, missedOf, fourTables, tablesIn, graphFoundIn}
 use Rattle.miner.proofs.Holding.{Held, held-any, length-held, held-c, held-r, held-i, held-x, held-four, held-is, taken-from, put-long}
 
 -- step 6, of the includes
 pub let-in-by : (wide : Bool) (L : Traces) (t t′ never never′ held held′ includes : List ℕ) → t′ ≡ withTable t 2 includes
     → includes ≡ letInOf wide never held L → never ≡ never′ → held ≡ held′
     → t′ ≡ withTable t 2 (letInOf wide never′ held′ L)
-let-in-by wide L t t′ never never′ held held′ includes h hi hn hh =
-    h ∙ ap (withTable t 2) (hi ∙ (λ i. letInOf wide (hn i) (hh i) L))
+let-in-by wide L t t′ never never′ held held′ includes h hi hn hh = rw (h, hi, hn, hh)
 
 -- step 9: what is waited for
 pub nine-by : (wide : Bool) (L : Traces) (events : Set) (eight includes excludes t t′ first₀ unmet₀ first unmet : List ℕ)
@@ -44,11 +40,7 @@ pub nine-by : (wide : Bool) (L : Traces) (events : Set) (eight includes excludes
     → first ≡ aheadOf wide first₀ L → unmet ≡ missedOf wide events includes excludes unmet₀ L → first₀ ≡ noRows → unmet₀ ≡ noRows
     → t′ ≡ withTable t 0
     (rowsFor events (waited events eight (aheadOf wide noRows L) (missedOf wide events includes excludes noRows L)))
-nine-by wide L events eight includes excludes t t′ first₀ unmet₀ first unmet h hf hu h₀ k₀ =
-    h
-    ∙ ap₂ (λ (x y : List ℕ). withTable t 0 (rowsFor events (waited events eight x y)))
-    (hf ∙ ap (λ (x : List ℕ). aheadOf wide x L) h₀)
-    (hu ∙ ap (λ (x : List ℕ). missedOf wide events includes excludes x L) k₀)
+nine-by wide L events eight includes excludes t t′ first₀ unmet₀ first unmet h hf hu h₀ k₀ = rw (h, hf, hu, h₀, k₀)
 
 -- step 7: what is left of the excludes
 pub seven-by : (L : Traces) (events : Set) (tally t left₀ left t′ : List ℕ) → left₀ ≡ withTable noRows 0 (tableAt t 3)
@@ -76,10 +68,6 @@ module _ (wide : Bool) (L : Traces) (events : Set) (tally : List ℕ) where
       ap length (through-rowsOf (cut wide (letIn (neverOf events tally))) _ (λ r σ. forward-rowsOf (cut wide (letIn (neverOf events tally))) r [] σ)
       (turned (chainsOf events tally)) L) ∙ length-rowsOf _
   length-includes Light = length-rowsOf _
-
-  length-excludes : (p : Profile) → length (excludesSix p events tally) ≡ rowWords
-  length-excludes Full = length-for events _
-  length-excludes Light = length-rowsOf _
 
   -- the excludes after step 6 are some relation's rows
   excludes-some : (p : Profile) → (r : Relation) × (excludesSix p events tally ≡ rowsOf r)
@@ -149,10 +137,6 @@ module _ (wide : Bool) (L : Traces) (events : Set) (tally : List ℕ) where
     abbrev excludedOf : List ℕ
     excludedOf = rowsFor events (excluders events (tableAt tally beforeTable) (tableAt tally laterTable) (chainsOf events tally))
 
-    pub eight-four : Held (fourTables eightOf answersOf (includesIn wide p events tally L) afterSeven) eightOf answersOf
-        (includesIn wide p events tally L) afterSeven
-    eight-four = held-four _ _ _ _ (length-for events _) (length-for events _) (length-includes p) (length-rowsOf _)
-
     pub eight-by : (t t₁ t₂ t₃ t₄ t₅ t₆ t₇ : List ℕ) → t₁ ≡ withTable t 2 (rowsOf (turned (chainsOf events tally)))
         → t₂ ≡ withTable t₁ 3 excludedOf → t₃ ≡ withTable t₂ 3 (rowsOf (turned (withTable noRows 0 (tableAt t₂ 3))))
         → length t₄ ≡ length t₃
@@ -182,23 +166,16 @@ module _ (wide : Bool) (L : Traces) (events : Set) (tally : List ℕ) where
         (held-r _ _ _ _ _ t₇ _ eight (length-for events _) h₇)
 
 -- from the tally of the traces
-pub events-by : (L : Traces) (r : Set) → r ≡ those (λ x. someTrace L (λ σ. σ has x)) → r ≡ those (event L)
-unfolding event
-events-by L r h = h
-
 pub tally-by : (wide : Bool) (L : Traces) (events : Set) (p : Profile) (none tally t t′ : List ℕ) → none ≡ noTables tableCount → tally ≡ through (notedFor wide) none L
     → (length t ≡ relationCount * rowWords → t′
     ≡ fourTables (eightOf wide L events tally p) (answersOf wide L events tally p) (includesIn wide p events tally L) (afterSeven wide L events tally p))
     → length t ≡ relationCount * rowWords → t′
     ≡ fourTables (eightOf wide L events (talliedFor wide L) p) (answersOf wide L events (talliedFor wide L) p) (includesIn wide p events (talliedFor wide L) L)
     (afterSeven wide L events (talliedFor wide L) p)
-tally-by wide L events p none tally t t′ h₀ ht h long =
-    h long
-    ∙ ap (λ (x : List ℕ). fourTables (eightOf wide L events x p) (answersOf wide L events x p) (includesIn wide p events x L) (afterSeven wide L events x p))
-    (ht ∙ ap (λ (x : List ℕ). through (notedFor wide) x L) h₀)
+tally-by wide L events p none tally t t′ h₀ ht h long = rw (h long, ht, h₀)
 
 -- steps 9 and 10, and the head
-module _ (wide : Bool) (A : ℕ) (L : Traces) (p : Profile) (events : Set) (t₁ t₂ t₃ : List ℕ) (s : State) (opening : Marking) where
+module _ (wide : Bool) (A : ℕ) (L : Traces) (p : Profile) (events : Set) (t t₁ t₂ t₃ : List ℕ) (s : State) (opening : Marking) where
   abbrev eight : List ℕ
   eight = eightOf wide L events (talliedFor wide L) p
 
@@ -213,16 +190,16 @@ module _ (wide : Bool) (A : ℕ) (L : Traces) (p : Profile) (events : Set) (t₁
       rowsFor events
       (waited events c (aheadOf wide noRows L) (missedOf wide events i x noRows L))
 
-  pub found-by : events ≡ those (event L)
-      → (length (noTables relationCount) ≡ relationCount * rowWords → t₁ ≡ fourTables eight (answersOf wide L events (talliedFor wide L) p) included excluding)
+  pub found-by : events ≡ those (eventIn wide L)
+      → (length t ≡ relationCount * rowWords → t₁ ≡ fourTables eight (answersOf wide L events (talliedFor wide L) p) included excluding)
       → t₂ ≡ withTable t₁ 0
       (nineFrom (withTable noRows 0 (tableAt t₁ 0)) (tableAt t₁ 2) (tableAt t₁ 3))
       → t₃ ≡ withTable t₂ 0 (rowsFor events (reducedOf (withTable noRows 0 (tableAt t₂ 0))))
-      → s ≡ openingOf events → opening ≡ marked events (inTables t₃) s → graphOf (headOf A events opening) t₃ ≡ graphFoundIn wide A L p
+      → t ≡ noTables relationCount → s ≡ openingOf events → opening ≡ marked events (inTables t₃) s → graphOf (headOf A events opening) t₃ ≡ graphFoundIn wide A L p
   unfolding graphFoundIn
-  found-by hv h₁ h₂ h₃ hs ho =
-      let four = eight-four wide L events (talliedFor wide L) p in
-      let is = h₁ (length-replicate {A = ℕ} (relationCount * rowWords) 0) in
+  found-by hv h₁ h₂ h₃ h₀ hs ho =
+      let four = held-four _ _ _ _ (length-for events _) (length-for events _) (length-includes wide L events (talliedFor wide L) p) (length-rowsOf _) in
+      let is = h₁ (ap length h₀ ∙ length-replicate {A = ℕ} (relationCount * rowWords) 0) in
       let one : Held t₁ eight (answersOf wide L events (talliedFor wide L) p) included excluding = subst (λ (x : List ℕ). Held x eight
       (answersOf wide L events (talliedFor wide L) p) included excluding) (sym is) four in
       let nine = held-c _ _ _ _ _ t₂ (nineFrom eight included excluding) one (length-for events _)

@@ -1,14 +1,13 @@
 -- What is read from the tally of a log is what the rules make of the log in steps 2 and 3. Assumes nothing.
-use mathlib.Core.Path.{_≡_, sym, ap, _∙_}
+use mathlib.Core.Path.{_≡_, ap, _∙_}
 use mathlib.Core.Bool.{Bool, false}
 use mathlib.Core.List.{List}
 use Prim.Native.Nat.{ℕ}
-use lib.Dec.{eqb, eqb→eq}
+use lib.Dec.{eqb}
 use Rattle.sets.specs.Tests.{_and_, _or_, non}
 use Rattle.sets.specs.Members.{those}
 use Rattle.sets.specs.Rows.{Relation, rowsOf, rowsFor}
 use Rattle.sets.specs.declared.set.Set.{Set}
-use Rattle.sets.proofs.Tests.{T-ext, eqb-of}
 use Rattle.sets.proofs.Tautologies.{by4}
 use Rattle.sets.proofs.RowLaws.{rowsOf-ext}
 use Rattle.rules.specs.Traces.{Traces}
@@ -16,6 +15,7 @@ use Rattle.rules.specs.Mining.{noPair, noRelations, event, _with_, precedes, an
 use Rattle.rules.specs.Mining.{step5, afterFive}
 use Rattle.steps.specs.Rowwise.{unbroken}
 use Rattle.tally.specs.Tallies.{tallied}
+use Rattle.tally.proofs.Somes.{eqb-sym}
 use Rattle.tally.proofs.Tallying.{unpreceded-table, unanswered-table, unchained-table}
 use Rattle.miner.specs.Stages.{conditionsOf, responsesOf, chainsOf}
 use Rattle.miner.proofs.RowReadings.{unbroken-rows}
@@ -23,13 +23,6 @@ use Rattle.miner.proofs.RowReadings.{unbroken-rows}
 by-target : (a b c d : Bool) → (a and (b and c and d)) ≡ (b and a and (false or c and d))
 unfolding _and_ _or_ non
 by-target = by4 (λ a b c d. a and (b and c and d)) (λ a b c d. b and a and (false or c and d)) tt
-
-by-source : (a b c d : Bool) → (a and (b and c and d)) ≡ (a and b and (false or c and d))
-unfolding _and_ _or_ non
-by-source = by4 (λ a b c d. a and (b and c and d)) (λ a b c d. a and b and (false or c and d)) tt
-
-eqb-sym : (a b : ℕ) → eqb a b ≡ eqb b a
-eqb-sym a b = T-ext (eqb a b) (eqb b a) (λ t. eqb-of (sym (eqb→eq a b t))) (λ t. eqb-of (sym (eqb→eq b a t)))
 
 module _ (L : Traces) where
   abbrev pub events : Set
@@ -52,7 +45,7 @@ module _ (L : Traces) where
       kept (answers L) _ (unanswered-table L)
       ∙ rowsOf-ext _ _
       (λ s t ls lt.
-      by-source (event L s) (event L t) (non (eqb t s)) (answers L s t)
+      by4 (λ a b c d. a and (b and c and d)) (λ a b c d. a and b and (false or c and d)) (unfold _and_ _or_ non in tt) (event L s) (event L t) (non (eqb t s)) (answers L s t)
       ∙ ap (λ (b : Bool). event L s and event L t and (false or non b and answers L s t)) (eqb-sym t s))
 
   pub chains-read : chainsOf events (tallied L) ≡ rowsOf (λ t s. afterFive L .includes s t)

@@ -4,12 +4,12 @@ use mathlib.Core.Path.{_≡_, refl, sym, ap, ap₂, _∙_}
 use mathlib.Core.Bool.{Bool, true, false}
 use mathlib.Core.List.{List}
 use Prim.Native.Nat.{ℕ, _<_}
-use borrow.Author.Tests.{eqb-true, eqb-false}
+use borrow.Author.Tests.{eqb-false}
 use lib.Dec.{T, eqb, eqb-refl}
 use Rattle.sets.specs.Tests.{_and_, _or_, non}
-use Rattle.sets.specs.Members.{width, mem, those, someBelow}
+use Rattle.sets.specs.Members.{width, mem, someBelow}
 use Rattle.sets.specs.Rows.{Relation, rowAt, inRow, rowsOf, rowsFor, turned}
-use Rattle.sets.proofs.Tests.{and-l, and-r, and-i, and-true, and-false, non-e, non-non, T-ext, T-eq, T→true, F→false, false→F}
+use Rattle.sets.proofs.Tests.{and-l, and-r, and-i, and-comm, nor, non-e, non-non, T-ext, T-eq, T→true, F→false, false→F}
 use Rattle.sets.proofs.Tautologies.{by2, by4, by5}
 use Rattle.sets.proofs.Below.{some-ext}
 use Rattle.sets.proofs.Members.{mem-those}
@@ -21,16 +21,17 @@ use Rattle.rules.specs.Traces.{Traces}
 use Rattle.rules.specs.Mining.{noPair, noRelations, smallestSource, event, someEvent, _with_, _without_, before, followed, alternates}
 use Rattle.rules.specs.Mining.{atMostOnce, together, directlyBefore, neverTogether, closes, step1, step2, step3, step4, step5, step6, letInBetween, makesRedundant, step7}
 use Rattle.rules.specs.Mining.{afterFive, afterSix, afterSeven}
-use Rattle.steps.specs.Rowwise.{excludesItself, smallest, apart, closing, excluders, absent, inEither}
+use Rattle.steps.specs.Rowwise.{excludesItself, apart, closing, excluders, absent, inEither}
 use Rattle.tally.specs.Tallies.{tallied}
 use Rattle.tally.proofs.Tallying.{before-table, later-table, unalternated-table, followed-table}
 use Rattle.tally.proofs.LogLaws.{once, together-before}
+use Rattle.tally.proofs.Folds.{at-same}
 use Rattle.miner.specs.Facts.{reopened, doubted}
-use Rattle.miner.specs.Stages.{chainsOf, neverOf, fiveOf, excludesSix, followersOf, redundantBy, sevenFrom}
+use Rattle.miner.specs.Stages.{neverOf, fiveOf, excludesSix, followersOf, redundantBy, sevenFrom}
 use Rattle.miner.proofs.RowReadings.{turned-rows, absent-rows, united-rows, smallest-read}
 use Rattle.rules.proofs.Why.{Small}
 use Rattle.miner.proofs.OverLog.{reopened-is}
-use Rattle.miner.proofs.Losing.{under}
+use Rattle.miner.proofs.Losing.{where-so}
 use Rattle.miner.proofs.EarlySteps.{events, chains-read}
 
 -- ---- tests alone
@@ -48,53 +49,31 @@ in-events true x ev d =
     (some-ext width (λ u. ev u and true and (false or d u)) (λ u. ev u and d u)
     (λ u l. by2 (λ v w. v and true and (false or w)) (λ v w. v and w) tt (ev u) (d u)))
 
-twice : (e f q o k : Bool) → (e and f and (e and f and (false or q and o) or q and k)) ≡ (q and (e and f and (o or k)))
-unfolding _and_ _or_ non
-twice = by5 (λ e f q o k. e and f and (e and f and (false or q and o) or q and k)) (λ e f q o k. q and (e and f and (o or k))) tt
-
-itself : (e y : Bool) → (e and e and (true and (e and y) or false)) ≡ (e and y)
-unfolding _and_ _or_ non
-itself = by2 (λ e y. e and e and (true and (e and y) or false)) (λ e y. e and y) tt
-
-idem : (a b : Bool) → (a and a and b) ≡ (a and b)
-unfolding _and_ _or_ non
-idem = by2 (λ a b. a and a and b) (λ a b. a and b) tt
-
 two-others : (q a d d′ : Bool) → (q ≡ false → d ≡ d′) → (a and non q and d) ≡ (a and true and non q and d′)
 unfolding _and_ _or_ non
 two-others true a d d′ h = by4 (λ x z w v. x and false and z) (λ x z w v. x and true and false and w) tt a d d′ d
 two-others false a d d′ h = ap (λ (z : Bool). a and true and z) (h refl)
     ∙ by2 (λ x z. x and true and z) (λ x z. x and true and true and z) tt a d′
 
-all-among : (e f g c d : Bool) → g ≡ (e and f and g) → c ≡ (e and f and c) → d ≡ (e and f and d) → (e and f and (e and f and (g or c) or d))
-    ≡ (g or c or d)
+-- two tests of events alone, joined
+pub joined : (e f g b : Bool) → g ≡ (e and f and g) → b ≡ (e and f and b) → (g or b) ≡ (e and f and (g or b))
 unfolding _and_ _or_ non
-all-among e f g c d hg hc hd =
-    ap₂ (λ (x y : Bool). e and f and (e and f and (x or y) or d)) hg hc
-    ∙ ap (λ (z : Bool). e and f and (e and f and (e and f and g or e and f and c) or z)) hd
-    ∙ by5 (λ v w x y z. v and w and (v and w and (v and w and x or v and w and y) or v and w and z))
-    (λ v w x y z. v and w and x or v and w and y or v and w and z) tt e f g c d
-    ∙ sym (ap₂ (λ (x y : Bool). x or y or d) hg hc ∙ ap (λ (z : Bool). e and f and g or e and f and c or z) hd)
+joined true true g b hg hb = refl
+joined true false g b hg hb = nor _ _ hg hb
+joined false f g b hg hb = nor _ _ hg hb
 
 -- pairs that join a relation among events
 one-more : (e f g p : Bool) → g ≡ (e and f and g) → (e and (g or e and (f and p))) ≡ (e and f and (g or p))
 unfolding _and_ _or_ non
-one-more e f g p h =
-    ap (λ (x : Bool). e and (x or e and (f and p))) h
-    ∙ by4 (λ v w x y. v and (v and w and x or v and (w and y))) (λ v w x y. v and w and (v and w and x or y)) tt e f g p
-    ∙ ap (λ (x : Bool). e and f and (x or p)) (sym h)
+one-more true true g p h = refl
+one-more true false g p h = ap (λ (x : Bool). x or false) h
+one-more false f g p h = refl
 
 -- the test of the first event is one too many
 pub first-too : (e f g p : Bool) → g ≡ (e and f and g) → (e and (g and p)) ≡ (g and p)
 unfolding _and_ _or_ non
-first-too e f g p h =
-    ap (λ (x : Bool). e and (x and p)) h ∙ by4 (λ v w x y. v and (v and w and x and y)) (λ v w x y. v and w and x and y) tt e f g p
-    ∙ ap (λ (x : Bool). x and p) (sym h)
-
--- the tests of step 7 in the order of the rules
-as-asked : (e x i a l : Bool) → (e and (x and non i and (true and (e and a)) and non l)) ≡ (e and (x and a and non i and non l))
-unfolding _and_ _or_ non
-as-asked = by5 (λ e x i a l. e and (x and non i and (true and (e and a)) and non l)) (λ e x i a l. e and (x and a and non i and non l)) tt
+first-too true f g p h = refl
+first-too false f g p h = sym (ap (λ (x : Bool). x and p) h)
 
 -- what excludes itself by step 1 or by step 3
 unfoldable pub selfExcluding : Traces → ℕ → Bool
@@ -110,17 +89,13 @@ module _ (L : Traces) where
   -- ---- what excludes itself
 
   self-three : (s t : ℕ) → afterThree L .excludes s t ≡ (eqb s t and selfExcluding L s)
-  unfolding step3 step2 step1 noRelations noPair _with_ selfExcluding _and_
+  unfolding step3 step2 step1 noRelations noPair _with_ selfExcluding
   self-three s t =
-      twice (event L s) (event L t) (eqb s t) (atMostOnce L s) (someEvent L (λ u. directlyBefore L u t)) ∙ by (eqb s t) refl
-    where
-      by : (q : Bool) → eqb s t ≡ q → (q and (event L s and event L t and (atMostOnce L s or someEvent L (λ u. directlyBefore L u t))))
-          ≡ (q and (event L s and (non (before L s s) or someEvent L (λ u. directlyBefore L u s))))
-      by false e = refl
-      by true e =
-          ap (λ (n : ℕ). event L s and event L n and (atMostOnce L s or someEvent L (λ u. directlyBefore L u n))) (sym (eqb-true s t e))
-          ∙ ap (λ (o : Bool). event L s and event L s and (o or someEvent L (λ u. directlyBefore L u s))) (once L s)
-          ∙ idem (event L s) (non (before L s s) or someEvent L (λ u. directlyBefore L u s))
+      by5 (λ e f q o k. e and f and (e and f and (false or q and o) or q and k)) (λ e f q o k. q and (e and f and (o or k))) (unfold _and_ _or_ non in tt)
+      (event L s) (event L t) (eqb s t) (atMostOnce L s) (someEvent L (λ u. directlyBefore L u t))
+      ∙ at-same s t (λ n. event L s and event L n and (atMostOnce L s or someEvent L (λ u. directlyBefore L u n)))
+      ∙ ap (λ (o : Bool). eqb s t and (event L s and event L s and (o or someEvent L (λ u. directlyBefore L u s)))) (once L s)
+      ∙ ap (λ (b : Bool). eqb s t and b) (by2 (λ a b. a and a and b) (λ a b. a and b) (unfold _and_ _or_ non in tt) (event L s) _)
 
   self-four : (s : ℕ) → afterFour L .excludes s s ≡ selfExcluding L s
   unfolding step4 smallestSource neverTogether _with_ selfExcluding
@@ -128,7 +103,8 @@ module _ (L : Traces) where
       ap₂ (λ (g c : Bool). event L s and event L s and (g or c))
       (self-three s s ∙ ap (λ (q : Bool). q and selfExcluding L s) (T→true _ (eqb-refl s)))
       (F→false (smallestSource (neverTogether L) s s) (λ t. non-e (eqb s s) (and-r _ _ (and-l _ _ (and-l _ _ t))) (eqb-refl s)))
-      ∙ itself (event L s) (non (before L s s) or someEvent L (λ u. directlyBefore L u s))
+      ∙ by2 (λ e y. e and e and (true and (e and y) or false)) (λ e y. e and y) (unfold _and_ _or_ non in tt) (event L s)
+      (non (before L s s) or someEvent L (λ u. directlyBefore L u s))
 
   -- ---- what excludes a target, by the rows of the tally
 
@@ -150,12 +126,7 @@ module _ (L : Traces) where
         ∙ in-events (event L t) (non (before L t t)) (event L) (λ u. directlyBefore L u t)
 
     own-read : (s : ℕ) → (excludesItself earlier chains t and eqb s t) ≡ afterThree L .excludes s t
-    unfolding _and_
-    own-read s = ap (λ (b : Bool). b and eqb s t) itself-read ∙ by (eqb s t) refl ∙ sym (self-three s t)
-      where
-        by : (q : Bool) → eqb s t ≡ q → (selfExcluding L t and q) ≡ (q and selfExcluding L s)
-        by true e = and-true (selfExcluding L t) ∙ ap (selfExcluding L) (sym (eqb-true s t e))
-        by false e = and-false (selfExcluding L t)
+    own-read s = ap (λ (b : Bool). b and eqb s t) itself-read ∙ and-comm _ _ ∙ at-same s t (selfExcluding L) ∙ sym (self-three s t)
 
     apart-read : (s : ℕ) → s < width → apart (events L) earlier (rowsOf (before L)) t s ≡ neverTogether L s t
     unfolding apart neverTogether
@@ -191,12 +162,13 @@ module _ (L : Traces) where
       ≡ (afterThree L .excludes s t or smallestSource (neverTogether L) s t or smallestSource (closes L (afterFour L)) s t)
   unfolding afterFive step5 step4 step3 _with_ smallestSource neverTogether closes
   excludes-after-five s t =
-      all-among (event L s) (event L t) (afterThree L .excludes s t) (smallestSource (neverTogether L) s t)
-      (smallestSource (closes L (afterFour L)) s t)
+      let four = joined (event L s) (event L t) (afterThree L .excludes s t) (smallestSource (neverTogether L) s t)
       (with-events (step2 L (step1 L noRelations) .excludes) (λ x y. eqb x y and someEvent L (λ u. directlyBefore L u y)) s t)
-      (among _ _ _ (λ h. and-l _ _ (and-l _ _ (and-l _ _ (and-l _ _ h)))) (λ h. and-r _ _ (and-l _ _ (and-l _ _ (and-l _ _ h)))))
+      (among _ _ _ (λ h. and-l _ _ (and-l _ _ (and-l _ _ (and-l _ _ h)))) (λ h. and-r _ _ (and-l _ _ (and-l _ _ (and-l _ _ h))))) in
+      ap (λ (b : Bool). event L s and event L t and (b or smallestSource (closes L (afterFour L)) s t)) (sym four)
+      ∙ sym (joined (event L s) (event L t) _ (smallestSource (closes L (afterFour L)) s t) four
       (among _ _ _ (λ h. and-r _ _ (and-l _ _ (and-l _ _ (and-l _ _ (and-l _ _ h)))))
-      (λ h. and-l _ _ (and-l _ _ (and-l _ _ (and-l _ _ (and-l _ _ h))))))
+      (λ h. and-l _ _ (and-l _ _ (and-l _ _ (and-l _ _ (and-l _ _ h)))))))
 
   no-event : (s t : ℕ) → event L t ≡ false → false ≡ afterFive L .excludes s t
   unfolding afterFive step5 _with_
@@ -261,7 +233,8 @@ module _ (L : Traces) where
         ∙ simp (mem-those, in-rowsOf, reopened-is)
         (ap (λ (b : Bool). event L u and (six .excludes u t and non (six .includes u t) and (b and (event L u and alternates L u s))
         and non (letInBetween L six u s t))) es
-        ∙ as-asked (event L u) (six .excludes u t) (six .includes u t) (alternates L u s) (letInBetween L six u s t))
+        ∙ by5 (λ e x i a l. e and (x and non i and (true and (e and a)) and non l)) (λ e x i a l. e and (x and a and non i and non l))
+        (unfold _and_ _or_ non in tt) (event L u) (six .excludes u t) (six .includes u t) (alternates L u s) (letInBetween L six u s t))
 
     pub excludes-seven : sevenFrom (events L) (tallied L) includes (excludesSix p (events L) (tallied L)) L ≡ rowsOf (afterSeven L p .excludes)
     unfolding afterSeven step7 _without_ someEvent
@@ -269,5 +242,5 @@ module _ (L : Traces) where
         rowsOf-ext _ _
         (λ s t ls lt.
         ap₂ (λ (x y : Bool). x and non y) (ap (λ (rows : List ℕ). inRow rows s t) (excludes-six p) ∙ in-rowsOf (six .excludes) s t ls lt) refl
-        ∙ under (six .excludes s t) _ _
-        (λ h. some-ext width _ _ (λ u lu. redundant-read u s t lu ls lt (T→true _ (and-l _ _ (and-l _ _ (T-eq (six-events p s t) h)))))))
+        ∙ where-so (six .excludes s t) _ _
+        (λ h. ap non (some-ext width _ _ (λ u lu. redundant-read u s t lu ls lt (T→true _ (and-l _ _ (and-l _ _ (T-eq (six-events p s t) h))))))))

@@ -9,11 +9,12 @@ use borrow.Author.Tests.{not-true, not-false}
 use lib.Dec.{ltb}
 use lib.ListN.{length, drop, drop-of-length-le}
 use lib.Seq.{drop-cons}
-use Rattle.sets.specs.Tests.{when_then_else_}
 use Rattle.sets.specs.Answers.{isDone}
 use Rattle.sets.specs.Members.{word}
+use Rattle.sets.proofs.Ways.{taken, passed-by}
 use Rattle.engine.specs.Relations.{emptyGraph}
 use Rattle.engine.specs.declared.graph.Graph.{Graph}
+use Rattle.engine.specs.declared.graph.Head.{Head}
 use Rattle.calllog.specs.declared.judge.Judged.{Judged}
 use Rattle.calllog.specs.Logs.{logOf, judgedOf}
 use Rattle.calllog.proofs.Traces.{part-trace}
@@ -24,7 +25,8 @@ use Rattle.rules.proofs.Acceptable.{small}
 use Rattle.rules.proofs.FromFile.{file-accepted}
 use Rattle.tally.specs.Passes.{walked}
 use Rattle.miner.specs.Stages.{graphFoundIn}
-use Rattle.miner.specs.Mine.{minedOf}
+use Rattle.miner.specs.Mine.{headedOf, minedOf}
+use Rattle.miner.specs.declared.mining.Headed.{Headed}
 use Rattle.miner.specs.declared.mining.Mined.{Mined}
 use Rattle.miner.proofs.PairForPair.{pair-for-pair}
 use Rattle.miner.proofs.InForm.{form-graph}
@@ -46,33 +48,52 @@ module _ (bytes : List ℕ) where
 
 -- the two ways of the code
 module _ (bytes : List ℕ) (p : Profile) (j : Judged) (r : Bool) (hj : j ≡ judgedOf bytes) (hr : r ≡ isDone (j .answer)) where
+  abbrev found : Graph
+  found = minedGraph (logOf bytes .activities) (logOf bytes .traces) p
+
   the-answer : j .answer ≡ logOf bytes .answer
   the-answer = ap (λ (x : Judged). x .answer) hj
 
-  pub mine-refused : (g : Graph) → not r ≡ true → g ≡ emptyGraph
-      → _≡_ {A = Mined} (record { answer = j .answer; graph = g }) (minedOf bytes p)
-  unfolding minedOf
-  mine-refused g n hg =
-      let no-graph : isDone (logOf bytes .answer) ≡ false = ap isDone (sym the-answer) ∙ sym hr ∙ not-true r n in
-      λ i. record {
-        answer = the-answer i;
-        graph = (hg ∙ sym (ap (λ (t : Bool). when t then minedGraph (logOf bytes .activities) (logOf bytes .traces) p else emptyGraph)
-            no-graph)) i;
-      }
+  is-done : isDone (logOf bytes .answer) ≡ r
+  is-done = ap isDone (sym the-answer) ∙ sym hr
 
-  pub mine-done : (g : Graph) → not r ≡ false → g ≡ graphFoundIn (ltb word (j .activities)) (j .activities) (walked bytes (j .traces) 0) p
-      → _≡_ {A = Mined} (record { answer = j .answer; graph = g }) (minedOf bytes p)
+  abbrev foundIn : Graph
+  foundIn = graphFoundIn (ltb word (j .activities)) (j .activities) (walked bytes (j .traces) 0) p
+
+  refused : not r ≡ true → _≡_ {A = Mined} (record { answer = j .answer; graph = emptyGraph }) (minedOf bytes p)
   unfolding minedOf
-  mine-done g n hg =
-      let some-graph : isDone (logOf bytes .answer) ≡ true = ap isDone (sym the-answer) ∙ sym hr ∙ not-false r n in
+  refused n = λ i. record { answer = the-answer i; graph = passed-by _ found emptyGraph emptyGraph (sym (is-done ∙ not-true r n)) refl i }
+
+  done : not r ≡ false → _≡_ {A = Mined} (record { answer = j .answer; graph = foundIn }) (minedOf bytes p)
+  unfolding minedOf
+  done n =
       let read =
-      hg
-      ∙ ap (λ (x : Judged). graphFoundIn (ltb word (x .activities)) (x .activities) (walked bytes (x .traces) 0) p) hj
+      ap (λ (x : Judged). graphFoundIn (ltb word (x .activities)) (x .activities) (walked bytes (x .traces) 0) p) hj
       ∙ ap (λ (L : Traces). graphFoundIn (ltb word (logOf bytes .activities)) (logOf bytes .activities) L p) (walk-all bytes)
       ∙ form-graph (logOf bytes .activities) (logOf bytes .traces) (file-accepted bytes) p
       ∙ pair-for-pair (logOf bytes .traces) (small _ _ (file-accepted bytes)) p (logOf bytes .activities) in
-      λ i. record {
-        answer = the-answer i;
-        graph = (read ∙ sym (ap (λ (t : Bool). when t then minedGraph (logOf bytes .activities) (logOf bytes .traces) p else emptyGraph)
-            some-graph)) i;
-      }
+      λ i. record { answer = the-answer i; graph = taken _ found emptyGraph foundIn (sym (is-done ∙ not-false r n)) read i }
+
+  abbrev headed : Mined → Headed
+  headed m = record { answer = m .answer; head = m .graph .head }
+
+  -- a graph is known by its head and its relations
+  module _ (h : Head) (t : List ℕ) where
+    pub head-refused : not r ≡ true → h ≡ emptyGraph .head → _≡_ {A = Headed} (record { answer = j .answer; head = h }) (headedOf bytes p)
+    head-refused n e = (λ i. record { answer = j .answer; head = e i }) ∙ ap headed (refused n)
+
+    pub tables-refused : not r ≡ true → t ≡ emptyGraph .relations → t ≡ minedOf bytes p .graph .relations
+    tables-refused n e = e ∙ ap (λ (m : Mined). m .graph .relations) (refused n)
+
+    pub head-done : not r ≡ false → h ≡ foundIn .head → _≡_ {A = Headed} (record { answer = j .answer; head = h }) (headedOf bytes p)
+    head-done n e = (λ i. record { answer = j .answer; head = e i }) ∙ ap headed (done n)
+
+    pub tables-done : not r ≡ false → t ≡ foundIn .relations → t ≡ minedOf bytes p .graph .relations
+    tables-done n e = e ∙ ap (λ (m : Mined). m .graph .relations) (done n)
+
+pub ruleset lent = (head-refused, tables-refused, head-done, tables-done)
+
+-- a graph by value, from the head and the tables
+pub whole-by : (bytes : List ℕ) (p : Profile) (m : Headed) (t : List ℕ) → m ≡ headedOf bytes p → t ≡ minedOf bytes p .graph .relations
+    → _≡_ {A = Mined} (record { answer = m .answer; graph = record { head = m .head; relations = t } }) (minedOf bytes p)
+whole-by bytes p m t hm ht = λ i. record { answer = hm i .answer; graph = record { head = hm i .head; relations = ht i } }

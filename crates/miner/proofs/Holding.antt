@@ -1,25 +1,27 @@
 -- Tables as a place to hold rows: what is put into one of them stands there until something else is put there, and the others stay. Assumes
 -- nothing.
 use mathlib.Core.Path.{_≡_, refl, sym, ap, _∙_}
+use mathlib.Core.Bool.{true, false}
 use mathlib.Core.List.{List}
 use Prim.Native.Nat.{ℕ, zero, suc, _*_, _≤_, _<_}
 use native.Mathlib.Nat.{not-suc-le-zero, le-of-suc-le-suc}
 use native.Mathlib.Omega.{arith}
 use lib.Arith.{lt-of-le-ne}
-use lib.Dec.{eqb, eqb→eq}
+use borrow.Author.Tests.{eqb-false, ltb-true}
+use lib.Dec.{eqb, eqb→eq, ltb}
 use lib.ListN.{length, length-replicate}
 use Rattle.sets.specs.Members.{width}
 use Rattle.sets.specs.Rows.{rowWords, noRows, rowAt, withRow}
 use Rattle.sets.specs.Tables.{noTables, tableAt, withRowsIn, withTable}
 use Rattle.sets.proofs.Tests.{eqb-of, split, either}
 use Rattle.sets.proofs.RowLaws.{rows-ext, row-put-same, row-put-other}
-use Rattle.sets.proofs.TableLaws.{table-put-same, table-put-other, rows-length, row-taken, tables-ext, length-table}
+use Rattle.sets.proofs.TableLaws.{table-put-same, table-put-other, length-rows-in, row-taken, tables-ext, length-table}
 use Rattle.engine.specs.Relations.{relationCount}
 use Rattle.miner.specs.Stages.{fourTables}
 
 module _ (tables : List ℕ) (k : ℕ) (rows : List ℕ) where
   put-length : length (withTable tables k rows) ≡ length tables
-  put-length = rows-length tables k rows width (withTable tables k rows) refl
+  put-length = length-rows-in tables k rows width
 
   others : (m j : ℕ) → (j ≡ k → ⊥) → tableAt (withRowsIn tables k rows m) j ≡ tableAt tables j
   unfolding withRowsIn
@@ -32,7 +34,7 @@ module _ (tables : List ℕ) (k : ℕ) (rows : List ℕ) where
     there zero lm a la = absurd (not-suc-le-zero la)
     there (suc m) lm a la =
         let held = withRowsIn tables k rows m in
-        let long : length (tableAt held k) ≡ rowWords = length-table n held k (rows-length tables k rows m held refl ∙ h) l in
+        let long : length (tableAt held k) ≡ rowWords = length-table n held k (length-rows-in tables k rows m ∙ h) l in
         ap (λ (x : List ℕ). rowAt x a) (table-put-same held k m (rowAt rows m))
         ∙ either (split (eqb a m))
         (λ t.
@@ -70,50 +72,26 @@ pub length-held : (t : List ℕ) (k : ℕ) → length t ≡ relationCount * rowW
 length-held t k h l = length-table relationCount t k h l
 
 module _ (t c r i x t′ rows : List ℕ) (h : Held t c r i x) (hr : length rows ≡ rowWords) where
-  kept : (k : ℕ) → t′ ≡ withTable t k rows → (j : ℕ) → (j ≡ k → ⊥) → (old : List ℕ) → tableAt t j ≡ old → tableAt t′ j ≡ old
-  kept k e j n old o = ap (λ (y : List ℕ). tableAt y j) e ∙ others t k rows width j n ∙ o
+  kept : (k : ℕ) → t′ ≡ withTable t k rows → (j : ℕ) → eqb j k ≡ false → (old : List ℕ) → tableAt t j ≡ old → tableAt t′ j ≡ old
+  kept k e j n old o = ap (λ (y : List ℕ). tableAt y j) e ∙ others t k rows width j (eqb-false j k n) ∙ o
 
-  new : (k : ℕ) → k < relationCount → t′ ≡ withTable t k rows → tableAt t′ k ≡ rows
-  new k l e = ap (λ (y : List ℕ). tableAt y k) e ∙ put-same t k rows relationCount (h .long) l hr
+  new : (k : ℕ) → ltb k relationCount ≡ true → t′ ≡ withTable t k rows → tableAt t′ k ≡ rows
+  new k l e = ap (λ (y : List ℕ). tableAt y k) e ∙ put-same t k rows relationCount (h .long) (ltb-true k relationCount l) hr
 
   still : (k : ℕ) → t′ ≡ withTable t k rows → length t′ ≡ relationCount * rowWords
   still k e = put-long t t′ k rows e ∙ h .long
 
   pub held-c : t′ ≡ withTable t 0 rows → Held t′ rows r i x
-  held-c e = record {
-    long = still 0 e;
-    conditions = new 0 (omega arith) e;
-    responses = kept 0 e 1 (λ q. omega arith) r (h .responses);
-    includes = kept 0 e 2 (λ q. omega arith) i (h .includes);
-    excludes = kept 0 e 3 (λ q. omega arith) x (h .excludes);
-  }
+  held-c e = search (still, new, kept)
 
   pub held-r : t′ ≡ withTable t 1 rows → Held t′ c rows i x
-  held-r e = record {
-    long = still 1 e;
-    conditions = kept 1 e 0 (λ q. omega arith) c (h .conditions);
-    responses = new 1 (omega arith) e;
-    includes = kept 1 e 2 (λ q. omega arith) i (h .includes);
-    excludes = kept 1 e 3 (λ q. omega arith) x (h .excludes);
-  }
+  held-r e = search (still, new, kept)
 
   pub held-i : t′ ≡ withTable t 2 rows → Held t′ c r rows x
-  held-i e = record {
-    long = still 2 e;
-    conditions = kept 2 e 0 (λ q. omega arith) c (h .conditions);
-    responses = kept 2 e 1 (λ q. omega arith) r (h .responses);
-    includes = new 2 (omega arith) e;
-    excludes = kept 2 e 3 (λ q. omega arith) x (h .excludes);
-  }
+  held-i e = search (still, new, kept)
 
   pub held-x : t′ ≡ withTable t 3 rows → Held t′ c r i rows
-  held-x e = record {
-    long = still 3 e;
-    conditions = kept 3 e 0 (λ q. omega arith) c (h .conditions);
-    responses = kept 3 e 1 (λ q. omega arith) r (h .responses);
-    includes = kept 3 e 2 (λ q. omega arith) i (h .includes);
-    excludes = new 3 (omega arith) e;
-  }
+  held-x e = search (still, new, kept)
 
 -- they are known by what they hold
 module _ (c r i x : List ℕ) (lc : length c ≡ rowWords) (lr : length r ≡ rowWords) (li : length i ≡ rowWords) (lx : length x ≡ rowWords) where

@@ -7,33 +7,31 @@ use native.Mathlib.Omega.{arith}
 use borrow.Author.Tests.{lt-ltb, ltb-false}
 use lib.Dec.{T, eqb, ltb}
 use Rattle.sets.specs.Tests.{_and_, _or_, non}
-use Rattle.sets.specs.Members.{word, mem}
+use Rattle.sets.specs.Members.{word, mem, those}
 use Rattle.sets.specs.Rows.{Relation, noRows, inRow, rowsOf, rowsFor, turned}
 use Rattle.sets.specs.declared.set.Set.{Set}
-use Rattle.sets.proofs.Tests.{T-eq, T-ext, T→true, true→T, and-l, or-r, split, either}
-use Rattle.sets.proofs.Members.{mem-those}
+use Rattle.sets.proofs.Tests.{T-eq, T-ext, T→true, true→T, and-l, and-r, and-i, split, either}
+use Rattle.sets.proofs.Members.{mem-those, those-ext}
 use Rattle.sets.proofs.RowLaws.{in-rowsOf, rowsOf-ext}
 use Rattle.engine.specs.Markings.{openingOf}
 use Rattle.engine.specs.Enabled.{graphAt}
 use Rattle.rules.specs.declared.Profile.{Profile}
 use Rattle.rules.specs.declared.Profile.the-variants.{Full, Light}
-use Rattle.rules.specs.Traces.{Traces, _has_}
+use Rattle.rules.specs.Traces.{Traces}
 use Rattle.rules.specs.Mining.{event}
 use Rattle.rules.specs.Replays.{Accepted}
 use Rattle.rules.proofs.Places.{some-trace}
-use Rattle.rules.proofs.InTurn.{is-event}
 use Rattle.steps.specs.Rowwise.{reducedOf, waited}
-use Rattle.tally.specs.Passes.{Fact, gains, forward, through, reaches, cut}
+use Rattle.tally.specs.Passes.{Fact, gains, forward, through, reaches, eventIn, cut}
 use Rattle.tally.specs.Tallies.{tallied, talliedFor}
-use Rattle.tally.proofs.Folds.{heard, forward-rowsOf, through-rowsOf, through-all}
-use Rattle.tally.proofs.Turns.{has-past}
-use Rattle.tally.proofs.WholeForm.{heard-in}
+use Rattle.tally.proofs.Folds.{heard, heard-in, forward-rowsOf, through-rowsOf, through-all}
 use Rattle.tally.proofs.Tallying.{form-agrees}
 use Rattle.miner.specs.Facts.{letIn, beforeFirst, missed}
-use Rattle.miner.specs.Stages.{conditionsOf, chainsOf, responsesOf, neverOf, includesIn, includesSix, excludesSix, sevenFrom, waitedOf, waitedIn, fourTables, graphFound, graphFoundIn}
-use Rattle.miner.proofs.OverLog.{some-place}
+use Rattle.miner.specs.Stages.{conditionsOf, chainsOf, responsesOf, neverOf, includesIn, includesSix, excludesSix, sevenFrom, waitedOf, waitedIn, fourTables, tablesIn, graphFound, graphFoundIn}
+use Rattle.miner.proofs.Losing.{where-so}
+use Rattle.miner.proofs.OverLog.{some-place, rest-event}
 use Rattle.miner.proofs.EarlySteps.{events}
-use Rattle.miner.proofs.AtEvents.{AgreeIn, AgreeAt, where-so, tables-at}
+use Rattle.miner.proofs.AtEvents.{AgreeIn, AgreeAt, tables-at}
 
 module _ (A : ℕ) (L : Traces) (ok : Accepted A L) where
   event-below : (a : ℕ) → T (event L a) → a < A
@@ -66,34 +64,24 @@ module _ (A : ℕ) (L : Traces) (ok : Accepted A L) where
       ∙ in-rowsOf (heard q L) a x la lx in
       said (cut (ltb word A) p) ∙ heard-in (ltb word A) p L a x (all-reached x (T-eq (mem-those (event L) x lx) tx)) ∙ sym (said p)
 
-  waited-as : (eight first first′ unmet unmet′ : List ℕ) → AgreeIn E first first′ → AgreeIn E unmet unmet′
-      → rowsFor E (waited E eight first unmet) ≡ rowsFor E (waited E eight first′ unmet′)
-  unfolding rowsFor waited
-  waited-as eight first first′ unmet unmet′ hf hu =
-      rowsOf-ext _ _ (λ a x la lx. where-so (mem E a) _ _ (λ ta. where-so (mem E x) _ _
-      (λ tx. ap₂ (λ (f u : Bool). inRow eight a x or non (eqb x a) and f and non u) (hf a x la lx ta tx) (hu a x la lx ta tx))))
-
   waited-form : (eight includes excludes : List ℕ) → waitedIn (ltb word A) E eight includes excludes L ≡ waitedOf E eight includes excludes L
+  unfolding rowsFor waited
   waited-form eight includes excludes =
       ap (λ (rows : List ℕ). rowsFor E (reducedOf rows))
-      (waited-as eight _ _ _ _ (walk-at beforeFirst) (walk-at (missed E includes excludes)))
+      (rowsOf-ext _ _ (λ a x la lx. where-so (mem E a) _ _ (λ ta. where-so (mem E x) _ _
+      (λ tx. ap₂ (λ (f u : Bool). inRow eight a x or non (eqb x a) and f and non u) (walk-at beforeFirst a x la lx ta tx)
+      (walk-at (missed E includes excludes) a x la lx ta tx)))))
 
   -- ---- step 6
 
   -- what is let in comes later, so it is an event
-  let-in-event : (never : List ℕ) (a x : ℕ) → T (heard (letIn never) L a x) → T (event L x)
-  unfolding letIn _has_
-  let-in-event never a x h =
-      let k = some-place a (λ past rest. letIn never a past rest x) L h in
-      is-event L x (k .2) (T-eq (sym (has-past x (k .0) (a ∷ k .1))) (or-r _ _ (or-r _ _ (and-l _ _ (k .3)))))
-
   let-in-same : (never : List ℕ) (a x : ℕ) → heard (cut (ltb word A) (letIn never)) L a x ≡ heard (letIn never) L a x
-  unfolding cut
+  unfolding cut letIn
   let-in-same never a x =
       either (split (reaches (ltb word A) x)) (λ t. heard-in (ltb word A) (letIn never) L a x (T→true _ t))
       (λ f. T-ext _ _
       (λ h. let k = some-place a (λ past rest. cut (ltb word A) (letIn never) a past rest x) L h in absurd (f (and-l _ _ (k .3))))
-      (λ h. absurd (f (true→T (all-reached x (let-in-event never a x h))))))
+      (λ h. absurd (f (true→T (all-reached x (rest-event a _ x (λ past rest k. and-l _ _ k) L h))))))
 
   includes-form : (p : Profile) (t : List ℕ) → includesIn (ltb word A) p E t L ≡ includesSix p E t L
   includes-form Light t = refl
@@ -106,14 +94,18 @@ module _ (A : ℕ) (L : Traces) (ok : Accepted A L) where
       ∙ rowsOf-ext _ _ (λ a x la lx. ap (λ (b : Bool). start a x or b) (let-in-same never a x))
       ∙ sym (walk (letIn never))
 
+  -- the events, which are all held
+  events-form : those (eventIn (ltb word A) L) ≡ E
+  unfolding eventIn event
+  events-form = those-ext _ _ (λ x l. T-ext _ _ (and-r _ _) (λ h. and-i _ _ (true→T (all-reached x h)) h))
+
   pub form-graph : (p : Profile) → graphFoundIn (ltb word A) A L p ≡ graphFound A L p
   unfolding graphFoundIn graphFound
   form-graph p =
       let t : List ℕ = talliedFor (ltb word A) L in
-      ap (graphAt A E (openingOf E))
-      (ap (λ (i : List ℕ). fourTables (waitedIn (ltb word A) E (rowsFor E (reducedOf (conditionsOf E t))) i (sevenFrom E t i (excludesSix p E t) L) L)
-      (rowsFor E (reducedOf (responsesOf E t))) i (sevenFrom E t i (excludesSix p E t) L)) (includes-form p t)
-      ∙ ap (λ (c : List ℕ). fourTables c (rowsFor E (reducedOf (responsesOf E t))) (includesSix p E t L)
-      (sevenFrom E t (includesSix p E t L) (excludesSix p E t) L))
-      (waited-form (rowsFor E (reducedOf (conditionsOf E t))) (includesSix p E t L) (sevenFrom E t (includesSix p E t L) (excludesSix p E t) L))
+      let seven : List ℕ → List ℕ = λ includes. sevenFrom E t includes (excludesSix p E t) L in
+      ap (λ (v : Set). graphAt A v (openingOf v) (tablesIn (ltb word A) L v t p)) events-form
+      ∙ ap (graphAt A E (openingOf E))
+      ((λ i. fourTables (waited-form (rowsFor E (reducedOf (conditionsOf E t))) (includes-form p t i) (seven (includes-form p t i)) i)
+      (rowsFor E (reducedOf (responsesOf E t))) (includes-form p t i) (seven (includes-form p t i)))
       ∙ tables-at L t (tallied L) agree p)

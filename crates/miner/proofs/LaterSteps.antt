@@ -1,6 +1,6 @@
 -- Steps 8 to 10 on rows, and the mined relations as they are put together from a tally and from what the later passes find. Assumes
 -- nothing.
-use mathlib.Core.Path.{_≡_, refl, sym, ap, ap₂, _∙_}
+use mathlib.Core.Path.{_≡_, refl, sym, ap, _∙_}
 use mathlib.Core.Bool.{Bool}
 use mathlib.Core.List.{List}
 use Prim.Native.Nat.{ℕ}
@@ -20,33 +20,17 @@ use Rattle.rules.specs.Traces.{Traces}
 use Rattle.rules.specs.Mining.{event, someEvent, _with_, _without_, followed, between, beforeFirst, neverMissed, directlyBefore}
 use Rattle.rules.specs.Mining.{noRelations, reduced, step1, step2, step3, step4, step5, step6, step7, step8, step9, step10, afterFive}
 use Rattle.rules.specs.Mining.{afterSix, afterSeven, afterEight, mined}
-use Rattle.rules.proofs.Why.{Small}
 use Rattle.steps.specs.Rowwise.{reducedOf, waited}
 use Rattle.tally.specs.Tallies.{tallied}
-use Rattle.tally.proofs.LogLaws.{middle-event, later-event}
-use Rattle.miner.specs.Stages.{conditionsOf, responsesOf, excludesSix, sevenFrom}
+use Rattle.miner.specs.Stages.{conditionsOf, responsesOf}
 use Rattle.miner.proofs.RowReadings.{reduced-rows}
+use Rattle.miner.proofs.OverLog.{middle-event, later-event}
 use Rattle.miner.proofs.EarlySteps.{events, conditions-read, responses-read}
-use Rattle.miner.proofs.Exclusions.{among, first-too, with-events, excludes-seven}
+use Rattle.miner.proofs.Exclusions.{among, joined, first-too, with-events}
 
 -- a pair of a relation is a pair of events
 abbrev pub Among : Traces → Relation → Type 0
 Among L r = (s t : ℕ) → r s t ≡ (event L s and event L t and r s t)
-
-middle : (e f x y : Bool) → (x and (e and f and y)) ≡ (e and (x and (e and f and y)))
-unfolding _and_ _or_ non
-middle = by4 (λ e f x y. x and (e and f and y)) (λ e f x y. e and (x and (e and f and y))) tt
-
-swapped : (a b c d f : Bool) → (a and (b and (c or d and f))) ≡ (b and a and (c or d and f))
-unfolding _and_ _or_ non
-swapped = by5 (λ a b c d f. a and (b and (c or d and f))) (λ a b c d f. b and a and (c or d and f)) tt
-
--- two tests of events alone, joined
-joined : (e f g b : Bool) → g ≡ (e and f and g) → b ≡ (e and f and b) → (g or b) ≡ (e and f and (g or b))
-unfolding _and_ _or_ non
-joined e f g b hg hb =
-    ap₂ _or_ hg hb ∙ by4 (λ v w x y. v and w and x or v and w and y) (λ v w x y. v and w and (v and w and x or v and w and y)) tt e f g b
-    ∙ ap₂ (λ (x y : Bool). e and f and (x or y)) (sym hg) (sym hb)
 
 module _ (L : Traces) where
   -- ---- steps 8 and 10
@@ -58,7 +42,7 @@ module _ (L : Traces) where
       some-ext width (λ u. r s u and r u t) (λ u. event L u and (r s u and r u t))
       (λ u l.
       ap (λ (b : Bool). r s u and b) (h u t)
-      ∙ middle (event L u) (event L t) (r s u) (r u t)
+      ∙ by4 (λ e f x y. x and (e and f and y)) (λ e f x y. e and (x and (e and f and y))) (unfold _and_ _or_ non in tt) (event L u) (event L t) (r s u) (r u t)
       ∙ ap (λ (b : Bool). event L u and (r s u and b)) (sym (h u t)))
 
   pub reduced-by-source : (r : Relation) → Among L r → rowsFor (events L) (reducedOf (rowsOf r)) ≡ rowsOf (reduced L r)
@@ -90,41 +74,31 @@ module _ (L : Traces) where
       rowsOf-ext _ _
       (λ t s lt ls.
       simp (mem-those, in-rowsOf, non-non)
-      (swapped (event L t) (event L s) (g .conditions s t) (non (eqb s t) and beforeFirst L s t) (neverMissed L g s t)))
+      (by5 (λ a b c d f. a and (b and (c or d and f))) (λ a b c d f. b and a and (c or d and f)) (unfold _and_ _or_ non in tt)
+      (event L t) (event L s) (g .conditions s t) (non (eqb s t) and beforeFirst L s t) (neverMissed L g s t)))
 
   -- ---- the mined relations
 
   -- step 6, made or skipped, leaves the conditions and responses of step 2
-  responses-six : (p : Profile) → afterSix L p .responses ≡ afterFive L .responses
+  six-keeps : (p : Profile) → (afterSix L p .responses ≡ afterFive L .responses) × (afterSix L p .conditions ≡ afterFive L .conditions)
   unfolding afterSix step6
-  responses-six Full = refl
-  responses-six Light = refl
-
-  conditions-six : (p : Profile) → afterSix L p .conditions ≡ afterFive L .conditions
-  unfolding afterSix step6
-  conditions-six Full = refl
-  conditions-six Light = refl
-
-  responses-five : rowsFor (events L) (reducedOf (responsesOf (events L) (tallied L))) ≡ rowsOf (reduced L (afterFive L .responses))
-  unfolding afterFive step5 step4 step3 step2
-  responses-five =
-      ap (λ (rows : List ℕ). rowsFor (events L) (reducedOf rows)) (responses-read L)
-      ∙ reduced-by-source (afterFive L .responses) (with-events L _ _)
+  six-keeps Full = (refl, refl)
+  six-keeps Light = (refl, refl)
 
   pub responses-mined : (p : Profile) → rowsFor (events L) (reducedOf (responsesOf (events L) (tallied L))) ≡ rowsOf (mined L p .responses)
-  unfolding mined step10 step9 afterEight step8 afterSeven step7
-  responses-mined p = responses-five ∙ sym (ap (λ (r : Relation). rowsOf (reduced L r)) (responses-six p))
-
-  conditions-five : rowsFor (events L) (reducedOf (conditionsOf (events L) (tallied L))) ≡ rowsOf (λ t s. reduced L (afterFive L .conditions) s t)
-  unfolding afterFive step5 step4 step3 step2
-  conditions-five =
-      ap (λ (rows : List ℕ). rowsFor (events L) (reducedOf rows)) (conditions-read L)
-      ∙ reduced-by-target (afterFive L .conditions) (with-events L _ _)
+  unfolding mined step10 step9 afterEight step8 afterSeven step7 afterFive step5 step4 step3 step2
+  responses-mined p =
+      ap (λ (rows : List ℕ). rowsFor (events L) (reducedOf rows)) (responses-read L)
+      ∙ reduced-by-source (afterFive L .responses) (with-events L _ _)
+      ∙ sym (ap (λ (r : Relation). rowsOf (reduced L r)) (six-keeps p .0))
 
   pub conditions-eight : (p : Profile)
       → rowsFor (events L) (reducedOf (conditionsOf (events L) (tallied L))) ≡ rowsOf (λ t s. afterEight L p .conditions s t)
-  unfolding afterEight step8 afterSeven step7
-  conditions-eight p = conditions-five ∙ sym (ap (λ (r : Relation). rowsOf (λ t s. reduced L r s t)) (conditions-six p))
+  unfolding afterEight step8 afterSeven step7 afterFive step5 step4 step3 step2
+  conditions-eight p =
+      ap (λ (rows : List ℕ). rowsFor (events L) (reducedOf rows)) (conditions-read L)
+      ∙ reduced-by-target (afterFive L .conditions) (with-events L _ _)
+      ∙ sym (ap (λ (r : Relation). rowsOf (λ t s. reduced L r s t)) (six-keeps p .1))
 
   -- from what the pass of step 9 finds
   pub conditions-mined : (p : Profile) (first unmet : List ℕ) → first ≡ rowsOf (λ t s. beforeFirst L s t)
@@ -155,8 +129,3 @@ module _ (L : Traces) where
   includes-full =
       rowsOf-ext _ _ (λ u t lu lt. joined (event L u) (event L t) (afterFive L .includes u t) (betweens u t)
       (with-events L (step2 L (step1 L noRelations) .includes) (directlyBefore L) u t) (betweens-events u t))
-
-  pub excludes-mined : Small L → (p : Profile) (includes : List ℕ) → includes ≡ rowsOf (afterSix L p .includes)
-      → sevenFrom (events L) (tallied L) includes (excludesSix p (events L) (tallied L)) L ≡ rowsOf (mined L p .excludes)
-  unfolding mined step10 step9 afterEight step8
-  excludes-mined small p includes hi = excludes-seven L small p includes hi

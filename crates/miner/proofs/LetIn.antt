@@ -1,27 +1,25 @@
 -- One turn of step 6's pass: what is barred, and what the row of the event gains. Assumes nothing.
-use Rattle.sets.specs.Members.{noSet}
-use mathlib.Core.Path.{_≡_, refl, sym, ap, ap₂, _∙_, subst}
-use mathlib.Core.Bool.{Bool, true, false}
+use mathlib.Core.Path.{_≡_, refl, sym, ap, ap₂, _∙_}
+use mathlib.Core.Bool.{Bool}
 use mathlib.Core.List.{List, [], _∷_}
 use Prim.Native.Nat.{ℕ, _+_, _≤_, _<_}
 use native.Mathlib.Omega.{arith}
 use borrow.Author.Tests.{ltb-true, ltb-false}
-use lib.Dec.{T, eqb, ltb, eqb→eq, eqb-refl}
+use lib.Dec.{T, eqb, ltb}
 use lib.ListN.{length, getD, drop}
 use Rattle.sets.specs.Tests.{_and_, _or_, non}
-use Rattle.sets.specs.Members.{width, mem, those, someBelow}
+use Rattle.sets.specs.Members.{noSet, width, mem, those, someBelow}
 use Rattle.sets.specs.Rows.{rowAt, inRow}
 use Rattle.sets.specs.declared.set.Set.{Set}
-use Rattle.sets.proofs.Tests.{and-l, and-r, and-i, or-e, or-l, or-r, T-ext, T→true, F→false, false→F, split, either}
-use Rattle.sets.proofs.Members.{mem-none}
-use Rattle.sets.proofs.Below.{some-i, some-e}
-use Rattle.sets.proofs.Members.{those-ext, those-of}
+use Rattle.sets.proofs.Tests.{and-l, and-false, or-comm, T→true, F→false, false→F, split, either}
+use Rattle.sets.proofs.Members.{mem-none, those-ext, those-of}
+use Rattle.sets.proofs.Below.{some-e, some-ext}
 use Rattle.sets.proofs.RowLaws.{row-out}
 use Rattle.rules.specs.Traces.{_has_}
 use Rattle.tally.specs.Passes.{gained, gains, forward, reaches, cut}
 use Rattle.miner.specs.Facts.{letIn}
-use Rattle.tally.proofs.Turns.{pastAt, past-next, seenIn, forward-next, forward-end}
-use Rattle.miner.proofs.Gains.{gains-below}
+use Rattle.tally.proofs.Somes.{some-more}
+use Rattle.tally.proofs.Turns.{pastAt, past-next, seenIn, gains-below, forward-next, forward-end}
 use Rattle.sets.proofs.MadeSets.{is-those, none}
 use Rattle.sets.proofs.Tautologies.{by3}
 use Rattle.miner.proofs.After.{LastOf, after-next}
@@ -33,21 +31,6 @@ row-below rows s x t =
     either (split (ltb s width)) (λ l. ltb-true s width (T→true _ l))
     (λ g. absurd (false→F (ap (λ (r : Set). mem r x) (sym (row-out rows s (ltb-false s width (F→false _ g)))) ∙ mem-none x) t))
 
--- ---- tests alone
-
-or-in-form : (g b r : Bool) → (g and b or g and r) ≡ (g and (b or r))
-unfolding _and_ _or_ non
-or-in-form = by3 (λ g b r. g and b or g and r) (λ g b r. g and (b or r)) tt
-
-form-first : (h g b : Bool) → (h and (g and b)) ≡ (g and (h and b))
-unfolding _and_ _or_ non
-form-first = by3 (λ h g b. h and (g and b)) (λ h g b. g and (h and b)) tt
-
-none-held : (g : Bool) → (g and false) ≡ false
-unfolding _and_
-none-held true = refl
-none-held false = refl
-
 module _ (unfollowed : List ℕ) where
   -- x never directly follows something that stands in the past
   abbrev barredAt : List ℕ → ℕ → Bool
@@ -55,22 +38,9 @@ module _ (unfollowed : List ℕ) where
 
   barred-more : (past : List ℕ) (e x : ℕ) → (barredAt past x or inRow unfollowed e x) ≡ barredAt (e ∷ past) x
   unfolding _has_
-  barred-more past e x = T-ext _ _ (λ t. either (or-e _ _ t) old new) back
-    where
-      old : T (barredAt past x) → T (barredAt (e ∷ past) x)
-      old t =
-          let r = some-e width (λ s. past has s and inRow unfollowed s x) t in
-          some-i width _ (r .0) (r .1) (and-i _ _ (or-r _ _ (and-l _ _ (r .2))) (and-r _ _ (r .2)))
-
-      new : T (inRow unfollowed e x) → T (barredAt (e ∷ past) x)
-      new t = some-i width _ e (row-below unfollowed e x t) (and-i _ _ (or-l _ _ (eqb-refl e)) t)
-
-      back : T (barredAt (e ∷ past) x) → T (barredAt past x or inRow unfollowed e x)
-      back t =
-          let r = some-e width (λ s. (e ∷ past) has s and inRow unfollowed s x) t in
-          either (or-e _ _ (and-l _ _ (r .2)))
-          (λ q. or-r _ _ (subst (λ (s : ℕ). T (inRow unfollowed s x)) (eqb→eq (r .0) e q) (and-r _ _ (r .2))))
-          (λ k. or-l _ _ (some-i width _ (r .0) (r .1) (and-i _ _ k (and-r _ _ (r .2)))))
+  barred-more past e x =
+      sym (some-ext width _ _ (λ s l. ap (λ (t : Bool). t and inRow unfollowed s x) (or-comm (eqb s e) (past has s)))
+      ∙ some-more width (λ s. past has s) (λ s. inRow unfollowed s x) e (row-below unfollowed e x))
 
   -- ---- in either form
   module _ (wide : Bool) where
@@ -80,7 +50,7 @@ module _ (unfollowed : List ℕ) where
     barred-none : _≡_ {A = Set} noSet (barredIn [])
     unfolding _has_
     barred-none = none (λ x. reaches wide x and barredAt [] x) (λ x l. ap (λ (t : Bool). reaches wide x and t) (F→false (barredAt [] x)
-        (λ t. let r = some-e width (λ s. [] has s and inRow unfollowed s x) t in and-l _ _ (r .2))) ∙ none-held (reaches wide x))
+        (λ t. let r = some-e width (λ s. [] has s and inRow unfollowed s x) t in and-l _ _ (r .2))) ∙ and-false (reaches wide x))
 
     -- the answers of `let_in_here`
     pub barred-by : (barred row never r : Set) (e : ℕ) → row ≡ rowAt unfollowed e → never ≡ those (λ x. reaches wide x and mem row x)
@@ -121,7 +91,8 @@ module _ {wide : Bool} {σ unfollowed rows₀ rows : List ℕ} {after barred : S
             hb ∙ those-of barred (λ x. reaches wide x and barredAt unfollowed (pastAt σ i) x)
             (λ x t. t or reaches wide x and inRow unfollowed (getD σ i 0) x) (inv .barred-is)
             ∙ those-ext _ (λ x. reaches wide x and barredAt unfollowed (getD σ i 0 ∷ pastAt σ i) x)
-            (λ x l. or-in-form (reaches wide x) (barredAt unfollowed (pastAt σ i) x) (inRow unfollowed (getD σ i 0) x)
+            (λ x l. by3 (λ g b r. g and b or g and r) (λ g b r. g and (b or r)) (unfold _and_ _or_ non in tt)
+            (reaches wide x) (barredAt unfollowed (pastAt σ i) x) (inRow unfollowed (getD σ i 0) x)
             ∙ ap (λ (t : Bool). reaches wide x and t) (barred-more unfollowed (pastAt σ i) (getD σ i 0) x))
             ∙ ap (barredIn unfollowed wide) (sym (past-next σ i h));
         whole =
@@ -130,7 +101,7 @@ module _ {wide : Bool} {σ unfollowed rows₀ rows : List ℕ} {after barred : S
             (λ l x k.
             ap₂ _and_ (is-those later (λ y. drop (i + 1) σ has y) rest x k)
             (is-those barred (λ y. reaches wide y and barredAt unfollowed (pastAt σ i) y) (inv .barred-is) x k)
-            ∙ form-first (drop (i + 1) σ has x) (reaches wide x) (barredAt unfollowed (pastAt σ i) x))
+            ∙ by3 (λ h g b. h and (g and b)) (λ h g b. g and (h and b)) (unfold _and_ _or_ non in tt) (drop (i + 1) σ has x) (reaches wide x) (barredAt unfollowed (pastAt σ i) x))
             hr)
             (inv .whole);
       }

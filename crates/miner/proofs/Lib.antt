@@ -3,7 +3,6 @@ pub mod RowReadings
 pub mod EarlySteps
 pub mod Exclusions
 pub mod LaterSteps
-pub mod Gains
 pub mod After
 pub mod LetIn
 pub mod Replaying

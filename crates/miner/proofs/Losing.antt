@@ -10,11 +10,13 @@ use Rattle.sets.specs.Tests.{_and_, _or_, non, when_then_else_}
 use Rattle.sets.specs.Members.{width, mem, those, someBelow, leastBelow, isEmpty}
 use Rattle.sets.specs.Rows.{Relation, rowAt, withRow, inRow, rowsOf, rowsFor}
 use Rattle.sets.specs.declared.set.Set.{Set}
-use Rattle.sets.proofs.Tests.{and-l, and-r, and-i, or-e, or-l, or-r, T-ext, T-eq, F→false, false→F, and-true, and-assoc, false-or, or-false, or-assoc, either}
+use Rattle.sets.proofs.Tests.{and-l, and-r, and-i, T-ext, F→false, false→F, and-true, and-assoc, false-or, or-false, or-assoc}
 use Rattle.sets.proofs.Tautologies.{by2, by3}
 use Rattle.sets.proofs.Below.{some-i, some-e, some-ext}
 use Rattle.sets.proofs.RowLaws.{row-mem, in-rowsOf, put-rowsOf, rowsOf-ext}
-use Rattle.sets.proofs.Passing.{passed, Part, passed-none, passed-all, part-turn, passed-turn, least-low}
+use Rattle.sets.proofs.Passing.{passed, Part, passed-none, passed-all, part-turn}
+use Rattle.tally.proofs.Somes.{some-passed}
+use Rattle.tally.proofs.Folds.{at-same}
 use Rattle.miner.specs.Facts.{Less}
 
 -- two tests of pairs that agree below the width
@@ -23,19 +25,11 @@ Same g h = (a x : ℕ) → a < width → x < width → g a x ≡ h a x
 
 -- ---- one loss, and one after another
 
-non-or : (r g h : Bool) → (r and non g and non h) ≡ (r and non (g or h))
-unfolding _and_ _or_ non
-non-or = by3 (λ r g h. r and non g and non h) (λ r g h. r and non (g or h)) tt
-
--- of a pair that stands in the rows it may be said otherwise whether it is gone
-pub under : (r g h : Bool) → (T r → g ≡ h) → (r and non g) ≡ (r and non h)
+-- what is asked only where a test passes
+pub where-so : (g d d′ : Bool) → (T g → d ≡ d′) → (g and d) ≡ (g and d′)
 unfolding _and_
-under true g h e = ap non (e tt)
-under false g h e = refl
-
-twice : (f g : Bool) → (f and (f and g)) ≡ (f and g)
-unfolding _and_ _or_ non
-twice = by2 (λ f g. f and (f and g)) (λ f g. f and g) tt
+where-so true d d′ h = h tt
+where-so false d d′ h = refl
 
 module _ (rows : List ℕ) where
   -- what is gone may be said otherwise, where the rows have it
@@ -52,7 +46,9 @@ module _ (rows : List ℕ) where
   less-none left g l e r hr = l ∙ hr ∙ rowsOf-ext _ _ (λ a x la lx. sym (ap (λ (b : Bool). r a x and non b) (e a x la lx) ∙ and-true (r a x)))
 
   pub less-more : (left left′ : List ℕ) (g h : Relation) → Less rows g left → Less left h left′ → Less rows (λ a x. g a x or h a x) left′
-  less-more left left′ g h l m r hr = m (λ a x. r a x and non (g a x)) (l r hr) ∙ rowsOf-ext _ _ (λ a x la lx. non-or (r a x) (g a x) (h a x))
+  less-more left left′ g h l m r hr =
+      m (λ a x. r a x and non (g a x)) (l r hr)
+      ∙ rowsOf-ext _ _ (λ a x la lx. by3 (λ r g h. r and non g and non h) (λ r g h. r and non (g or h)) (unfold _and_ _or_ non in tt) (r a x) (g a x) (h a x))
 
   -- row k loses a set
   pub less-row : (left : List ℕ) (k : ℕ) (gone : Set) → left ≡ withRow rows k (those (λ b. mem (rowAt rows k) b and non (mem gone b)))
@@ -79,7 +75,8 @@ module _ (rows : List ℕ) where
       less-by left _ h
       (λ r hr a x la lx.
       ap (λ (b : Bool). r a x and non b)
-      (ap (λ (l : List ℕ). mem F a and inRow l a x) hg ∙ ap (λ (b : Bool). mem F a and b) (in-rowsOf _ a x la lx) ∙ twice (mem F a) (G a x))
+      (ap (λ (l : List ℕ). mem F a and inRow l a x) hg ∙ ap (λ (b : Bool). mem F a and b) (in-rowsOf _ a x la lx)
+      ∙ by2 (λ f g. f and (f and g)) (λ f g. f and g) (unfold _and_ _or_ non in tt) (mem F a) (G a x))
       ∙ e r hr a x la lx) l
 
 -- ---- a loss for each member of a set, the least first
@@ -102,30 +99,11 @@ module _ (P : ℕ → Relation) where
         → rest′ ≡ those (λ b. mem rest b and non (eqb b (leastBelow width (mem rest)))) → (Part all rest′) × Less rows (byPassed all rest′) left′
     each-turn left left′ rest rest′ k r hp hl hr hn hk hs hm = (
       part-turn rest rest′ r hr hn hm all hp,
-      less-as rows left′ _ _ (λ a x la lx. T-ext _ _ (λ t. either (or-e _ _ t) (more a x) (here a x)) (λ t. less a x (some-e width _ t)))
+      less-as rows left′ _ _
+          (λ a x la lx.
+          sym (some-passed rest rest′ r hr hn hm all hp (λ u. P u a x) ∙ ap (λ (n : ℕ). byPassed all rest a x or P n a x) (sym hk)))
           (less-more rows left left′ _ _ hl hs),
     )
-      where
-        turn : (u : ℕ) → u < width → passed all rest′ u ≡ (passed all rest u or eqb u (leastBelow width (mem rest)))
-        turn = passed-turn rest rest′ r hr hn hm all hp
-
-        more : (a x : ℕ) → T (byPassed all rest a x) → T (byPassed all rest′ a x)
-        more a x t =
-            let u = some-e width (λ v. passed all rest v and P v a x) t in
-            some-i width (λ v. passed all rest′ v and P v a x) (u .0) (u .1)
-            (and-i _ _ (T-eq (sym (turn (u .0) (u .1))) (or-l _ _ (and-l _ _ (u .2)))) (and-r _ _ (u .2)))
-
-        here : (a x : ℕ) → T (P k a x) → T (byPassed all rest′ a x)
-        here a x t =
-            let low = least-low rest rest′ r hr hn hm in
-            some-i width (λ v. passed all rest′ v and P v a x) (leastBelow width (mem rest)) low
-            (and-i _ _ (T-eq (sym (turn _ low)) (or-r _ _ (eqb-refl (leastBelow width (mem rest))))) (subst (λ (n : ℕ). T (P n a x)) hk t))
-
-        less : (a x : ℕ) → (u : ℕ) × (u < width) × T (passed all rest′ u and P u a x) → T (byPassed all rest a x or P k a x)
-        less a x (u, l, t) =
-            either (or-e _ _ (T-eq (turn u l) (and-l _ _ t)))
-            (λ p. or-l _ _ (some-i width (λ v. passed all rest v and P v a x) u l (and-i _ _ p (and-r _ _ t))))
-            (λ e. or-r _ _ (subst (λ (n : ℕ). T (P n a x)) (eqb→eq u _ e ∙ sym hk) (and-r _ _ t)))
 
     pub each-end : (left : List ℕ) (rest : Set) (r : Bool) → Less rows (byPassed all rest) left → r ≡ isEmpty rest → not r ≡ false
         → Less rows (λ a x. someBelow width (λ u. mem all u and P u a x)) left
@@ -150,11 +128,9 @@ ownRow gone u a x = eqb a u and inRow gone a x
 pub own-turn : (gone rows left : List ℕ) (k : ℕ) (row : Set) → row ≡ rowAt gone k
     → left ≡ withRow rows k (those (λ b. mem (rowAt rows k) b and non (mem row b))) → Less rows (ownRow gone k) left
 unfolding inRow _and_
-own-turn gone rows left k row hr hl = less-as rows left _ _ (λ a x la lx. by a x (eqb a k) refl) (less-row rows left k row hl)
-  where
-    by : (a x : ℕ) (t : Bool) → eqb a k ≡ t → (t and mem row x) ≡ (t and mem (rowAt gone a) x)
-    by a x true e = ap (λ (s : Set). mem s x) (hr ∙ ap (rowAt gone) (sym (eqb-true a k e)))
-    by a x false e = refl
+own-turn gone rows left k row hr hl =
+    less-as rows left _ _ (λ a x la lx. ap (λ (s : Set). eqb a k and mem s x) hr ∙ at-same a k (λ n. mem (rowAt gone n) x))
+    (less-row rows left k row hl)
 
 pub own-end : (gone rows left : List ℕ) (all rest : Set) (r : Bool) → Less rows (byPassed (ownRow gone) all rest) left → r ≡ isEmpty rest
     → not r ≡ false → Less rows (λ a x. mem all a and inRow gone a x) left

@@ -13,15 +13,14 @@ use Rattle.sets.proofs.Members.{mem-those}
 use Rattle.sets.proofs.RowLaws.{row-mem, in-rowsOf}
 use Rattle.engine.specs.Relations.{Relations}
 use Rattle.rules.specs.Traces.{Traces, _has_, atSomeFrom, atSome, someTrace}
-use Rattle.rules.specs.Mining.{event, someEvent, before, followed, between, letInBetween, includedAfter, neverMissed, beforeFirst as rule-beforeFirst}
-use Rattle.rules.proofs.Places.{some-at, has-first, has-past, some-of, some-trace}
+use Rattle.rules.specs.Mining.{event, someEvent, before, followed, between, letInBetween, includedAfter, neverMissed}
+use Rattle.rules.proofs.Places.{some-at, has-first, has-rest, has-past, some-of, some-trace}
 use Rattle.rules.proofs.Why.{Small, some-event, the-event}
 use Rattle.rules.proofs.InTurn.{is-event}
-use Rattle.miner.specs.Facts.{letIn, letInSince, reopened, doubted, beforeFirst, stillIncluded, missed}
+use Rattle.miner.specs.Facts.{letIn, letInSince, reopened, doubted, stillIncluded, missed}
 use Rattle.tally.proofs.Folds.{heard}
 use Rattle.tally.specs.Passes.{isLater}
-use Rattle.tally.proofs.Heard.{non-every, heard-later}
-use Rattle.tally.proofs.LogLaws.{middle-event, later-event}
+use Rattle.tally.proofs.LogLaws.{non-every, before-later}
 use Rattle.sets.proofs.Tautologies.{by2}
 
 -- ---- the places of a log where an activity stands
@@ -46,6 +45,23 @@ module _ (u : ℕ) (p : List ℕ → List ℕ → Bool) where
   pub at-place : (L : Traces) (past rest : List ℕ) → List·Memᴰ (reverseAux past (u ∷ rest)) L → T (p past rest)
       → T (someTrace L (atSome u p))
   at-place L past rest m h = some-of (atSome u p) m (some-at u p past rest h)
+
+  -- what stands there is an event, and so is what stands later
+  pub place-event : (L : Traces) → T (someTrace L (atSome u p)) → T (event L u)
+  place-event L h = let k = some-place L h in is-event L u (k .2) (has-rest u (k .0) (u ∷ k .1) (has-first u (k .1)))
+
+  pub rest-event : (t : ℕ) → ((past rest : List ℕ) → T (p past rest) → T (rest has t)) → (L : Traces) → T (someTrace L (atSome u p)) → T (event L t)
+  unfolding _has_
+  rest-event t f L h = let k = some-place L h in is-event L t (k .2) (has-rest t (k .0) (u ∷ k .1) (or-r _ _ (f _ _ (k .3))))
+
+module _ (L : Traces) (s u t : ℕ) (h : T (between L s u t)) where
+  pub middle-event : T (event L u)
+  unfolding between
+  middle-event = place-event u _ L h
+
+  pub later-event : T (event L t)
+  unfolding between
+  later-event = rest-event u _ t (λ past rest k. and-r _ _ k) L h
 
 -- two tests that agree at every place of the log where u stands
 pub places-ext : (L : Traces) (u : ℕ) (p q : List ℕ → List ℕ → Bool)
@@ -147,7 +163,7 @@ module _ (L : Traces) where
           (and-i _ _
           (T-eq (sym (row-mem (before L) u (v .0) lu lv)) (at-place (v .0) (λ past rest. past has u) L (p .0) (p .1) (p .2) (and-l _ _ (p .3))))
           (T-eq (sym (in-rowsOf (λ b a. before L a b) s (v .0) ls lv))
-          (T-eq (heard-later L (v .0) s) (at-place (v .0) (λ past rest. rest has s) L (p .0) (p .1) (p .2) (and-r _ _ (p .3))))))
+          (T-eq (before-later L (v .0) s) (at-place (v .0) (λ past rest. rest has s) L (p .0) (p .1) (p .2) (and-r _ _ (p .3))))))
           i))
           (at-place s (λ past rest. letInSince includes u past x) L (q .0) (q .1)
           (subst (λ (σ : List ℕ). List·Memᴰ σ L) (sym (q .2)) (p .2)) (q .3))
@@ -156,10 +172,6 @@ module _ (L : Traces) where
       reopened-is = T-ext _ _ there back
 
   -- ---- step 9
-
-  pub before-first-is : (s t : ℕ) → heard beforeFirst L t s ≡ rule-beforeFirst L s t
-  unfolding beforeFirst rule-beforeFirst
-  before-first-is s t = refl
 
   module _ (g : Relations) (s : ℕ) (ls : s < width) where
     -- the replay on sets and rows is the rules', where all that came is below the width
@@ -173,10 +185,6 @@ module _ (L : Traces) where
         (ap₂ _and_ (still-is past (λ a h. small a (or-r _ _ h))) (ap non (in-rowsOf (g .excludes) y s ly ls)))
         (in-rowsOf (g .includes) y s ly ls)
 
-    waits : (a b : Bool) → (non a and b) ≡ non (a or non b)
-    unfolding _and_ _or_ non
-    waits = by2 (λ a b. non a and b) (λ a b. non (a or non b)) tt
-
     -- what is missed at some t is what the step's test says no to
     pub missed-is : Small L → (t : ℕ)
         → heard (missed (those (event L)) (rowsOf (g .includes)) (rowsOf (g .excludes))) L t s ≡ non (neverMissed L g s t)
@@ -187,5 +195,5 @@ module _ (L : Traces) where
         (λ past rest m.
         ap (λ (b : Bool). non (past has s) and b)
         (still-is past (λ a h. small a (is-event L a m (has-past a past (t ∷ rest) h))))
-        ∙ waits (past has s) (includedAfter L g past s))
+        ∙ by2 (λ a b. non a and b) (λ a b. non (a or non b)) (unfold _and_ _or_ non in tt) (past has s) (includedAfter L g past s))
         ∙ sym (non-every t (λ past rest. past has s or non (includedAfter L g past s)) L)

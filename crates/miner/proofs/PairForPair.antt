@@ -1,18 +1,16 @@
 -- DEMAND 2, of the miner: the graph that is read from the tally and the traces of a log is, pair for pair, the one that the rules give in
 -- either profile. Assumes nothing of the log but that its activities are below the width, which acceptance gives.
-use mathlib.Core.Path.{_≡_, refl, ap, ap₂, _∙_}
-use mathlib.Core.Bool.{Bool, false}
+use mathlib.Core.Path.{_≡_, refl, sym, ap, ap₂, _∙_}
+use mathlib.Core.Bool.{Bool}
 use mathlib.Core.List.{List, []}
-use Prim.Native.Nat.{ℕ, zero, suc, _<_}
+use Prim.Native.Nat.{ℕ, _<_}
 use native.Mathlib.Omega.{arith}
-use lib.Dec.{eqb}
-use Rattle.sets.specs.Tests.{_or_, non, when_then_else_}
+use Rattle.sets.specs.Tests.{_or_, non}
 use Rattle.sets.specs.Members.{width}
 use Rattle.sets.specs.Rows.{Relation, noRows, rowsOf, turned}
-use Rattle.sets.specs.Tables.{withTable}
-use Rattle.sets.proofs.RowLaws.{rowsOf-ext}
-use Rattle.sets.proofs.TableLaws.{tablesOf-ext, empty-tablesOf, fill-tablesOf}
-use Rattle.engine.specs.Relations.{Relations, relationCount, headOf, graphOf, kept, tablesFrom}
+use Rattle.sets.proofs.RowLaws.{rowsOf-ext, length-rowsOf}
+use Rattle.sets.proofs.TableLaws.{length-tablesOf, table-tablesOf}
+use Rattle.engine.specs.Relations.{Relations, relationCount, kept, tablesFrom}
 use Rattle.engine.specs.Markings.{openingOf}
 use Rattle.engine.specs.Enabled.{graphAt}
 use Rattle.rules.specs.declared.Profile.{Profile}
@@ -26,37 +24,25 @@ use Rattle.tally.specs.Tallies.{tallied}
 use Rattle.tally.proofs.Folds.{heard, forward-rowsOf, through-rowsOf, through-all}
 use Rattle.miner.specs.Facts.{letIn, beforeFirst, missed}
 use Rattle.miner.specs.Stages.{includesSix, excludesSix, sevenFrom, fourTables, graphFound}
+use Rattle.miner.proofs.Holding.{held-is}
 use Rattle.miner.proofs.RowReadings.{turned-rows}
 use Rattle.miner.proofs.EarlySteps.{events, chains-read}
-use Rattle.miner.proofs.Exclusions.{never-read}
-use Rattle.miner.proofs.LaterSteps.{betweens, responses-mined, conditions-mined, includes-full, excludes-mined}
-use Rattle.miner.proofs.OverLog.{neverFollowing, let-in-is, before-first-is, missed-is}
+use Rattle.miner.proofs.Exclusions.{never-read, excludes-seven}
+use Rattle.miner.proofs.LaterSteps.{responses-mined, conditions-mined, includes-full}
+use Rattle.miner.proofs.OverLog.{neverFollowing, let-in-is, missed-is}
 
 -- the tables of four relations, put in one after the other
 pub four-tables : (q : Relations)
     → fourTables (rowsOf (λ t s. q .conditions s t)) (rowsOf (q .responses)) (rowsOf (q .includes)) (rowsOf (q .excludes)) ≡ tablesFrom q
 four-tables q =
-    ap (λ (x : List ℕ). with-three (withTable x 0 (rowsOf (kept q 0)))) (empty-tablesOf relationCount none (λ k a b lk la lb. refl))
-    ∙ ap (λ (x : List ℕ). with-three x) (fill-tablesOf relationCount none 0 (kept q 0))
-    ∙ ap (λ (x : List ℕ). withTable (withTable x 2 (rowsOf (kept q 2))) 3 (rowsOf (kept q 3))) (fill-tablesOf relationCount _ 1 (kept q 1))
-    ∙ ap (λ (x : List ℕ). withTable x 3 (rowsOf (kept q 3))) (fill-tablesOf relationCount _ 2 (kept q 2))
-    ∙ fill-tablesOf relationCount _ 3 (kept q 3)
-    ∙ tablesOf-ext relationCount _ (kept q) same
-  where
-    none : ℕ → Relation
-    none k a b = false
-
-    with-three : List ℕ → List ℕ
-    with-three x = withTable (withTable (withTable x 1 (rowsOf (kept q 1))) 2 (rowsOf (kept q 2))) 3 (rowsOf (kept q 3))
-
-    same : (k a b : ℕ) → k < relationCount → a < width → b < width
-        → (when eqb k 3 then kept q 3 else when eqb k 2 then kept q 2 else when eqb k 1 then kept q 1 else when eqb k 0 then kept q 0 else none k) a b
-        ≡ kept q k a b
-    same zero a b lk la lb = refl
-    same (suc zero) a b lk la lb = refl
-    same (suc (suc zero)) a b lk la lb = refl
-    same (suc (suc (suc zero))) a b lk la lb = refl
-    same (suc (suc (suc (suc k)))) a b lk la lb = absurd (omega arith)
+    sym (held-is _ _ _ _ (length-rowsOf _) (length-rowsOf _) (length-rowsOf _) (length-rowsOf _) (tablesFrom q)
+    (record {
+      long = length-tablesOf relationCount (kept q);
+      conditions = table-tablesOf relationCount (kept q) 0 (omega arith);
+      responses = table-tablesOf relationCount (kept q) 1 (omega arith);
+      includes = table-tablesOf relationCount (kept q) 2 (omega arith);
+      excludes = table-tablesOf relationCount (kept q) 3 (omega arith);
+    }))
 
 module _ (L : Traces) where
   -- the rows that a walk leaves, by what the rules say of each pair
@@ -93,13 +79,14 @@ module _ (L : Traces) where
 
     excludes-are : sevenFrom (events L) (tallied L) (includesSix p (events L) (tallied L) L) (excludesSix p (events L) (tallied L)) L
         ≡ rowsOf (mined L p .excludes)
-    excludes-are = excludes-mined L small p _ (includes-six p)
+    unfolding mined step10 step9 afterEight step8
+    excludes-are = excludes-seven L small p _ (includes-six p)
 
     pub pair-for-pair : (A : ℕ) → graphFound A L p ≡ minedGraph A L p
     unfolding graphFound minedGraph graphFrom
     pair-for-pair A =
         let conditions-are =
-        conditions-mined L p _ _ (walk-is beforeFirst (λ t s. ruleBeforeFirst L s t) (λ t s lt ls. before-first-is L s t))
+        conditions-mined L p _ _ (walk-is beforeFirst (λ t s. ruleBeforeFirst L s t) (λ t s lt ls. unfold beforeFirst ruleBeforeFirst in refl))
         (ap₂ (λ (x y : List ℕ). through (λ r σ. forward (gains (missed (events L) x y)) r [] σ) noRows L) (includes-are p)
         excludes-are ∙ missed-are) in
         (λ i.

@@ -3,14 +3,14 @@ use mathlib.Core.Path.{_≡_, refl, sym, ap, ap₂, _∙_}
 use mathlib.Core.Bool.{Bool, true, false}
 use mathlib.Core.List.{List, [], _∷_}
 use Prim.Native.Nat.{ℕ, _+_, _-_, _≤_, _<_}
-use lib.Dec.{T, eqb, eqb→eq}
-use lib.ListN.{length, getD, take, drop, drop-of-length-le}
+use lib.Dec.{eqb}
+use lib.ListN.{length, getD, drop, drop-of-length-le}
 use Rattle.sets.specs.Tests.{_and_, _or_, non}
 use Rattle.sets.specs.Members.{width, mem, those, someBelow, isEmpty, noSet}
 use Rattle.sets.specs.Rows.{Relation, rowAt, withRow, inRow, rowsOf, rowsFor}
 use Rattle.sets.specs.Tables.{tableAt}
 use Rattle.sets.specs.declared.set.Set.{Set}
-use Rattle.sets.proofs.Tests.{and-l, and-r, and-i, or-l, non-i, non-e, T-ext, T-eq, true→T, F→false, false→F, eqb-of, and-false, true-and, or-false, or-comm}
+use Rattle.sets.proofs.Tests.{and-l, and-r, and-i, or-l, non-i, non-e, T-eq, true→T, F→false, false→F, neither, and-false, true-and, or-false, or-comm}
 use Rattle.sets.proofs.Members.{those-ext, mem-those, empty-e}
 use Rattle.sets.proofs.Below.{some-i}
 use Rattle.sets.proofs.MadeSets.{is-those, is-row, none}
@@ -19,15 +19,11 @@ use Rattle.sets.proofs.TableLaws.{table-rowsOf}
 use Rattle.calllog.specs.Logs.{partAt}
 use Rattle.rules.specs.Traces.{Traces, _has_, atSomeFrom, someTrace}
 use Rattle.tally.specs.Passes.{walked}
+use Rattle.tally.proofs.Somes.{eqb-sym}
 use Rattle.tally.proofs.Turns.{pastAt, past-next, rest-next}
 use Rattle.tally.proofs.Walks.{walked-next, walked-end, walked-start}
 use Rattle.miner.specs.Facts.{Less, letInSince, reopenedIn, reopened}
 use Rattle.miner.proofs.Losing.{Same, Toward, less-none, less-row, toward-start, toward-next, toward-end, less-for}
-
-or-left : (a b : Bool) → (a or b) ≡ false → b ≡ false
-unfolding _or_
-or-left true b n = absurd (false→F n tt)
-or-left false b n = n
 
 module _ (includes : List ℕ) (u : ℕ) where
   -- the set of what was let in
@@ -39,7 +35,7 @@ module _ (includes : List ℕ) (u : ℕ) where
   unfolding letInSince _has_ _or_ _and_
   not-yet [] n x = refl
   not-yet (y ∷ past) n x =
-      let none-farther = or-left (eqb u y) (past has u) n in
+      let none-farther = neither (eqb u y) (past has u) n .1 in
       ap₂ (λ (b c : Bool). b or c and inRow includes y x) (not-yet past none-farther x) none-farther
 
   pub since-none : noSet ≡ sinceIn []
@@ -86,8 +82,7 @@ module _ (includes : List ℕ) (u : ℕ) where
       pub begun-now : (begun′ : Bool) → begun′ ≡ eqb e u → begun′ ≡ pastAt σ (i + 1) has u
       unfolding _or_
       begun-now begun′ h′ =
-          h′ ∙ T-ext (eqb e u) (eqb u e) (λ t. eqb-of (sym (eqb→eq e u t))) (λ t. eqb-of (sym (eqb→eq u e t)))
-          ∙ sym (has-next ∙ ap (λ (b : Bool). eqb u e or b) (sym hb ∙ no) ∙ or-false (eqb u e))
+          h′ ∙ eqb-sym e u ∙ sym (has-next ∙ ap (λ (b : Bool). eqb u e or b) (sym hb ∙ no) ∙ or-false (eqb u e))
 
       pub since-still : since ≡ sinceIn (pastAt σ (i + 1))
       unfolding letInSince _and_
@@ -151,23 +146,17 @@ module _ (includes : List ℕ) (u : ℕ) where
       unfolding rowsFor
       walk-short b c hb done r hr = now ∙ rowsOf-ext _ _ (λ a x la lx. nothing a x la lx ∙ sym (nor a x la lx))
         where
-          g : Relation
-          g = t .0
-
-          now : rows ≡ rowsOf (λ a x. mem F a and r a x and non (g a x))
+          now : rows ≡ rowsOf (λ a x. mem F a and r a x and non (t .0 a x))
           now = t .1 (λ a x. mem F a and r a x) hr
 
-          empty : T (isEmpty (those (λ x. someBelow width (λ a. mem F a and inRow (tableAt rows 0) a x))))
-          empty = and-r _ _ (true→T (sym hb ∙ done))
-
-          in-row : (a x : ℕ) → a < width → x < width → inRow (tableAt rows 0) a x ≡ (mem F a and r a x and non (g a x))
+          in-row : (a x : ℕ) → a < width → x < width → inRow (tableAt rows 0) a x ≡ (mem F a and r a x and non (t .0 a x))
           in-row a x la lx =
               ap (λ (l : List ℕ). inRow (tableAt l 0) a x) now ∙ ap (λ (l : List ℕ). inRow l a x) (table-rowsOf _) ∙ in-rowsOf _ a x la lx
 
-          nothing : (a x : ℕ) → a < width → x < width → (mem F a and r a x and non (g a x)) ≡ false
+          nothing : (a x : ℕ) → a < width → x < width → (mem F a and r a x and non (t .0 a x)) ≡ false
           nothing a x la lx =
               F→false _
-              (λ q. empty-e _ empty x lx
+              (λ q. empty-e _ (and-r _ _ (true→T (sym hb ∙ done))) x lx
               (T-eq (sym (mem-those _ x lx))
               (some-i width (λ v. mem F v and inRow (tableAt rows 0) v x) a la
               (and-i _ _ (and-l _ _ (and-l _ _ q)) (T-eq (sym (in-row a x la lx)) q)))))

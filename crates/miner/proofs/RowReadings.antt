@@ -1,19 +1,21 @@
 -- The readings of rows that are some relation's rows: each is again the rows of a relation. A pair is read by `simp reading`. Assumes
 -- nothing.
-use mathlib.Core.Path.{_≡_, ap, ap₂, _∙_, subst}
+use mathlib.Core.Path.{_≡_, ap₂, _∙_, subst}
 use mathlib.Core.Bool.{Bool}
-use Prim.Native.Nat.{ℕ, _<_, _≤_}
+use Prim.Native.Nat.{ℕ, _<_}
 use native.Mathlib.Omega.{arith}
 use borrow.Author.Tests.{ltb-true, ltb-false}
-use lib.Dec.{T, eqb, eqb→eq, ltb}
+use lib.Dec.{eqb, eqb→eq, ltb}
 use Rattle.sets.specs.Tests.{_and_, _or_, non}
 use Rattle.sets.specs.Members.{width, those, someBelow, leastBelow}
 use Rattle.sets.specs.Rows.{Relation, rowsOf, rowsFor, turned}
-use Rattle.sets.proofs.Tests.{and-l, and-r, and-i, non-i, non-e, non-non, T-ext, T→true, F→false, false→F, eqb-of, split, either}
-use Rattle.sets.proofs.Below.{some-i, some-e, some-ext, least-ext, least-is, least-before}
+use Rattle.sets.proofs.Tests.{non-i, non-e, non-non, T-ext, T→true, F→false, false→F, eqb-of, split, either}
+use Rattle.sets.proofs.Below.{some-i, some-e, some-ext, least-only, least-before}
 use Rattle.sets.proofs.Members.{mem-those}
 use Rattle.sets.proofs.RowLaws.{in-rowsOf, rowsOf-ext}
 use Rattle.rules.specs.Mining.{smallestSource}
+use Rattle.steps.proofs.Sources.{smallest-as}
+use Rattle.miner.proofs.Losing.{where-so}
 use Rattle.steps.specs.Rowwise.{smallest, unbroken, absent, inEither, reducedOf}
 
 pub turned-rows : (r : Relation) → rowsOf (turned (rowsOf r)) ≡ rowsOf (λ a x. r x a)
@@ -50,36 +52,18 @@ module _ (p : ℕ → Bool) where
 -- the least that passes is the one that passes with none below it
 least-none : (p : ℕ → Bool) (a : ℕ) → a < width → (p a and eqb a (leastBelow width p)) ≡ (p a and non (someBelow a p))
 least-none p a l =
-    T-ext (p a and eqb a (leastBelow width p)) (p a and non (someBelow a p))
+    where-so (p a) _ _
     (λ t.
-    and-i _ _ (and-l _ _ t)
-    (non-i _
-    (λ s.
-    let u = some-e a p s in
-    false→F (least-before width p (u .0) (subst (λ (n : ℕ). u .0 < n) (eqb→eq a (leastBelow width p) (and-r _ _ t)) (u .1))) (u .2))))
-    (λ t. and-i _ _ (and-l _ _ t) (eqb-of (at (and-l _ _ t) (and-r _ _ t))))
-  where
-    k : ℕ
-    k = leastBelow width p
-
-    up : T (p a) → k ≤ a
-    up t = either (split (ltb a k)) (λ h. absurd (false→F (least-before width p a (ltb-true a k (T→true _ h))) t))
-        (λ h. ltb-false a k (F→false _ h))
-
-    down : T (p a) → T (non (someBelow a p)) → a ≤ k
-    down t n =
-        either (split (ltb k a))
-        (λ h.
-        let low : k < a = ltb-true k a (T→true _ h) in
-        absurd (non-e _ n (some-i a p k low (least-is width p (omega arith)))))
-        (λ h. ltb-false k a (F→false _ h))
-
-    at : T (p a) → T (non (someBelow a p)) → a ≡ k
-    at t n = omega (arith, up t, down t n)
+    T-ext (eqb a (leastBelow width p)) (non (someBelow a p))
+    (λ e. non-i _ (λ s. let u = some-e a p s in
+    false→F (least-before width p (u .0) (subst (λ (n : ℕ). u .0 < n) (eqb→eq a (leastBelow width p) e) (u .1))) (u .2)))
+    (λ n. eqb-of (least-only width p a (omega arith) (λ h. t)
+    (λ b lb h. either (split (ltb b a)) (λ q. absurd (non-e _ n (some-i a p b (ltb-true b a (T→true _ q)) h)))
+    (λ q. ltb-false b a (F→false _ q))))))
 
 -- of a target's sources, as a row has them, the smallest is the rules' one
 pub smallest-read : (r : Relation) (t : ℕ) (p : ℕ → Bool) → ((s : ℕ) → s < width → p s ≡ r s t) → (s : ℕ) → s < width → smallest p s
     ≡ smallestSource r s t
 unfolding smallest smallestSource
 smallest-read r t p h s l =
-    ap₂ (λ (b : Bool) (n : ℕ). b and eqb s n) (h s l) (least-ext width p (λ u. r u t) h) ∙ least-none (λ u. r u t) s l
+    smallest-as p (λ u. r u t) h s l ∙ least-none (λ u. r u t) s l

@@ -10,7 +10,7 @@ use Rattle.sets.specs.Members.{width, mem, those, someBelow, isEmpty}
 use Rattle.sets.specs.Rows.{Relation, rowAt, inRow, rowsOf, rowsFor}
 use Rattle.sets.specs.Tables.{tableAt}
 use Rattle.sets.specs.declared.set.Set.{Set}
-use Rattle.sets.proofs.Tests.{and-l, and-r, and-i, T-eq, T→true, true→T, F→false, and-true, and-false, and-assoc, true-and, false-and}
+use Rattle.sets.proofs.Tests.{and-l, and-r, and-i, T-eq, T→true, true→T, F→false, and-true, and-comm, and-assoc, true-and, false-and}
 use Rattle.sets.proofs.Tautologies.{by3, by4}
 use Rattle.sets.proofs.Below.{some-i, some-e, some-ext}
 use Rattle.sets.proofs.Members.{empty-e}
@@ -21,7 +21,7 @@ use Rattle.rules.specs.Traces.{Traces}
 use Rattle.tally.specs.Tallies.{beforeTable, laterTable}
 use Rattle.miner.specs.Facts.{Less, doubted, reopened}
 use Rattle.miner.specs.Stages.{followersOf, redundantBy}
-use Rattle.miner.proofs.Losing.{under, less-by, less-as, less-none, less-more, less-rows, byPassed, each-end}
+use Rattle.miner.proofs.Losing.{where-so, less-by, less-as, less-none, less-more, less-rows, byPassed, each-end}
 
 -- what something after u and before a lets in
 pub doubted-is : (before includes : List ℕ) (a : ℕ) (later row between out : Set) → row ≡ rowAt before a
@@ -43,14 +43,6 @@ asked-empty n m s out b h ho hb = hb ∙ ap isEmpty ho ∙ sym (ap (λ (t : Bool
 
 -- ---- what is asked, of the members' rows
 
-again : (r f k : Bool) → (r and non (f and (r and k))) ≡ (r and non (f and k))
-unfolding _and_ _or_ non
-again = by3 (λ r f k. r and non (f and (r and k))) (λ r f k. r and non (f and k)) tt
-
-still : (r f k h : Bool) → (r and non (f and (r and k and non h))) ≡ (r and non (f and k and non h))
-unfolding _and_ _or_ non
-still = by4 (λ r f k h. r and non (f and (r and k and non h))) (λ r f k h. r and non (f and k and non h)) tt
-
 module _ (F asked : Set) (rows left gone : List ℕ) where
   -- all of it
   pub asked-lost : gone ≡ rowsFor F (λ a x. inRow rows a x and mem asked x) → Less rows (λ a x. mem F a and inRow gone a x) left
@@ -59,7 +51,7 @@ module _ (F asked : Set) (rows left gone : List ℕ) where
       less-rows rows left gone F _ _ hg l
       (λ r hr a x la lx.
       ap (λ (b : Bool). r a x and non (mem F a and (b and mem asked x))) (ap (λ (q : List ℕ). inRow q a x) hr ∙ in-rowsOf r a x la lx)
-      ∙ again (r a x) (mem F a) (mem asked x))
+      ∙ by3 (λ r f k. r and non (f and (r and k))) (λ r f k. r and non (f and k)) (unfold _and_ _or_ non in tt) (r a x) (mem F a) (mem asked x))
 
   -- what is not in doubt
   pub sure-lost : (D : Relation) → gone ≡ rowsFor F (λ a x. mem asked x and non (D a x)) → Less rows (λ a x. mem F a and inRow gone a x) left
@@ -76,13 +68,16 @@ module _ (F asked : Set) (rows left gone : List ℕ) where
       less-rows rows left gone F _ _ (hg _ hd) l
       (λ r hr a x la lx.
       ap (λ (b : Bool). r a x and non (mem F a and (b and mem asked x and non (H a x)))) (ap (λ (q : List ℕ). inRow q a x) hr ∙ in-rowsOf r a x la lx)
-      ∙ still (r a x) (mem F a) (mem asked x) (H a x))
+      ∙ by4 (λ r f k h. r and non (f and (r and k and non h))) (λ r f k h. r and non (f and k and non h)) (unfold _and_ _or_ non in tt)
+      (r a x) (mem F a) (mem asked x) (H a x))
 
 -- ---- with doubt and without
 
-both : (f k d h : Bool) → (f and k and non d or f and k and non h) ≡ (f and k and non (d and h))
-unfolding _and_ _or_ non
-both = by4 (λ f k d h. f and k and non d or f and k and non h) (λ f k d h. f and k and non (d and h)) tt
+surely : (f k d h : Bool) → (T k → d ≡ false) → (f and k) ≡ (f and k and non (d and h))
+unfolding _and_ non
+surely true true d h n = sym (ap (λ (b : Bool). non (b and h)) (n tt))
+surely true false d h n = refl
+surely false k d h n = refl
 
 module _ (before laters includes : List ℕ) (u : ℕ) (F asked later : Set) (H : Relation) (hl : later ≡ rowAt laters u) where
   abbrev gone : Relation
@@ -104,16 +99,8 @@ module _ (before laters includes : List ℕ) (u : ℕ) (F asked later : Set) (H 
         (and-i _ _ (T-eq (ap (λ (s : Set). mem s (v .0)) (sym hl)) (and-l _ _ (and-l _ _ (v .2)))) (and-r _ _ (v .2))))))))
 
     pub no-doubt : (rows left : List ℕ) → Less rows (λ a x. mem F a and mem asked x) left → Less rows gone left
-    unfolding non _and_
-    no-doubt rows left l = less-as rows left _ _ (λ a x la lx. by a x lx (mem asked x) refl) l
-      where
-        by : (a x : ℕ) → x < width → (k : Bool) → mem asked x ≡ k
-            → (mem F a and k) ≡ (mem F a and k and non (doubted before includes (rowAt laters u) a x and H a x))
-        by a x lx true e =
-            sym (ap (λ (d : Bool). mem F a and true and non (d and H a x)) (none-in a x lx (true→T e)) ∙ and-true (mem F a and true))
-        by a x lx false e =
-            and-false (mem F a)
-            ∙ sym (ap (λ (c : Bool). c and non (doubted before includes (rowAt laters u) a x and H a x)) (and-false (mem F a)))
+    no-doubt rows left l =
+        less-as rows left _ _ (λ a x la lx. surely (mem F a) (mem asked x) _ (H a x) (none-in a x lx)) l
 
   pub in-doubt : (rows between left : List ℕ) → Less rows (λ a x. mem F a and mem asked x and non (doubted before includes later a x)) between
       → Less between (λ a x. mem F a and mem asked x and non (H a x)) left → Less rows gone left
@@ -121,7 +108,8 @@ module _ (before laters includes : List ℕ) (u : ℕ) (F asked later : Set) (H 
       less-as rows left _ _
       (λ a x la lx.
       ap (λ (s : Set). mem F a and mem asked x and non (doubted before includes s a x) or mem F a and mem asked x and non (H a x)) hl
-      ∙ both (mem F a) (mem asked x) (doubted before includes (rowAt laters u) a x) (H a x))
+      ∙ by4 (λ f k d h. f and k and non d or f and k and non h) (λ f k d h. f and k and non (d and h)) (unfold _and_ _or_ non in tt)
+      (mem F a) (mem asked x) (doubted before includes (rowAt laters u) a x) (H a x))
       (less-more rows between left _ _ l m)
 
 -- ---- all that one u makes redundant
@@ -133,10 +121,6 @@ module _ (tally followers includes excludes : List ℕ) (L : Traces) (u : ℕ) (
   abbrev safe : Relation
   safe a x =
       non (doubted (tableAt tally beforeTable) includes (rowAt (tableAt tally laterTable) u) a x and reopened includes u L a x)
-
-  member : (a x : ℕ) → x < width → inRow followers u x ≡ mem F x
-  unfolding inRow
-  member a x lx = ap (λ (s : Set). mem s x) (sym hF)
 
   -- a pair that is left from a member is asked for where u shuts its target out
   asked-where : (r : Relation) → rows ≡ rowsOf r → (a x : ℕ) → a < width → x < width → T (r a x) → T (mem F a)
@@ -154,23 +138,16 @@ module _ (tally followers includes excludes : List ℕ) (L : Traces) (u : ℕ) (
 
   same-gone : (r : Relation) → rows ≡ rowsOf r → (a x : ℕ) → a < width → x < width → T (r a x)
       → (mem F a and mem asked x and safe a x) ≡ redundantBy tally followers includes excludes L u a x
-  unfolding redundantBy _and_
-  same-gone r hr a x la lx t = by (mem F a) refl
-    where
-      by : (m : Bool) → mem F a ≡ m → (m and mem asked x and safe a x)
-          ≡ (inRow excludes u x and non (inRow includes u x) and inRow followers u a and safe a x)
-      by true e =
-          ap (λ (c : Bool). c and safe a x)
-          (asked-where r hr a x la lx t (true→T e) ∙ sym (and-true (inRow excludes u x and non (inRow includes u x)))
-          ∙ ap (λ (c : Bool). inRow excludes u x and non (inRow includes u x) and c) (sym (member x a la ∙ e)))
-      by false e =
-          sym (ap (λ (c : Bool). c and safe a x)
-          (ap (λ (c : Bool). inRow excludes u x and non (inRow includes u x) and c) (member x a la ∙ e)
-          ∙ and-false (inRow excludes u x and non (inRow includes u x))))
+  unfolding redundantBy inRow
+  same-gone r hr a x la lx t =
+      ap (λ (c : Bool). c and safe a x)
+      (where-so (mem F a) (mem asked x) _ (asked-where r hr a x la lx t)
+      ∙ and-comm _ _
+      ∙ ap (λ (s : Set). inRow excludes u x and non (inRow includes u x) and mem s a) hF)
 
   pub lost-by : (left : List ℕ) → Less rows (λ a x. mem F a and mem asked x and safe a x) left
       → Less rows (redundantBy tally followers includes excludes L u) left
-  lost-by left l = less-by rows left _ _ (λ r hr a x la lx. under (r a x) _ _ (same-gone r hr a x la lx)) l
+  lost-by left l = less-by rows left _ _ (λ r hr a x la lx. where-so (r a x) _ _ (λ t. ap non (same-gone r hr a x la lx t))) l
 
   pub none-lost : not b ≡ false → Less rows (redundantBy tally followers includes excludes L u) rows
   none-lost n =

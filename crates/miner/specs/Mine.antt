@@ -8,6 +8,7 @@ use Rattle.engine.specs.Relations.{emptyGraph}
 use Rattle.calllog.specs.Logs.{logOf}
 use Rattle.rules.specs.declared.Profile.{Profile}
 use Rattle.rules.specs.Mined.{minedGraph}
+use Rattle.miner.specs.declared.mining.Headed.{Headed}
 use Rattle.miner.specs.declared.mining.Mined.{Mined}
 
 unfoldable pub minedOf : List ℕ → Profile → Mined
@@ -16,3 +17,7 @@ minedOf bytes p =
       answer = logOf bytes .answer;
       graph = when isDone (logOf bytes .answer) then minedGraph (logOf bytes .activities) (logOf bytes .traces) p else emptyGraph;
     }
+
+-- the same without the relations
+abbrev pub headedOf : List ℕ → Profile → Headed
+headedOf bytes p = record { answer = minedOf bytes p .answer; head = minedOf bytes p .graph .head }

@@ -17,7 +17,7 @@ use Rattle.rules.specs.declared.Profile.the-variants.{Full, Light}
 use Rattle.rules.specs.Traces.{Traces}
 use Rattle.rules.specs.Mining.{event}
 use Rattle.steps.specs.Rowwise.{unbroken, absent, excluders, inEither, reducedOf, waited}
-use Rattle.tally.specs.Passes.{gains, forward, through, cut}
+use Rattle.tally.specs.Passes.{gains, forward, through, eventIn, cut}
 use Rattle.tally.specs.Tallies.{beforeTable, laterTable, unprecededTable, unansweredTable, unchainedTable, unalternatedTable, followedTable}
 use Rattle.tally.specs.Tallies.{tallied, talliedFor}
 use Rattle.miner.specs.Facts.{letIn, reopened, doubted, beforeFirst, missed}
@@ -129,9 +129,10 @@ tablesIn wide L events tally p =
     (includesIn wide p events tally L)
     (sevenFrom events tally (includesIn wide p events tally L) (excludesSix p events tally) L)
 
--- the graph, from the traces, by a tally in a form
+-- the graph, from the traces, by a tally in a form and the events that the form holds
 unfoldable pub graphFoundIn : Bool → ℕ → Traces → Profile → Graph
-graphFoundIn wide A L p = graphAt A (those (event L)) (openingOf (those (event L))) (tablesIn wide L (those (event L)) (talliedFor wide L) p)
+graphFoundIn wide A L p =
+    graphAt A (those (eventIn wide L)) (openingOf (those (eventIn wide L))) (tablesIn wide L (those (eventIn wide L)) (talliedFor wide L) p)
 
 -- the same over the whole width
 unfoldable pub graphFound : ℕ → Traces → Profile → Graph

@@ -6,16 +6,15 @@ ghost use lib.Dec.{ltb};
 ghost use lib.ListN.{length};
 ghost use Rattle.sets.specs.Members.{word, those};
 ghost use Rattle.sets.specs.Rows.{rowWords, rowsFor};
-ghost use Rattle.sets.specs.Tables.{tableAt, withTable};
+ghost use Rattle.sets.specs.Tables.{noTables, tableAt, withTable};
 ghost use Rattle.engine.specs.Relations.{relationCount};
 ghost use Rattle.rules.specs.declared.Profile.the-variants.{Light};
-ghost use Rattle.rules.specs.Mining.{event};
 ghost use Rattle.steps.specs.Rowwise.{reducedOf};
-ghost use Rattle.tally.specs.Passes.{walked};
+ghost use Rattle.tally.specs.Passes.{walked, eventIn};
 ghost use Rattle.tally.specs.Tallies.{talliedFor};
 ghost use Rattle.miner.specs.Stages.{conditionsOf, responsesOf, neverOf, includesIn, excludesSix, sevenFrom};
 ghost use Rattle.miner.specs.Stages.{fourTables, graphFoundIn};
-ghost use Rattle.miner.specs.Mine.{minedOf};
+ghost use Rattle.miner.specs.Mine.{headedOf, minedOf};
 use crate::conditions;
 use crate::excludes;
 use crate::includes;
@@ -123,7 +122,7 @@ fn put_eight<'a>(
     put_responses(events, tally, out);
 }
 
-// The same of a log's first traces; it gives their events. The tally, the largest of all, is gone when it returns.
+// The same of a log's first traces; it gives their events, as far as the form holds them. The tally, the largest of all, is gone when it returns.
 fn tables_eight(
     bytes: &[u8],
     traces: usize,
@@ -131,7 +130,7 @@ fn tables_eight(
     profile: Profile,
     out: &mut Relations,
 ) -> Set
-    ensures { λ r. ⌜ r ≡ those (event (walked (now (bytes .entry)) traces 0)) ⌝ }
+    ensures { λ r. ⌜ r ≡ those (eventIn wide (walked (now (bytes .entry)) traces 0)) ⌝ }
     ensures { λ r. ⌜ (length (now (out .entry)) ≡ relationCount * rowWords → now (out .exit) ≡ fourTables
         (rowsFor r (reducedOf (conditionsOf r (talliedFor wide (walked (now (bytes .entry)) traces 0)))))
         (rowsFor r (reducedOf (responsesOf r (talliedFor wide (walked (now (bytes .entry)) traces 0)))))
@@ -146,37 +145,65 @@ fn tables_eight(
     events
 }
 
-// The graph of a log's first traces. Where all activities are below 64, its passes keep one word of each set.
-fn graph_found(bytes: &[u8], activities: u8, traces: usize, profile: Profile) -> Graph
-    ensures { λ r. ⌜ r ≡ graphFoundIn (ltb word activities) activities (walked (now (bytes .entry)) traces 0) profile ⌝ }
+// The graph of a log's first traces: its head, and its relations in tables that are lent empty. Where all activities are below 64, the passes
+// keep one word of each set.
+fn graph_found(
+    bytes: &[u8],
+    activities: u8,
+    traces: usize,
+    profile: Profile,
+    found: &mut Relations,
+) -> Head
+    requires { ⌜ now found ≡ noTables relationCount ⌝ }
+    ensures { λ r. ⌜ r ≡ graphFoundIn (ltb word activities) activities (walked (now (bytes .entry)) traces 0) profile .head ⌝ }
+    ensures { λ _. ⌜ now (found .exit) ≡ graphFoundIn (ltb word activities) activities (walked (now (bytes .entry)) traces 0) profile .relations ⌝ }
 {
-    let mut found: Relations = [0; KINDS as usize * WORDS];
     let wide = WORD < activities;
-    let events = tables_eight(bytes, traces, wide, profile, &mut found);
-    conditions::put_nine(bytes, traces, events, wide, &mut found);
-    conditions::put_ten(events, &mut found);
-    Graph {
-        head: Head {
-            activities,
-            events,
-            opening: enabled::marked(events, &found, State::opening(events)),
-        },
-        relations: found,
+    let events = tables_eight(bytes, traces, wide, profile, found);
+    conditions::put_nine(bytes, traces, events, wide, found);
+    conditions::put_ten(events, found);
+    Head {
+        activities,
+        events,
+        opening: enabled::marked(events, found, State::opening(events)),
     }
 }
 
-// The graph of a log, with all ten steps or without the sixth.
-pub fn mine(log: &[u8], profile: Profile) -> Mined
-    ensures { λ r. ⌜ r ≡ minedOf (now (log .entry)) profile ⌝ }
+// What mining gives beside the relations: the log's answer, and the head of its graph.
+pub struct Headed {
+    pub answer: Answer,
+    pub head: Head,
+}
+
+// Mines a log, with all ten steps or without the sixth. The relations are put into tables that the caller lends, whatever they held: by value they
+// would be copied, 8 KB of stack each time (02, 4/12).
+pub fn mine_into(log: &[u8], profile: Profile, relations: &mut Relations) -> Headed
+    ensures { λ r. ⌜ r ≡ headedOf (now (log .entry)) profile ⌝ }
+    ensures { λ _. ⌜ now (relations .exit) ≡ minedOf (now (log .entry)) profile .graph .relations ⌝ }
 {
+    *relations = [0; KINDS as usize * WORDS];
     let judged = calllog::judge::judge_log(log);
     let answer = judged.answer;
     if !answer.is_done() {
-        return Mined {
+        return Headed {
             answer,
-            graph: Graph::empty(),
+            head: Head::EMPTY,
         };
     }
-    let graph = graph_found(log, judged.activities, judged.traces, profile);
-    Mined { answer, graph }
+    let head = graph_found(log, judged.activities, judged.traces, profile, relations);
+    Headed { answer, head }
+}
+
+// The same with the graph by value.
+pub fn mine(log: &[u8], profile: Profile) -> Mined
+    ensures { λ r. ⌜ r ≡ minedOf (now (log .entry)) profile ⌝ }
+{
+    let mut relations: Relations = [0; KINDS as usize * WORDS];
+    let mined = mine_into(log, profile, &mut relations);
+    let answer = mined.answer;
+    let head = mined.head;
+    Mined {
+        answer,
+        graph: Graph { head, relations },
+    }
 }

@@ -31,9 +31,9 @@ use Rattle.miner.proofs.RowReadings.{turned-rows, absent-rows}
 use Rattle.miner.proofs.EarlySteps.{events, chains-read}
 use Rattle.miner.proofs.Exclusions.{first-too, never-read, excludes-six, six-events}
 use Rattle.miner.proofs.LaterSteps.{conditions-eight, responses-mined}
-use Rattle.miner.proofs.Losing.{under}
+use Rattle.miner.proofs.Losing.{where-so}
 use Rattle.miner.proofs.PairForPair.{four-tables}
-use Rattle.miner.proofs.AtEvents.{where-so, AgreeAt, conditions-at, responses-at, chains-at, never-at, alternating-at, excludes-six-at}
+use Rattle.miner.proofs.AtEvents.{AgreeAt, conditions-at, responses-at, chains-at, never-at, alternating-at, excludes-six-at}
 use Rattle.months.specs.Layout.{tallyWidth, setCount, firstRow, rowsEnd, firstPair, rowSet, pairSet, setIn}
 use Rattle.months.specs.Tallies.{asked, held, tallyOf}
 use Rattle.months.specs.Readings.{tablesIn, betweenIn, unfollowing, includers, includesIn, alternating, redundantBy, excluded, excludesFrom}
@@ -189,8 +189,8 @@ module _ (A : ℕ) (L : Traces) (low : Held L) (rest : List ℕ) where
         and redundantBy (rowsOf (six .includes)) (rowsOf (six .excludes)) B u s x))))
         (mem-those (event L) s ls) (in-rowsOf (six .excludes) s x ls lx)
         ∙ first-too (event L s) (event L x) (six .excludes s x) _ (six-events L p s x)
-        ∙ under (six .excludes s x) _ _
-        (λ h. some-ext width _ _ (λ u lu. redundant-held u s x lu ls lx (and-l _ _ (and-l _ _ (T-eq (six-events L p s x) h))))))
+        ∙ where-so (six .excludes s x) _ _
+        (λ h. ap non (some-ext width _ _ (λ u lu. redundant-held u s x lu ls lx (and-l _ _ (and-l _ _ (T-eq (six-events L p s x) h)))))))
 
     -- ---- all of them
 

@@ -21,8 +21,7 @@ use Rattle.sets.proofs.MadeSets.{is-those}
 use Rattle.sets.proofs.RowLaws.{row-put-same, row-put-other, length-put}
 use Rattle.bytes.specs.Sets.{setLength, setPut}
 use Rattle.rules.specs.Traces.{_has_}
-use Rattle.tally.proofs.Turns.{past-next}
-use Rattle.miner.proofs.Gains.{with-one}
+use Rattle.tally.proofs.Turns.{past-next, with-one}
 use Rattle.months.specs.Layout.{tallyWidth, pairSet, setIn}
 use Rattle.months.specs.declared.pairs.Seen.{Seen}
 use Rattle.months.specs.Pairs.{Pairs, Gained, Kept, backTo, walkBack, widened, withFirst, isNew, seenWith, firstsWith}

@@ -25,9 +25,8 @@ use Rattle.bytes.proofs.SetLaws.{length-put}
 use Rattle.rules.specs.Traces.{_has_, atSome, someTrace}
 use Rattle.rules.specs.Mining.{between}
 use Rattle.tally.specs.Passes.{gained, walked}
-use Rattle.tally.proofs.Turns.{pastAt, past-next, rest-next, seenIn, seen-none}
+use Rattle.tally.proofs.Turns.{pastAt, past-next, rest-next, seenIn, seen-none, seen-next}
 use Rattle.calllog.specs.Logs.{partAt}
-use Rattle.miner.proofs.Gains.{seen-next}
 use Rattle.miner.proofs.After.{LastOf}
 use Rattle.months.specs.Layout.{tallyWidth, pairSet, setIn}
 use Rattle.months.specs.Pairs.{Pairs, packed, Gained, sinceIn}

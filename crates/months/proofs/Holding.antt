@@ -10,26 +10,26 @@ use borrow.Author.Tests.{lt-ltb, le-ltb, ltb-true, ltb-false}
 use lib.Dec.{ltb}
 use lib.ListN.{length, getD, set, drop, length-append, length-set, length-drop}
 use lib.Seq.{getD-set-same, set-append-left}
-use Rattle.sets.specs.Tests.{_or_}
+use Rattle.sets.specs.Tests.{_and_, _or_}
 use Rattle.sets.specs.Members.{those}
 use Rattle.sets.specs.Rows.{inRow, rowsOf}
 use Rattle.sets.specs.Tables.{noTables, tableAt}
 use Rattle.sets.specs.declared.set.Set.{Set}
-use Rattle.sets.proofs.Tests.{T→true, F→false, split, either, false-or}
+use Rattle.sets.proofs.Tests.{T→true, F→false, split, either, true-and, false-or}
 use Rattle.sets.proofs.Members.{those-ext, none-those}
 use Rattle.sets.proofs.RowLaws.{in-rowsOf}
 use Rattle.bytes.specs.Sets.{setLength, setBytes, setAt}
 use Rattle.bytes.proofs.SetLaws.{set-apart}
-use Rattle.rules.specs.Traces.{Traces, _has_, someTrace}
+use Rattle.rules.specs.Traces.{Traces}
 use Rattle.rules.specs.Mining.{event, between}
-use Rattle.tally.specs.Passes.{through, reaches}
+use Rattle.tally.specs.Passes.{through, reaches, eventIn}
 use Rattle.tally.specs.Tallies.{tableCount, tallied, notedFor, talliedFor}
 use Rattle.tally.proofs.Tallying.{before-table, later-table, unpreceded-table, unanswered-table, unchained-table, unalternated-table, followed-table, form-agrees}
-use Rattle.miner.proofs.Composed.{events-by}
 use Rattle.months.specs.Layout.{tallyWidth, setCount, tallyLength, firstRow, rowsEnd, firstPair, rowSet, pairSet, setsFrom, activitiesIn, setIn}
 use Rattle.months.specs.Tallies.{asked, held, tallyOf}
 use Rattle.months.specs.Pairs.{over, packed, Gained, initialOf}
-use Rattle.months.proofs.Narrow.{narrow-ext, narrowed}
+use Rattle.months.proofs.Narrow.{narrowed}
+use Rattle.bytes.proofs.SetLaws.{narrow-ext}
 use Rattle.months.proofs.Packed.{length-from, from-ext, read-from, over-low, over-high}
 use Rattle.months.proofs.Initial.{initial-first, initial-events, initial-row, initial-spare}
 
@@ -97,13 +97,20 @@ module _ (L : Traces) where
 
   -- ---- what filling leaves is what is held
 
-  module _ (events : Set) (tables : List ℕ) (he : events ≡ those (event L)) (ht : Answered tables) where
+  module _ (events : Set) (tables : List ℕ) (he : events ≡ those (eventIn false L)) (ht : Answered tables) where
+    -- the narrow form holds every event below 64
+    event-held : (x : ℕ) → x < tallyWidth → eventIn false L x ≡ event L x
+    unfolding eventIn event reaches _or_
+    event-held x l = ap (λ (t : Bool). t and event L x) (lt-ltb x tallyWidth l) ∙ true-and (event L x)
+
     -- set by set, as far as the narrow form goes
     same-set : (w : ℕ) → w < setCount → setBytes false (over (initialOf events tables) (λ u s v. false or between L u v s) w) ≡ setBytes false (those (held L w))
     same-set w l =
         by-kind _ w
         (λ a. low (omega arith) _ (sym (initial-first events tables w a) ∙ none-those (held L w) (λ x lx. held-first w x a)))
-        (λ g a. low (omega arith) _ (sym (initial-events events tables w g a) ∙ he ∙ those-ext (event L) (held L w) (λ x lx. sym (held-events w x g a))))
+        (λ g a.
+        low (omega arith) _ (sym (initial-events events tables w g a) ∙ he)
+        ∙ narrow-ext _ (held L w) (λ x lx. event-held x lx ∙ sym (held-events w x g a)))
         (λ g a.
         low (omega arith) _ (sym (initial-row events tables w g a))
         ∙ narrow-ext _ (held L w) (λ x lx. ht ((w - firstRow) / tallyWidth) ((w - firstRow) % tallyWidth) x (omega arith) (omega arith) lx
@@ -158,12 +165,12 @@ module _ (L : Traces) where
 
 -- from what the passes leave
 pub tally-filled : (A : ℕ) (L : Traces) (none tables : List ℕ) (events : Set) (t₁ t₂ tail : List ℕ) → none ≡ noTables tableCount
-    → events ≡ those (λ x. someTrace L (λ σ. σ has x)) → tables ≡ through (notedFor false) none L
+    → events ≡ those (eventIn false L) → tables ≡ through (notedFor false) none L
     → t₁ ≡ setsFrom setCount 0 (initialOf events tables) ++ tail → Gained t₁ (λ u s v. between L u v s) t₂ → set t₂ 0 A ≡ tallyOf A L ++ tail
 tally-filled A L none tables events t₁ t₂ tail hn he ht h₁ g =
     let answers : Answered L tables =
     λ k a x lk la lx. ap (λ (t : List ℕ). inRow (tableAt t k) a x) (ht ∙ ap (λ (t : List ℕ). through (notedFor false) t L) hn) ∙ narrow-answers L k a x lk la lx in
-    filled L events tables (events-by L events he) answers A t₁ t₂ (set t₂ 0 A) tail h₁ g refl
+    filled L events tables he answers A t₁ t₂ (set t₂ 0 A) tail h₁ g refl
 
 pub filled-long : (A : ℕ) (L : Traces) (t out : List ℕ) → tallyLength ≤ length t → out ≡ tallyOf A L ++ drop tallyLength t → length out ≡ length t
 filled-long A L t out h e =

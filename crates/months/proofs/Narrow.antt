@@ -2,26 +2,20 @@
 -- read again are those members. Assumes nothing.
 use mathlib.Core.Path.{_≡_, refl, sym, ap, _∙_}
 use mathlib.Core.Bool.{Bool, false}
-use mathlib.Core.List.{List, [], _++_}
+use mathlib.Core.List.{List}
 use Prim.Native.Nat.{ℕ, _<_}
 use native.Mathlib.Omega.{arith}
 use borrow.Author.Tests.{lt-ltb, ltb-true}
 use lib.Dec.{T, ltb}
 use Rattle.sets.specs.Tests.{_and_}
-use Rattle.sets.specs.Members.{word, mem, those}
+use Rattle.sets.specs.Members.{mem, those}
 use Rattle.sets.specs.declared.set.Set.{Set}
 use Rattle.sets.proofs.Tests.{T→true, and-l, true-and}
-use Rattle.sets.proofs.Bits.{bitsOf-ext}
 use Rattle.sets.proofs.Members.{Whole, those-e, those-of, mem-those}
-use Rattle.bytes.specs.Numbers.{littleEndian}
-use Rattle.bytes.specs.Sets.{wordLength, setLength, setBytes, setAt}
+use Rattle.bytes.specs.Sets.{setLength, setBytes, setAt}
 use Rattle.bytes.proofs.Parts.{part}
-use Rattle.bytes.proofs.SetLaws.{set-read}
+use Rattle.bytes.proofs.SetLaws.{set-read, narrow-ext}
 use Rattle.months.specs.Layout.{tallyWidth}
-
-pub narrow-ext : (p q : ℕ → Bool) → ((a : ℕ) → a < tallyWidth → p a ≡ q a) → setBytes false (those p) ≡ setBytes false (those q)
-unfolding setBytes those
-narrow-ext p q e = ap (λ (n : ℕ). littleEndian wordLength n ++ []) (bitsOf-ext word p q e)
 
 pub whole-those : (p : ℕ → Bool) → Whole (those p)
 whole-those p = those-of (those p) p (λ a t. t) refl

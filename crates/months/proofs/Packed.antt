@@ -21,7 +21,8 @@ use Rattle.bytes.proofs.Parts.{part}
 use Rattle.bytes.proofs.SetLaws.{length-set, put-there}
 use Rattle.months.specs.Layout.{tallyWidth, setCount, firstPair, pairSet, setsFrom, setIn}
 use Rattle.months.specs.Pairs.{Pairs, over, packed}
-use Rattle.months.proofs.Narrow.{narrow-ext, narrowed, narrow-read}
+use Rattle.months.proofs.Narrow.{narrowed, narrow-read}
+use Rattle.bytes.proofs.SetLaws.{narrow-ext}
 
 -- ---- how long, and one set among them
 

@@ -17,7 +17,8 @@ use Rattle.engine.specs.Markings.{emptyState}
 use Rattle.engine.specs.Relations.{Relations, relationCount, inTables, relationsOf, emptyGraph}
 use Rattle.engine.specs.Judged.{judged}
 use Rattle.graphfile.specs.Refusals.{judgedFile}
-use Rattle.graphfile.specs.Layout.{wideIn, wideFor, eventsIn, stateIn}
+use Rattle.graphfile.specs.Layout.{wideFor, eventsIn, stateIn}
+use Rattle.bytes.specs.Editions.{wideIn}
 use Rattle.graphfile.specs.Held.{relationsIn, graphIn, bareOf, bareTables, readOf}
 use Rattle.graphfile.specs.declared.reader.Bare.{Bare}
 use Rattle.bytes.proofs.Codec.{Bytes}

@@ -15,7 +15,7 @@ use Rattle.sets.proofs.Ways.{taken, passed-by}
 use Rattle.sets.specs.Tables.{noTables}
 use Rattle.engine.specs.Relations.{relationCount, inTables}
 use Rattle.engine.specs.Judged.{judged}
-use Rattle.graphfile.specs.Layout.{wideIn}
+use Rattle.bytes.specs.Editions.{wideIn}
 use Rattle.graphfile.specs.Held.{bareOf, bareTables, readOf}
 use Rattle.graphfile.specs.declared.reader.Reading.{Reading}
 use Rattle.graphfile.specs.declared.reader.Bare.{Bare}

@@ -14,7 +14,7 @@ use Rattle.sets.specs.declared.answer.Answer.the-variants.{Done, AboveLimit, Bu
 use Rattle.sets.specs.Sizes.{longestTrace}
 use Rattle.sets.proofs.Asking.{done-is, ask-stop}
 use Rattle.sets.specs.Tables.{noTables}
-use Rattle.engine.specs.Relations.{relationCount, inTables, emptyGraph}
+use Rattle.engine.specs.Relations.{relationCount, inTables, graphOf, emptyGraph}
 use Rattle.engine.specs.Replay.{walkedOf, replayFrom, replayOf, steppedOf, steppedOn}
 use Rattle.engine.proofs.Acceptable.{stepped-on, replay-judged, replay-long, empty-judged}
 use Rattle.engine.specs.Judged.{judged}
@@ -32,11 +32,13 @@ use Rattle.graphfile.proofs.Writes.{unjudged-written, unjudged-after}
 use Rattle.graphfile.specs.declared.reader.Reading.{Reading}
 use Rattle.graphfile.specs.declared.reader.Bare.{Bare}
 use Rattle.graphfile.specs.declared.writer.Written.{Written}
-use Rattle.graphfile.specs.Layout.{wideIn}
+use Rattle.bytes.specs.Editions.{wideIn}
 use Rattle.graphfile.specs.Markings.{markingLength, markingFrom, markingInto}
 use Rattle.rules.specs.declared.Profile.{Profile}
 use Rattle.rules.specs.declared.Profile.the-variants.{Full, Light}
-use Rattle.miner.specs.Mine.{minedOf}
+use Rattle.miner.specs.Mine.{headedOf, minedOf}
+use Rattle.miner.specs.declared.mining.Headed.{Headed}
+use Rattle.miner.proofs.FromLog.{whole-by}
 use Rattle.miner.specs.declared.mining.Mined.{Mined}
 use Rattle.miner.proofs.Given.{mined-judged}
 use Rattle.report.specs.declared.writer.Listed.{Listed}
@@ -95,12 +97,18 @@ pub ruleset putting = (put-refused, put-kept, put-done, put-filled)
 
 -- ---- of a mined log, of a file that was read
 
-module _ (m m′ : Mined) (e : m ≡ m′) where
-  pub mined-number : (n space : ℕ) → n ≡ putNumber (m .answer) (m .graph) space → n ≡ putNumber (m′ .answer) (m′ .graph) space
-  mined-number n space h = h ∙ ap (λ (x : Mined). putNumber (x .answer) (x .graph) space) e
+module _ (log : List ℕ) (p : Profile) (m : Headed) (t : List ℕ) (hm : m ≡ headedOf log p) (ht : t ≡ minedOf log p .graph .relations) where
+  pub mined-number : (n space : ℕ) → n ≡ putNumber (m .answer) (graphOf (m .head) t) space
+      → n ≡ putNumber (minedOf log p .answer) (minedOf log p .graph) space
+  mined-number n space h = h ∙ ap (λ (x : Mined). putNumber (x .answer) (x .graph) space) (whole-by log p m t hm ht)
 
-  pub mined-buffer : (out out′ : List ℕ) → out′ ≡ putBuffer (m .answer) (m .graph) out → out′ ≡ putBuffer (m′ .answer) (m′ .graph) out
-  mined-buffer out out′ h = h ∙ ap (λ (x : Mined). putBuffer (x .answer) (x .graph) out) e
+  pub mined-buffer : (out out′ : List ℕ) → out′ ≡ putBuffer (m .answer) (graphOf (m .head) t) out
+      → out′ ≡ putBuffer (minedOf log p .answer) (minedOf log p .graph) out
+  mined-buffer out out′ h = h ∙ ap (λ (x : Mined). putBuffer (x .answer) (x .graph) out) (whole-by log p m t hm ht)
+
+  -- a judge would not refuse it
+  pub mined-ok : judged (graphOf (m .head) t) ≡ Done
+  mined-ok = ap (λ (x : Mined). judged (x .graph)) (whole-by log p m t hm ht) ∙ mined-judged log p
 
 module _ (r r′ : Reading) (e : r ≡ r′) where
   pub read-number : (n space : ℕ) → n ≡ putNumber (r .answer) (r .graph) space → n ≡ putNumber (r′ .answer) (r′ .graph) space
@@ -109,10 +117,7 @@ module _ (r r′ : Reading) (e : r ≡ r′) where
   pub read-buffer : (out out′ : List ℕ) → out′ ≡ putBuffer (r .answer) (r .graph) out → out′ ≡ putBuffer (r′ .answer) (r′ .graph) out
   read-buffer out out′ h = h ∙ ap (λ (x : Reading). putBuffer (x .answer) (x .graph) out) e
 
--- neither graph is one that a judge would refuse
-pub mined-ok : (log : List ℕ) (p : Profile) (m : Mined) → m ≡ minedOf log p → judged (m .graph) ≡ Done
-mined-ok log p m e = ap (λ (x : Mined). judged (x .graph)) e ∙ mined-judged log p
-
+-- nor one that was read
 pub read-ok : (file : List ℕ) (r : Reading) → Bytes file → r ≡ readOf file → judged (r .graph) ≡ Done
 unfolding readOf
 read-ok file r small e = ap (λ (x : Reading). judged (x .graph)) e ∙ by (isDone (judgedFile file)) refl

@@ -14,7 +14,7 @@ use Rattle.sets.specs.declared.answer.Answer.the-variants.{BufferTooSmall}
 use Rattle.sets.specs.Tables.{noTables}
 use Rattle.engine.specs.Relations.{relationCount, inTables, relationsOf}
 use Rattle.engine.specs.declared.marking.Marking.{Marking}
-use Rattle.graphfile.specs.Layout.{wideIn}
+use Rattle.bytes.specs.Editions.{wideIn}
 use Rattle.graphfile.specs.Held.{readOf, bareOf, bareTables}
 use Rattle.graphfile.specs.Markings.{markingLength, markingFrom}
 use Rattle.graphfile.specs.declared.reader.Reading.{Reading}

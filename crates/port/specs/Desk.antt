@@ -6,7 +6,7 @@ use Rattle.sets.specs.Tests.{non, when_then_else_}
 use Rattle.sets.specs.Answers.{isDone, thenAsk}
 use Rattle.sets.specs.declared.answer.Answer.{Answer}
 use Rattle.sets.specs.declared.answer.Answer.the-variants.{Done, NotOpen}
-use Rattle.graphfile.specs.Layout.{wideIn}
+use Rattle.bytes.specs.Editions.{wideIn}
 use Rattle.graphfile.specs.Held.{readOf}
 use Rattle.desk.specs.Places.{isOpen}
 use Rattle.desk.specs.Desk.{onTable, placeAnswer, noPlace, openedOf, tableOpened, stepAnswer, tableStepped, closeAnswer, tableClosed}

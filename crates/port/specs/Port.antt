@@ -12,7 +12,7 @@ use Rattle.engine.specs.Markings.{emptyMarking}
 use Rattle.engine.specs.Replay.{replayOf, steppedOf}
 use Rattle.engine.specs.declared.step.Stepped.{Stepped}
 use Rattle.engine.specs.declared.graph.Graph.{Graph}
-use Rattle.graphfile.specs.Layout.{wideIn}
+use Rattle.bytes.specs.Editions.{wideIn}
 use Rattle.graphfile.specs.Held.{readOf}
 use Rattle.graphfile.specs.Writing.{writtenOf, fileAfter}
 use Rattle.graphfile.specs.Markings.{markingLength, markingFrom, markingInto}

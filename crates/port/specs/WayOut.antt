@@ -9,7 +9,7 @@ use Rattle.sets.specs.Answers.{numberOf, isDone}
 use Rattle.sets.specs.declared.answer.Answer.{Answer}
 use Rattle.sets.specs.declared.answer.Answer.the-variants.{BufferTooSmall}
 use Rattle.engine.specs.Relations.{relationsOf}
-use Rattle.graphfile.specs.Layout.{wideIn}
+use Rattle.bytes.specs.Editions.{wideIn}
 use Rattle.graphfile.specs.Held.{readOf}
 use Rattle.graphfile.specs.Markings.{markingLength, markingFrom}
 use Rattle.finish.specs.Ways.{finishedBy, finishOf}

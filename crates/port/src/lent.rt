@@ -1,7 +1,7 @@
 // What a caller lends, and how many bytes it has: by the edition of the file that goes with it, or by the A of the head where there is no file
 // (02, 10/12). So for A up to 64 they are those of before.
 ghost use mathlib.Core.Path.{_≡_};
-ghost use Rattle.graphfile.specs.Layout.{wideIn};
+ghost use Rattle.bytes.specs.Editions.{wideIn};
 ghost use Rattle.graphfile.specs.Heads.{loneHeadLength, wideHead};
 ghost use Rattle.graphfile.specs.Markings.{markingLength, markingFrom};
 ghost use Rattle.desk.specs.Places.{tableLength};

@@ -8,6 +8,7 @@ ghost use Rattle.port.specs.Port.{inProfileBuffer, mineNumber, mineBuffe
 ghost use Rattle.port.specs.Port.{summaryNumber, stepOf, stepBytes, openingAnswer, openingBytes};
 ghost use Rattle.sets.specs.Answers.{numberOf};
 ghost use Rattle.sets.specs.declared.answer.Answer.the-variants.{Done};
+ghost use Rattle.engine.specs.Relations.{graphOf};
 ghost use Rattle.engine.specs.Judged.{judged};
 ghost use Rattle.report.specs.Listing.{listingAfter};
 ghost use Rattle.report.specs.Summary.{summaryAfter};
@@ -19,7 +20,7 @@ pub mod marked;
 pub mod tallies;
 pub mod way_out;
 
-use engine::Graph;
+use engine::Head;
 use engine::Marking;
 use engine::Relations;
 use engine::Stepped;
@@ -75,15 +76,15 @@ pub(crate) fn store(s: Stepped, marking: &mut [u8], wide: bool) -> u64
 }
 
 // What mining or reading gave, written as a file where it was done. Such a graph is acceptable by a theorem, so it is not judged again.
-fn put(answer: Answer, g: Graph, out: &mut [u8]) -> u64
-    requires { ⌜ judged g ≡ Done ⌝ }
-    ensures { λ r. ⌜ r ≡ putNumber answer g (length (now (out .entry))) ⌝ }
-    ensures { λ _. ⌜ now (out .exit) ≡ putBuffer answer g (now (out .entry)) ⌝ }
+fn put(answer: Answer, head: Head, relations: &Relations, out: &mut [u8]) -> u64
+    requires { ⌜ judged (graphOf head (now relations)) ≡ Done ⌝ }
+    ensures { λ r. ⌜ r ≡ putNumber answer (graphOf head (now (relations .entry))) (length (now (out .entry))) ⌝ }
+    ensures { λ _. ⌜ now (out .exit) ≡ putBuffer answer (graphOf head (now (relations .entry))) (now (out .entry)) ⌝ }
 {
     if !answer.is_done() {
         return packed(answer, 0);
     }
-    let w = graphfile::write_unjudged(g.head, &g.relations, out);
+    let w = graphfile::write_unjudged(head, relations, out);
     let a = w.answer;
     packed(a, w.length)
 }
@@ -103,10 +104,10 @@ fn mine(log: &[u8], profile: Profile, file: &mut [u8]) -> u64
     ensures { λ r. ⌜ r ≡ mineNumber (now (log .entry)) (length (now (file .entry))) profile ⌝ }
     ensures { λ _. ⌜ now (file .exit) ≡ mineBuffer (now (log .entry)) profile (now (file .entry)) ⌝ }
 {
-    let m = miner::mine(log, profile);
+    let mut relations: Relations = [0; KINDS as usize * WORDS];
+    let m = miner::mine_into(log, profile, &mut relations);
     let answer = m.answer;
-    let g = m.graph;
-    put(answer, g, file)
+    put(answer, m.head, &relations, file)
 }
 
 // The same for a profile by its number: 0 full, 1 light, 12 for any other.
@@ -167,8 +168,7 @@ pub extern "C" fn skelfora_rewrite(file: &[u8], out: &mut [u8]) -> u64
 {
     let r = graphfile::read(file);
     let answer = r.answer;
-    let g = r.graph;
-    put(answer, g, out)
+    put(answer, r.graph.head, &r.graph.relations, out)
 }
 
 // Replays a trace on the graph of a file: the number, the place, 2^32 where it ends accepting, and the blocker. Reading has judged the graph, so

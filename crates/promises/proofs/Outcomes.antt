@@ -23,6 +23,7 @@ use Rattle.sets.proofs.set.Set.count.Reads as Set-count
 use Rattle.sets.proofs.set.Set.least.Reads as Set-least
 use Rattle.sets.proofs.set.Set.without_least.Reads as Set-without-least
 use Rattle.sets.proofs.set.Set.next.Reads as Set-next
+use Rattle.sets.proofs.set.Set.end.Reads as Set-end
 use Rattle.sets.proofs.rows.empty.Reads as empty
 use Rattle.sets.proofs.rows.row.Reads as row
 use Rattle.sets.proofs.rows.put.Reads as put
@@ -122,12 +123,12 @@ use Rattle.steps.proofs.reduce.reduced.Reads as reduced
 use Rattle.tally.proofs.log.empty.Reads as log-empty
 use Rattle.tally.proofs.in_form.Reads as in-form
 use Rattle.tally.proofs.log.note_traces_in.Reads as log-note-traces-in
-use Rattle.tally.proofs.log.note_traces.Reads as log-note-traces
 use Rattle.miner.proofs.conditions_eight.Reads as conditions-eight
 use Rattle.miner.proofs.excluded_five.Reads as excluded-five
 use Rattle.miner.proofs.last_places.Reads as last-places
 use Rattle.miner.proofs.mining.responses_eight.Reads as responses-eight
 use Rattle.miner.proofs.mining.mine.Reads as mine
+use Rattle.miner.proofs.mining.mine_into.Reads as mine-into
 use Rattle.months.proofs.filling.fill.Reads as months-fill
 use Rattle.months.proofs.joining.join.Reads as months-join
 use Rattle.months.proofs.reading.relations.Reads as months-relations
@@ -247,6 +248,9 @@ Set-without-least-once κ a r r′ s s′ h h′ = h ∙ sym h′
 
 pub Set-next-once : Once Set-next.Post
 Set-next-once κ a r r′ s s′ h h′ = ap {B = Activity} (λ n. record { 0 = n }) (h ∙ sym h′)
+
+pub Set-end-once : Once Set-end.Post
+Set-end-once κ a r r′ s s′ h h′ = h ∙ sym h′
 
 -- ---- sets: rows
 
@@ -591,13 +595,13 @@ in-form-once κ a r r′ s s′ h h′ = h ∙ sym h′
 pub log-note-traces-in-once : OnceLent log-note-traces-in.Post (λ κ s. now (s .1 .1 .1 .0))
 log-note-traces-in-once κ a r r′ s s′ h h′ = (h .0 ∙ sym (h′ .0), h .1 ∙ sym (h′ .1))
 
-pub log-note-traces-once : OnceLent log-note-traces.Post (λ κ s. now (s .1 .1 .0))
-log-note-traces-once κ a r r′ s s′ h h′ = (h .0 ∙ sym (h′ .0), h .1 ∙ sym (h′ .1))
-
 -- ---- miner
 
 pub mine-once : Once mine.Post
 mine-once κ a r r′ s s′ h h′ = h ∙ sym h′
+
+pub mine-into-once : OnceLent mine-into.Post (λ κ s. now (s .1 .1 .0))
+mine-into-once κ a r r′ s s′ h h′ = (h .0 ∙ sym (h′ .0), h .1 ∙ sym (h′ .1))
 
 pub conditions-eight-once : Once conditions-eight.Post
 conditions-eight-once κ a r r′ s s′ h h′ = h ∙ sym h′

@@ -31,7 +31,8 @@ use Rattle.calllog.specs.declared.judge.Judged.{Judged}
 use Rattle.calllog.proofs.Accepted.{accepted as log-accepted}
 use Rattle.calllog.proofs.Given.{log-answer, judged-accepted}
 use Rattle.calllog.proofs.Writing.{written-accepted}
-use Rattle.graphfile.specs.Layout.{letters, activitiesIn, wideIn, headLength, rowLength, rowsLength}
+use Rattle.graphfile.specs.Layout.{letters, activitiesIn, headLength, rowLength, rowsLength}
+use Rattle.bytes.specs.Editions.{wideIn}
 use Rattle.graphfile.specs.Refusals.{mostRows, judgedHead, judgedBeforeRows, judgedFile}
 use Rattle.graphfile.specs.Held.{graphIn, readOf}
 use Rattle.graphfile.specs.Writing.{bytesOf}

@@ -8,7 +8,8 @@ use borrow.Author.Tests.{eq-eqb, ne-eqb}
 use Rattle.sets.specs.Tests.{when_then_else_}
 use Rattle.sets.specs.Members.{width, word}
 use Rattle.bytes.specs.Editions.{wideEdition, editionIn}
-use Rattle.report.specs.Lent.{wideIn, mostIn}
+use Rattle.report.specs.Lent.{mostIn}
+use Rattle.bytes.specs.Editions.{wideIn}
 use Rattle.report.specs.Listing.{longestNarrow, longestWide, longestListing}
 
 module _ (log : List ℕ) (e : ℕ) (said : e ≡ editionIn log) where

@@ -39,7 +39,7 @@ use Rattle.rules.specs.declared.Profile.{Profile}
 use Rattle.rules.specs.Mined.{graphFrom, minedGraph}
 use Rattle.rules.proofs.Acceptable.{acceptable}
 use Rattle.rules.proofs.FromFile.{file-accepted}
-use Rattle.report.specs.Lent.{wideIn}
+use Rattle.bytes.specs.Editions.{wideIn}
 use Rattle.report.specs.Lines.{decimal, line, C, R, I, E}
 use Rattle.report.specs.Pairs.{Pair, passing, withEach, pairsFrom, pairsOf, pairCount}
 use Rattle.report.specs.Listing.{firstLine, pairLine, pairLines, traceLine, traceLines, relationLines, linesOf, refusedLine}

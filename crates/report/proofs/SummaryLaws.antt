@@ -23,14 +23,16 @@ use Rattle.sets.proofs.Below.{count-ext}
 use Rattle.sets.proofs.Members.{mem-those}
 use Rattle.sets.proofs.RowLaws.{in-rowsOf, length-listFrom}
 use Rattle.sets.proofs.TableLaws.{table-rowsOf, row-taken, in-tablesOf}
-use Rattle.engine.specs.Relations.{relationCount, kept, relationsOf, emptyGraph}
+use Rattle.engine.specs.Relations.{relationCount, kept, relationsOf, emptyGraph, graphOf}
 use Rattle.engine.specs.declared.graph.Graph.{Graph}
 use Rattle.calllog.specs.Logs.{logOf}
 use Rattle.rules.specs.declared.Profile.{Profile}
 use Rattle.rules.specs.Traces.{Traces}
 use Rattle.rules.specs.Mining.{mined}
 use Rattle.rules.specs.Mined.{graphFrom, minedGraph}
-use Rattle.miner.specs.Mine.{minedOf}
+use Rattle.miner.specs.Mine.{headedOf, minedOf}
+use Rattle.miner.specs.declared.mining.Headed.{Headed}
+use Rattle.miner.proofs.FromLog.{whole-by}
 use Rattle.miner.specs.declared.mining.Mined.{Mined}
 use Rattle.report.specs.Lent.{mostIn}
 use Rattle.report.specs.Puts.{Put, bySource, rowCounts, summaryText}
@@ -148,8 +150,15 @@ length-text most tables =
 
 -- ---- the three ways out
 
-module _ (log : List ℕ) (p : Profile) (out : List ℕ) (mined : Mined) (r : Bool) (hm : mined ≡ minedOf log p) (hr : r ≡ isDone (mined .answer)) where
-  answer-is : mined .answer ≡ logOf log .answer
+module _ (log : List ℕ) (p : Profile) (out : List ℕ) (given : Headed) (tables : List ℕ) (r : Bool) (hg : given ≡ headedOf log p)
+    (ht : tables ≡ minedOf log p .graph .relations) (hr : r ≡ isDone (given .answer)) where
+  abbrev whole : Mined
+  whole = record { answer = given .answer; graph = graphOf (given .head) tables }
+
+  hm : whole ≡ minedOf log p
+  hm = whole-by log p given tables hg ht
+
+  answer-is : whole .answer ≡ logOf log .answer
   unfolding minedOf
   answer-is = ap (λ (x : Mined). x .answer) hm
 
@@ -162,7 +171,7 @@ module _ (log : List ℕ) (p : Profile) (out : List ℕ) (mined : Mined) (r : Bo
   kept-by b e = ap (λ (t : Bool). when t then summaryOf log p ++ drop (summaryLength log) out else out) e
 
   module _ (t : not r ≡ true) where
-    pub refused-answer : mined .answer ≡ summaryAnswer log (length out)
+    pub refused-answer : whole .answer ≡ summaryAnswer log (length out)
     unfolding summaryAnswer
     refused-answer = answer-is ∙ sym (ask-stop (logOf log .answer) _ (ended false (not-true r t)))
 
@@ -187,13 +196,13 @@ module _ (log : List ℕ) (p : Profile) (out : List ℕ) (mined : Mined) (r : Bo
         big-answer : summaryAnswer log (length out) ≡ Done
         big-answer = asked-room false (le-ltb (length out) (summaryLength log) (omega (arith, said)))
 
-        pub summary-fits : 0 + length (summaryText most (mined .graph .relations)) ≤ length out
-        summary-fits = omega (arith, length-text most (mined .graph .relations))
+        pub summary-fits : 0 + length (summaryText most (whole .graph .relations)) ≤ length out
+        summary-fits = omega (arith, length-text most (whole .graph .relations))
 
-        pub summary-answer : mined .answer ≡ summaryAnswer log (length out)
+        pub summary-answer : whole .answer ≡ summaryAnswer log (length out)
         summary-answer = done-is _ (sym hr ∙ not-false r t) ∙ sym big-answer
 
-        summary-is : summaryText most (mined .graph .relations) ≡ summaryOf log p
+        summary-is : summaryText most (whole .graph .relations) ≡ summaryOf log p
         unfolding minedOf summaryOf
         summary-is =
             ap₂ (λ (n : ℕ) (g : Graph). summaryText n (g .relations)) said
@@ -201,13 +210,13 @@ module _ (log : List ℕ) (p : Profile) (out : List ℕ) (mined : Mined) (r : Bo
             ∙ ap (λ (b : Bool). when b then minedGraph (logOf log .activities) (logOf log .traces) p else emptyGraph) (ended true (not-false r t)))
             ∙ text-is (mostIn log) (most-few log) (logOf log .activities) (logOf log .traces) p
 
-        pub summary-held : (out′ : List ℕ) (n : ℕ) → Put out 0 (summaryText most (mined .graph .relations)) out′ n → out′ ≡ summaryAfter log p out
+        pub summary-held : (out′ : List ℕ) (n : ℕ) → Put out 0 (summaryText most (whole .graph .relations)) out′ n → out′ ≡ summaryAfter log p out
         summary-held out′ n put =
-            let text = summaryText most (mined .graph .relations) in
+            let text = summaryText most (whole .graph .relations) in
             put .bytes
             ∙ sets-eq text out 0 summary-fits
             ∙ ap₂ (λ (x : List ℕ) (k : ℕ). x ++ drop k out) summary-is
-            (zero-add (length text) ∙ length-text most (mined .graph .relations) ∙ ap (λ (k : ℕ). 2 * k) said)
+            (zero-add (length text) ∙ length-text most (whole .graph .relations) ∙ ap (λ (k : ℕ). 2 * k) said)
             ∙ sym (kept-by true (ap isDone big-answer))
 
 pub ruleset summarizing = (refused-answer, refused-kept, small-answer, small-kept, summary-fits, summary-answer, summary-held)

@@ -10,11 +10,13 @@ use Rattle.sets.specs.Tests.{when_then_else_}
 use Rattle.sets.specs.Answers.{isDone}
 use Rattle.sets.specs.declared.answer.Answer.{Answer}
 use Rattle.sets.specs.declared.answer.Answer.the-variants.{BufferTooSmall}
-use Rattle.engine.specs.Relations.{emptyGraph}
+use Rattle.engine.specs.Relations.{emptyGraph, graphOf}
 use Rattle.calllog.specs.Logs.{logOf}
 use Rattle.rules.specs.declared.Profile.{Profile}
 use Rattle.rules.specs.Mined.{minedGraph}
-use Rattle.miner.specs.Mine.{minedOf}
+use Rattle.miner.specs.Mine.{headedOf, minedOf}
+use Rattle.miner.specs.declared.mining.Headed.{Headed}
+use Rattle.miner.proofs.FromLog.{whole-by}
 use Rattle.miner.specs.declared.mining.Mined.{Mined}
 use Rattle.report.specs.declared.writer.Listed.{Listed}
 use Rattle.report.specs.Listing.{refusedLine, listingOf, longestListing, listedOf, listingAfter}
@@ -53,7 +55,14 @@ module _ (log : List ℕ) (p : Profile) (out : List ℕ) (asked : ℕ) (said : a
       unfolding listingAfter
       put-kept = put-held (longestListing log) (logOf log .answer) (listingOf log p) out enough (longest log p) text out′ n e put
 
-    module _ (mined : Mined) (r : Bool) (hm : mined ≡ minedOf log p) (hr : r ≡ isDone (mined .answer)) where
+    module _ (given : Headed) (tables : List ℕ) (r : Bool) (hg : given ≡ headedOf log p) (ht : tables ≡ minedOf log p .graph .relations)
+        (hr : r ≡ isDone (given .answer)) where
+      abbrev mined : Mined
+      mined = record { answer = given .answer; graph = graphOf (given .head) tables }
+
+      hm : mined ≡ minedOf log p
+      hm = whole-by log p given tables hg ht
+
       answer-is : mined .answer ≡ logOf log .answer
       unfolding minedOf
       answer-is = ap (λ (x : Mined). x .answer) hm

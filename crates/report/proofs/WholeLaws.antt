@@ -18,7 +18,7 @@ use Rattle.sets.proofs.RowLaws.{in-rowsOf}
 use Rattle.sets.proofs.TableLaws.{table-rowsOf, row-taken}
 use Rattle.engine.specs.declared.graph.Head.{Head}
 use Rattle.engine.specs.declared.graph.Graph.{Graph}
-use Rattle.engine.specs.Relations.{inTables, relationsOf}
+use Rattle.engine.specs.Relations.{inTables, graphOf, relationsOf}
 use Rattle.engine.specs.Judged.{judged}
 use Rattle.engine.specs.Replay.{replayFrom, replayOf}
 use Rattle.engine.proofs.Acceptable.{replay-judged}
@@ -94,15 +94,14 @@ module _ (head : Head) (tables c listed log : List ℕ) (n : ℕ) (o : List ℕ)
 
 -- ---- all traces of a log
 
-module _ (g : Graph) (log o : List ℕ) (n : ℕ) (h : n ≡ tracesIn log) where
-  all-traces : graphText g log ≡ linesText (g .head) (g .relations) log n
-  all-traces = ap (linesText (g .head) (g .relations) log) (sym h)
+module _ (head : Head) (tables log o : List ℕ) (n : ℕ) (h : n ≡ tracesIn log) where
+  all-traces : graphText (graphOf head tables) log ≡ linesText head tables log n
+  all-traces = ap (linesText head tables log) (sym h)
 
-  pub graph-room : 0 + length (graphText g log) ≤ length o → 0 + length (linesText (g .head) (g .relations) log n) ≤ length o
+  pub graph-room : 0 + length (graphText (graphOf head tables) log) ≤ length o → 0 + length (linesText head tables log n) ≤ length o
   graph-room room = subst (λ (x : List ℕ). 0 + length x ≤ length o) all-traces room
 
-  pub graph-put : (o₁ : List ℕ) (a₁ : ℕ) → Put o 0 (linesText (g .head) (g .relations) log n) o₁ a₁
-      → Put o 0 (graphText g log) o₁ a₁
+  pub graph-put : (o₁ : List ℕ) (a₁ : ℕ) → Put o 0 (linesText head tables log n) o₁ a₁ → Put o 0 (graphText (graphOf head tables) log) o₁ a₁
   graph-put o₁ a₁ p = put-as (sym all-traces) p
 
 -- ---- the parts are the definition's

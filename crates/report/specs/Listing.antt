@@ -17,7 +17,7 @@ use Rattle.rules.specs.declared.Profile.{Profile}
 use Rattle.rules.specs.Traces.{Traces}
 use Rattle.rules.specs.Mined.{minedGraph}
 use Rattle.report.specs.declared.writer.Listed.{Listed}
-use Rattle.report.specs.Lent.{wideIn}
+use Rattle.bytes.specs.Editions.{wideIn}
 use Rattle.report.specs.Lines.{decimal, line, eventsWord, tracesWord, refusedWord, C, R, I, E, T}
 use Rattle.report.specs.Pairs.{Pair, pairsOf, pairCount}
 

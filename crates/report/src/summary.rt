@@ -11,11 +11,13 @@ use crate::text;
 use engine::Relations;
 use engine::graph::CONDITIONS;
 use engine::graph::EXCLUDES;
+use engine::graph::KINDS;
 use rules::Profile;
 use sets::Activity;
 use sets::Answer;
 use sets::Set;
 use sets::rows;
+use sets::rows::WORDS;
 use sets::tables;
 
 // How many others stand in the activity's row of a table.
@@ -58,7 +60,8 @@ pub fn write_summary(log: &[u8], profile: Profile, out: &mut [u8]) -> Answer
     ensures { λ r. ⌜ r ≡ summaryAnswer (now (log .entry)) (length (now (out .entry))) ⌝ }
     ensures { λ _. ⌜ now (out .exit) ≡ summaryAfter (now (log .entry)) profile (now (out .entry)) ⌝ }
 {
-    let mined = miner::mine(log, profile);
+    let mut relations: Relations = [0; KINDS as usize * WORDS];
+    let mined = miner::mine_into(log, profile, &mut relations);
     let answer = mined.answer;
     if !answer.is_done() {
         return answer;
@@ -67,6 +70,6 @@ pub fn write_summary(log: &[u8], profile: Profile, out: &mut [u8]) -> Answer
     if out.len() < 2 * most as usize {
         return Answer::BufferTooSmall;
     }
-    put_summary(out, most, &mined.graph.relations);
+    put_summary(out, most, &relations);
     answer
 }

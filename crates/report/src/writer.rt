@@ -2,6 +2,7 @@
 ghost use mathlib.Core.Path.{_≡_};
 ghost use Prim.Native.Nat.{_+_, _≤_};
 ghost use lib.ListN.{length};
+ghost use Rattle.engine.specs.Relations.{graphOf};
 ghost use Rattle.report.specs.Listing.{refusedLine, listedOf, listingAfter};
 ghost use Rattle.report.specs.Puts.{Put, linesText, graphText};
 use crate::heading;
@@ -9,13 +10,14 @@ use crate::lent;
 use crate::relations;
 use crate::replays;
 use crate::text;
-use engine::Graph;
 use engine::Head;
 use engine::Relations;
 use engine::graph::CONDITIONS;
+use engine::graph::KINDS;
 use rules::Profile;
 use sets::Answer;
 use sets::rows;
+use sets::rows::WORDS;
 use sets::tables;
 
 const REFUSED: [u8; 7] = *b"refused";
@@ -55,12 +57,12 @@ fn put_lines<'a>(
 }
 
 // The lines of a graph and of all traces of a log that was mined, and so judged: its head has their number.
-fn put_graph(out: &mut [u8], log: &[u8], g: Graph) -> usize
-    requires { ⌜ 0 + length (graphText g (now log)) ≤ length (now out) ⌝ }
-    ensures { λ r. ⌜ Put (now (out .entry)) 0 (graphText g (now (log .entry))) (now (out .exit)) r ⌝ }
+fn put_graph<'a>(out: &mut [u8], log: &'a [u8], head: Head, relations: &'a Relations) -> usize
+    requires { ⌜ 0 + length (graphText (graphOf head (now relations)) (now log)) ≤ length (now out) ⌝ }
+    ensures { λ r. ⌜ Put (now (out .entry)) 0 (graphText (graphOf head (now (relations .entry))) (now (log .entry))) (now (out .exit)) r ⌝ }
 {
     let traces = calllog::trace::trace_count(log);
-    put_lines(out, log, traces, g.head, &g.relations)
+    put_lines(out, log, traces, head, relations)
 }
 
 // Lists a log: reads it, mines it in the profile, replays it on its graph.
@@ -74,7 +76,8 @@ pub fn write_listing(log: &[u8], profile: Profile, out: &mut [u8]) -> Listed
             length: 0,
         };
     }
-    let mined = miner::mine(log, profile);
+    let mut relations: Relations = [0; KINDS as usize * WORDS];
+    let mined = miner::mine_into(log, profile, &mut relations);
     let answer = mined.answer;
     if !answer.is_done() {
         let size = put_refused(out, answer);
@@ -83,7 +86,7 @@ pub fn write_listing(log: &[u8], profile: Profile, out: &mut [u8]) -> Listed
             length: size,
         };
     }
-    let size = put_graph(out, log, mined.graph);
+    let size = put_graph(out, log, mined.head, &relations);
     Listed {
         answer,
         length: size,

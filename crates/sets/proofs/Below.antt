@@ -6,12 +6,12 @@ use Prim.Native.Nat.{ℕ, zero, suc, _+_, _-_, _*_, _/_, _%_, _^_, _≤_, _<_, s
 use native.Mathlib.Nat.{not-suc-le-zero, le-of-suc-le-suc, mod-lt, zero-lt-suc, zero-add, suc-add, add-assoc}
 use native.Mathlib.Omega.{arith}
 use borrow.Author.Tests.{ne-eqb, eqb-true, eqb-false, lt-ltb, ltb-true, ltb-false}
-use lib.Arith.{lt-one}
+use lib.Arith.{lt-one, lt-of-le-ne}
 use lib.Dec.{T, eqb, ltb, eqb·suc-zero, eqb·zero-suc, eqb·suc-suc}
 use lib.Bits.{bitAnd, and-shr}
 use lib.Count.{ones, ones-step, trailingZeros, under}
-use Rattle.sets.specs.Tests.{_and_, _or_, non}
-use Rattle.sets.specs.Members.{digit, bit, bitsOf, someBelow, everyBelow, countBelow, leastBelow, orNext}
+use Rattle.sets.specs.Tests.{_and_, _or_, non, when_then_else_}
+use Rattle.sets.specs.Members.{digit, bit, bitsOf, someBelow, everyBelow, countBelow, leastBelow, endBelow, orNext}
 use Rattle.sets.proofs.Tests.{and-l, and-r, and-i, or-e, or-l, or-r, T-ext, non-i, non-e, and-true, and-assoc, T→true, true→T, F→false, false→F, split, either}
 use Rattle.sets.proofs.Bits.{bit-first, bit-next, bit-and, digit-first, half-lt}
 
@@ -214,6 +214,40 @@ trailing-least zero x = refl
 trailing-least (suc w) x =
     under-digit (x % 2) (trailingZeros w (x / 2)) (mod-lt x (zero-lt-suc 1))
     ∙ ap₂ orNext (sym (bit-first x)) (trailing-least w (x / 2) ∙ least-ext w (bit (x / 2)) (λ a. bit x (suc a)) (λ a l. sym (bit-next x a)))
+
+-- ---- the end
+
+pub end-le : (w : ℕ) (p : ℕ → Bool) → endBelow w p ≤ w
+unfolding endBelow
+end-le zero p = omega arith
+end-le (suc w) p = by (p w) (end-le w p)
+  where
+    by : (t : Bool) → endBelow w p ≤ w → (when t then suc w else endBelow w p) ≤ suc w
+    by true h = omega arith
+    by false h = omega arith
+
+-- what passes is below it
+pub end-past : (w : ℕ) (p : ℕ → Bool) (a : ℕ) → a < w → T (p a) → a < endBelow w p
+unfolding endBelow
+end-past zero p a l t = absurd (not-suc-le-zero l)
+end-past (suc w) p a l t = by (λ k. end-past w p a k t) (p w) refl
+  where
+    by : (a < w → a < endBelow w p) → (x : Bool) → p w ≡ x → a < (when x then suc w else endBelow w p)
+    by ih true e = l
+    by ih false e = ih (lt-of-le-ne (le-of-suc-le-suc l) (λ q. false→F (ap p q ∙ e) t))
+
+-- it is the only such number that is 0 or one more than a number that passes
+pub end-only : (w : ℕ) (p : ℕ → Bool) (n : ℕ) → n ≤ w → ((a : ℕ) → a < w → T (p a) → a < n) → (0 < n → T (p (n - 1))) → n ≡ endBelow w p
+unfolding endBelow
+end-only zero p n l past last = omega arith
+end-only (suc w) p n l past last = by (λ k. end-only w p n k (λ a h. past a (omega arith)) last) (p w) refl
+  where
+    by : (n ≤ w → n ≡ endBelow w p) → (x : Bool) → p w ≡ x → n ≡ when x then suc w else endBelow w p
+    by ih true e = let top = past w (omega arith) (true→T e) in omega arith
+    by ih false e =
+        ih (le-of-suc-le-suc (lt-of-le-ne l (λ q.
+        let same : n - 1 ≡ w = omega arith in
+        false→F (ap p same ∙ e) (last (omega arith)))))
 
 -- ---- the numbers below k + m: those below k, then k more than those below m
 

@@ -3,50 +3,97 @@
 use mathlib.Core.Path.{_≡_, refl, sym, ap, ap₂, _∙_, subst}
 use mathlib.Core.Bool.{Bool, true, false}
 use mathlib.Core.List.{List}
-use Prim.Native.Nat.{ℕ, _+_, _-_, _≤_, _<_}
+use Prim.Native.Nat.{ℕ, _+_, _-_, _/_, _^_, _≤_, _<_}
+use native.Mathlib.Nat.{zero-add, lt-of-le-of-lt}
 use native.Mathlib.Omega.{arith}
 use borrow.Author.Tests.{lt-ltb, le-ltb, ltb-true, ltb-false, eqb-true, eqb-false}
 use lib.Dec.{T, eqb, eqb→eq, ltb}
+use lib.Pow.{shr-le}
+use lib.Count.{trailingZeros}
 use Rattle.sets.specs.Tests.{_and_, _or_, non, when_then_else_}
-use Rattle.sets.specs.Members.{width, mem, those, noSet, leastBelow, nextAbove}
+use Rattle.sets.specs.Members.{width, word, bit, mem, those, noSet, leastBelow, nextAbove}
 use Rattle.sets.specs.Rows.{Relation, noRows, rowAt, withRow, rowsOf, rowsFor, turned}
 use Rattle.sets.specs.declared.set.Set.{Set}
-use Rattle.sets.proofs.Tests.{T-ext, and-l, and-r, and-i, or-e, or-l, or-r, non-i, non-e, T→true, true→T, F→false, false→F, eqb-of, true-and, false-and, and-true, and-false, and-assoc, or-true, or-false, false-or, split, either}
-use Rattle.sets.proofs.Below.{least-ext, least-le, least-is, least-before}
+use Rattle.sets.proofs.Tests.{T-ext, and-l, and-r, and-i, or-e, or-l, or-r, T→true, true→T, F→false, false→F, eqb-of, true-and, false-and, and-true, and-false, or-true, or-false, false-or, split, either}
+use Rattle.sets.proofs.Bits.{bit-above, bit-shr, bit-shr-none}
+use Rattle.sets.proofs.Below.{least-ext, least-le, least-lt, least-is, least-before, least-only, least-past, trailing-least}
 use Rattle.sets.proofs.RowLaws.{put-rowsOf, rowsOf-ext, empty-rowsOf}
-use Rattle.sets.proofs.Members.{those-ext, those-of}
-use Rattle.sets.proofs.MadeSets.{Is, is-those, is-row, less, none}
+use Rattle.sets.proofs.Members.{mem-low, mem-high, by-word, word-some, those-ext, those-of}
+use Rattle.sets.proofs.MadeSets.{Is, is-those, is-row, none}
 
 -- ---- from one member to the next
 
 T-lt : (a b : ℕ) → a < b → T (ltb a b)
 T-lt a b l = true→T (lt-ltb a b l)
 
--- not below a, and not a
-pub higher : (a b : ℕ) → (non (ltb b a) and non (eqb b a)) ≡ ltb a b
-higher a b =
-    T-ext (non (ltb b a) and non (eqb b a)) (ltb a b)
-    (λ t.
-    let up : a ≤ b = ltb-false b a (F→false _ (λ l. non-e _ (and-l _ _ t) l)) in
-    let other = eqb-false b a (F→false _ (λ e. non-e _ (and-r _ _ t) e)) in
-    either (split (ltb a b)) (λ l. l) (λ g. let down : b ≤ a = ltb-false a b (F→false _ g) in absurd (other (omega arith))))
-    (λ t.
-    let up : a < b = ltb-true a b (T→true _ t) in
-    and-i _ _ (non-i _ (λ l. let down : b < a = ltb-true b a (T→true _ l) in omega arith)) (non-i _ (λ e. let same : b ≡ a = eqb→eq b a e in omega arith)))
+-- a word whose digits are the members from a place on, shifted down so that only those above n are left
+module _ (s : Set) (n base k x : ℕ) (start : n + 1 ≡ base + k) (fits : base + word ≤ width) (hx : x < 2 ^ word)
+    (digits : (a : ℕ) → a < word → mem s (base + a) ≡ bit x a) where
+  -- its least digit is the next member
+  next-up : (x / 2 ^ k ≡ 0 → ⊥) → n + 1 + trailingZeros word (x / 2 ^ k) ≡ nextAbove s n
+  unfolding nextAbove
+  next-up some =
+      let place : base + (k + t) ≡ n + 1 + t = omega arith in
+      ap (λ (m : ℕ). n + 1 + m) (trailing-least word (x / 2 ^ k))
+      ∙ least-only width (λ b. mem s b and ltb n b) (n + 1 + t) (omega (arith, inside))
+      (λ l. and-i _ _ (subst (λ (b : ℕ). T (mem s b)) place (subst T (sym (digits (k + t) inside)) here)) (T-lt n (n + 1 + t) (omega arith)))
+      (λ b l p.
+      let over = ltb-true n b (T→true _ (and-r _ _ p)) in
+      let c : ℕ = b - (n + 1) in
+      let same : b ≡ base + (k + c) = omega arith in
+      either (split (ltb c t))
+      (λ h.
+      let before = ltb-true c t (T→true _ h) in
+      absurd (false→F (ap (mem s) same ∙ digits (k + c) (omega (arith, inside)) ∙ sym (bit-shr k x c) ∙ least-before word (bit (x / 2 ^ k)) c before) (and-l _ _ p)))
+      (λ h. omega (arith, ltb-false c t (F→false _ h))))
+    where
+      t : ℕ
+      t = leastBelow word (bit (x / 2 ^ k))
 
--- what is left of a set above a has the next member as its least
-pub next-is : (s low one up left : Set) (a k : ℕ) → low ≡ those (λ b. ltb b a) → up ≡ those (λ b. mem s b and non (mem low b))
-    → one ≡ those (λ b. eqb b a) → left ≡ those (λ b. mem up b and non (mem one b)) → k ≡ leastBelow width (mem left) → k ≡ nextAbove s a
-unfolding nextAbove
-next-is s low one up left a k hl hu ho hr hk =
-    let high = less s low up (mem s) (λ b. ltb b a) (λ b l. refl) (is-those low (λ b. ltb b a) hl) hu in
-    let rest = less up one left (λ b. mem s b and non (ltb b a)) (λ b. eqb b a) (is-those up (λ b. mem s b and non (ltb b a)) high) (is-those one (λ b. eqb b a) ho) hr in
-    hk
-    ∙ least-ext width (mem left) (λ b. mem s b and ltb a b)
-    (λ b l.
-    is-those left (λ c. mem s c and non (ltb c a) and non (eqb c a)) rest b l
-    ∙ and-assoc (mem s b) (non (ltb b a)) (non (eqb b a))
-    ∙ ap (λ (t : Bool). mem s b and t) (higher a b))
+      here : T (bit x (k + t))
+      here = subst T (bit-shr k x t) (least-is word _ (least-lt word _ (word-some (x / 2 ^ k) some (lt-of-le-of-lt (shr-le x k) hx))))
+
+      inside : k + t < word
+      inside =
+          either (split (ltb (k + t) word)) (λ h. ltb-true (k + t) word (T→true _ h))
+          (λ h. absurd (false→F (bit-above word x (k + t) hx (ltb-false (k + t) word (F→false _ h))) here))
+
+module _ (s : Set) (n : ℕ) where
+  none-next : ((b : ℕ) → b < width → n < b → mem s b ≡ false) → width ≡ nextAbove s n
+  unfolding nextAbove
+  none-next none =
+      least-only width (λ b. mem s b and ltb n b) width (omega arith) (λ l. absurd (omega arith))
+      (λ b l p. absurd (false→F (none b l (ltb-true n b (T→true _ (and-r _ _ p)))) (and-l _ _ p)))
+
+  pub next-low : s .low < 2 ^ word → n < word - 1 → (s .low / 2 ^ (n + 1) ≡ 0 → ⊥) → n + 1 + trailingZeros word (s .low / 2 ^ (n + 1)) ≡ nextAbove s n
+  next-low h l some =
+      next-up s n 0 (n + 1) (s .low) (omega arith) (omega arith) h (λ a g. ap (mem s) (zero-add a) ∙ mem-low s a g) some
+
+  -- none is left in the low word: the least of the high one
+  pub next-over : n < word - 1 → s .low / 2 ^ (n + 1) ≡ 0 → word + trailingZeros word (s .high) ≡ nextAbove s n
+  unfolding nextAbove
+  next-over l z =
+      ap (λ (m : ℕ). word + m) (trailing-least word (s .high)
+      ∙ least-ext word (bit (s .high)) (λ a. mem s (word + a) and ltb n (word + a))
+      (λ a g. sym (mem-high s a) ∙ sym (and-true _) ∙ ap (λ (t : Bool). mem s (word + a) and t) (sym (lt-ltb n (word + a) (omega arith)))))
+      ∙ sym (least-past word word (λ b. mem s b and ltb n b)
+      (λ a g. F→false _ (λ p.
+      let over = ltb-true n a (T→true _ (and-r _ _ p)) in
+      false→F (mem-low s a g ∙ bit-shr-none (n + 1) (s .low) z a (omega arith)) (and-l _ _ p))))
+
+  pub next-high : s .high < 2 ^ word → word - 1 ≤ n → n < width - 1 → (s .high / 2 ^ (n - (word - 1)) ≡ 0 → ⊥)
+      → n + 1 + trailingZeros word (s .high / 2 ^ (n - (word - 1))) ≡ nextAbove s n
+  next-high h l g some = next-up s n word (n - (word - 1)) (s .high) (omega arith) (omega arith) h (λ a b. mem-high s a) some
+
+  pub next-none : word - 1 ≤ n → s .high / 2 ^ (n - (word - 1)) ≡ 0 → width ≡ nextAbove s n
+  next-none l z =
+      none-next (by-word (λ b. b < width → n < b → mem s b ≡ false) (λ a g h o. absurd (omega arith))
+      (λ a h o. mem-high s a ∙ bit-shr-none (n - (word - 1)) (s .high) z a (omega arith)))
+
+  pub next-past : width - 1 ≤ n → width ≡ nextAbove s n
+  next-past l = none-next (λ b h o. absurd (omega arith))
+
+pub ruleset nexts = (next-low, next-over, next-high, next-none, next-past)
 
 -- the members below i: those that a loop has passed
 unfoldable pub below : Set → ℕ → ℕ → Bool

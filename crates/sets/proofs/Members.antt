@@ -1,20 +1,21 @@
 -- Laws of sets by their members, and the machine's operations as comprehensions. Assumes nothing.
 use mathlib.Core.Path.{_≡_, refl, sym, ap, ap₂, _∙_, subst}
 use mathlib.Core.Bool.{Bool, true, false, not}
-use Prim.Native.Nat.{ℕ, _^_, _+_, _-_, _*_, _/_, _%_, _≤_, _<_}
+use mathlib.Core.Logic.{_⊎_, inl, inr}
+use Prim.Native.Nat.{ℕ, suc, _^_, _+_, _-_, _*_, _/_, _%_, _≤_, _<_}
 use native.Mathlib.Omega.{arith}
 use native.Mathlib.Nat.{lt-of-le-of-lt}
 use borrow.Author.Tests.{eq-eqb, ne-eqb, eqb-true, lt-ltb, le-ltb, ltb-true, ltb-false, not-true}
 use lib.Dec.{T, eqb, ltb}
 use lib.Pow.{pow-lt, pow-pos}
 use lib.Bits.{bitAnd, bitOr, and-le-l, and-le-r, and-mask, or-lt, and-lt, or-add-and, or-zero-l}
-use lib.Count.{ones, trailingZeros}
+use lib.Count.{ones, trailingZeros, leadingZeros, leading-of-zero, leading-top}
 use Rattle.sets.specs.Tests.{_and_, _or_, non}
-use Rattle.sets.specs.Members.{width, word, bit, bitsOf, mem, those, noSet, someBelow, everyBelow, countBelow, leastBelow, isEmpty, within}
+use Rattle.sets.specs.Members.{width, word, bit, bitsOf, mem, those, noSet, someBelow, everyBelow, countBelow, leastBelow, endBelow, isEmpty, within}
 use Rattle.sets.specs.declared.set.Set.{Set}
 use Rattle.sets.proofs.Tests.{non-or, non-non, and-true, false-and, and-l, and-r, and-i, eqb-of, T-ext, T→true, true→T, F→false, false→F, non-false, non-i, non-e, imp-i, imp-e, split, either}
-use Rattle.sets.proofs.Bits.{is-bitsOf, bitsOf-ext, bitsOf-bit, bitsOf-lt, bit-bitsOf, bit-and, bit-or, bit-non, bit-above, bit-zero, bit-pow, bit-ones, one-shl}
-use Rattle.sets.proofs.Below.{some-ext, every-i, every-e, every-ext, every-split, non-some, none-zero, count-ext, count-less, count-split, least-is, least-lt, least-ext, least-here, least-past, ones-count, trailing-least, cleared}
+use Rattle.sets.proofs.Bits.{is-bitsOf, bitsOf-ext, bitsOf-bit, bitsOf-lt, bit-bitsOf, bit-and, bit-or, bit-non, bit-above, bit-zero, bit-pow, bit-top, bit-ones, one-shl}
+use Rattle.sets.proofs.Below.{some-ext, every-i, every-e, every-ext, every-split, non-some, none-zero, count-ext, count-less, count-split, least-is, least-lt, least-ext, least-here, least-past, end-past, end-only, ones-count, trailing-least, cleared}
 
 -- ---- a number below the width is below a word, or a word more than one that is
 
@@ -107,6 +108,10 @@ module _ (s : Set) (w : Whole s) where
 
   pub whole-low : (a : ℕ) → T (mem s a) → a < width
   whole-low a t = those-e (mem s) a (subst (λ (u : Set). T (mem u a)) (sym w) t) .0
+
+  -- and below the end
+  pub whole-end : (a : ℕ) → T (mem s a) → a < endBelow width (mem s)
+  whole-end a t = end-past width (mem s) a (whole-low a t) t
 
   pub whole-empty : isEmpty s ≡ true → noSet ≡ s
   unfolding isEmpty
@@ -226,6 +231,9 @@ within-empty s t u r hu hr =
 word-zero : (x : ℕ) → x < 2 ^ word → everyBelow word (λ a. non (bit x a)) ≡ eqb x 0
 word-zero x h = none-zero word (bit x) ∙ ap (λ (n : ℕ). eqb n 0) (bitsOf-bit word x h)
 
+pub word-some : (x : ℕ) → (x ≡ 0 → ⊥) → x < 2 ^ word → T (someBelow word (bit x))
+word-some x n h = non-false _ (non-some word (bit x) ∙ word-zero x h ∙ ne-eqb x 0 n)
+
 or-zero : (x y : ℕ) → eqb (bitOr x y) 0 ≡ (eqb x 0 and eqb y 0)
 or-zero x y =
     T-ext (eqb (bitOr x y) 0) (eqb x 0 and eqb y 0)
@@ -235,6 +243,19 @@ or-zero x y =
     let zy : y ≡ 0 = omega (arith, or-add-and x y, and-le-l x y) in
     and-i _ _ (eqb-of zx) (eqb-of zy))
     (λ t. eqb-of (ap₂ bitOr (eqb-true x 0 (T→true _ (and-l _ _ t))) (eqb-true y 0 (T→true _ (and-r _ _ t))) ∙ or-zero-l 0))
+
+-- the highest digit of a word that is 1
+word-top : (x : ℕ) → (x ≡ 0 → ⊥) → x < 2 ^ word → (j : ℕ) × (leadingZeros word x + suc j ≡ word) × ((a : ℕ) → T (bit x a) → a ≤ j) × T (bit x j)
+word-top x n h =
+    let top = leading-top word x (omega arith) h in
+    let j : ℕ = top .0 in (
+      j,
+      top .1,
+      λ a t. either (split (ltb j a))
+          (λ up. absurd (false→F (bit-above (suc j) x a (top .3) (ltb-true j a (T→true _ up))) t))
+          (λ low. ltb-false j a (F→false _ low)),
+      true→T (bit-top j x (top .2) (top .3)),
+    )
 
 stays : (t k : Bool) → k ≡ false → (t and non k) ≡ t
 unfolding non
@@ -274,19 +295,53 @@ module _ (s : Set) (hl : s .low < 2 ^ word) (hh : s .high < 2 ^ word) where
       ap (λ (n : ℕ). word + n) (trailing-least word (s .high) ∙ least-ext word (bit (s .high)) (λ a. mem s (word + a)) (λ a l. sym (mem-high s a)))
       ∙ sym (least-past word word (mem s) (λ a l. mem-low s a l ∙ ap (λ (n : ℕ). bit n a) z ∙ bit-zero a))
 
-  some-low : (s .low ≡ 0 → ⊥) → T (someBelow word (bit (s .low)))
-  some-low n = non-false _ (non-some word (bit (s .low)) ∙ word-zero (s .low) hl ∙ ne-eqb (s .low) 0 n)
-
   low-lt : (s .low ≡ 0 → ⊥) → trailingZeros word (s .low) < word
-  low-lt n = subst (λ (k : ℕ). k < word) (sym (trailing-least word (s .low))) (least-lt word (bit (s .low)) (some-low n))
+  low-lt n = subst (λ (k : ℕ). k < word) (sym (trailing-least word (s .low))) (least-lt word (bit (s .low)) (word-some (s .low) n hl))
 
   pub least-low : (s .low ≡ 0 → ⊥) → trailingZeros word (s .low) ≡ leastBelow width (mem s)
   least-low n =
-      let some = some-low n in
+      let some = word-some (s .low) n hl in
       let low : T (someBelow word (mem s)) = subst T (some-ext word (bit (s .low)) (mem s) (λ a l. sym (mem-low s a l))) some in
       trailing-least word (s .low)
       ∙ least-ext word (bit (s .low)) (mem s) (λ a l. sym (mem-low s a l))
       ∙ sym (least-here word word (mem s) low)
+
+  -- one more than the greatest member
+  pub end-high : (s .high ≡ 0 → ⊥) → width - leadingZeros word (s .high) ≡ endBelow width (mem s)
+  end-high n =
+      let top = word-top (s .high) n hh in
+      let zeros = top .1 in
+      let k : ℕ = width - leadingZeros word (s .high) in
+      let same : k - 1 ≡ word + top .0 = omega arith in
+      end-only width (mem s) k (omega arith)
+      (by-word (λ a. a < width → T (mem s a) → a < k) (λ a l h t. omega arith)
+      (λ a h t. let low = top .2 a (subst T (mem-high s a) t) in omega arith))
+      (λ p. subst (λ (a : ℕ). T (mem s a)) (sym same) (subst T (sym (mem-high s (top .0))) (top .3)))
+
+  low-only : s .high ≡ 0 → (a : ℕ) → T (mem s a) → a < word
+  low-only z = by-word (λ a. T (mem s a) → a < word) (λ a l t. l) (λ a t. absurd (false→F (mem-high s a ∙ ap (λ (x : ℕ). bit x a) z ∙ bit-zero a) t))
+
+  pub end-low : s .high ≡ 0 → word - leadingZeros word (s .low) ≡ endBelow width (mem s)
+  end-low z = by (split (eqb (s .low) 0))
+    where
+      k : ℕ
+      k = word - leadingZeros word (s .low)
+
+      in-low : (a : ℕ) → T (mem s a) → T (bit (s .low) a)
+      in-low a t = subst T (mem-low s a (low-only z a t)) t
+
+      by : T (eqb (s .low) 0) ⊎ (T (eqb (s .low) 0) → ⊥) → k ≡ endBelow width (mem s)
+      by (inl e) =
+          let none = eqb-true (s .low) 0 (T→true _ e) in
+          let zeros = ap (leadingZeros word) none ∙ leading-of-zero word in
+          end-only width (mem s) k (omega arith)
+          (λ a l t. absurd (false→F (ap (λ (x : ℕ). bit x a) none ∙ bit-zero a) (in-low a t))) (λ p. absurd (omega arith))
+      by (inr f) =
+          let top = word-top (s .low) (λ q. f (eqb-of q)) hl in
+          let zeros = top .1 in
+          let same : k - 1 ≡ top .0 = omega arith in
+          end-only width (mem s) k (omega arith) (λ a l t. let low = top .2 a (in-low a t) in omega arith)
+          (λ p. subst (λ (a : ℕ). T (mem s a)) (sym same) (subst T (sym (mem-low s (top .0) (omega arith))) (top .3)))
 
   -- without the least member: the least digit of the first word that has one is cleared
   pub rest-low : (s .low ≡ 0 → ⊥)
@@ -397,4 +452,4 @@ module _ (k : ℕ) where
         (λ a l. bit-ones word a ∙ lt-ltb a word l ∙ sym (lt-ltb a k (omega arith)))
         (λ a l. bit-ones word a ∙ lt-ltb a word l ∙ sym (lt-ltb (word + a) k (omega arith)))
 
-pub ruleset operations = (union-those, intersection-those, difference-those, complement-those, within-empty, empty-bits, has-low, has-high, has-above, one-low, one-high, one-above, below-low, below-high, below-all, one-pos, one-pos-high, ones-those, least-low, least-high, rest-low, rest-high, rest-none)
+pub ruleset operations = (union-those, intersection-those, difference-those, complement-those, within-empty, empty-bits, has-low, has-high, has-above, one-low, one-high, one-above, below-low, below-high, below-all, one-pos, one-pos-high, ones-those, least-low, least-high, end-low, end-high, rest-low, rest-high, rest-none)

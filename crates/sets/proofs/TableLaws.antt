@@ -3,7 +3,7 @@ use mathlib.Core.Path.{_≡_, refl, sym, ap, _∙_, subst}
 use mathlib.Core.Bool.{Bool, true, false}
 use mathlib.Core.List.{List, [], _∷_, _++_}
 use Prim.Native.Nat.{ℕ, zero, suc, _+_, _*_, _-_, _^_, _≤_, _<_}
-use native.Mathlib.Nat.{not-suc-le-zero, le-of-suc-le-suc}
+use native.Mathlib.Nat.{not-suc-le-zero, le-of-suc-le-suc, add-zero, add-suc, add-assoc}
 use native.Mathlib.Numerals.{add-one}
 use native.Mathlib.Omega.{arith}
 use borrow.Author.Tests.{lt-ltb, le-ltb, ltb-true, ltb-false, eqb-true, eqb-false, ne-eqb}
@@ -12,7 +12,7 @@ use lib.Dec.{eqb, ltb, eqb-refl, eqb→eq, lt→ltb, ltb→lt}
 use lib.ListN.{length, getD, set, take, drop, length-set, length-append, length-drop, length-replicate, getD-replicate, take-append-drop}
 use lib.Seq.{ext-getD, length-take-le, drop-set-add, drop-set-lt, take-set-le, take-set-lt, drop-drop, drop-at, take-at, getD-take}
 use lib.ListN.{List·getD-eq-default}
-use lib.Seq.{getD-drop, set-out, take-all}
+use lib.Seq.{getD-drop, set-out, set-comm, set-getD, take-all}
 use Rattle.sets.specs.Tests.{_and_, _or_, when_then_else_}
 use Rattle.sets.specs.Members.{width, word, mem, those, noSet}
 use Rattle.sets.specs.Rows.{Relation, rowWords, noRows, rowAt, withRow, inRow, rowsOf}
@@ -135,6 +135,47 @@ module _ (tables : List ℕ) (k a : ℕ) (s : Set) where
       ∙ word-other k a (s .low) (omega arith) tables j n)
       (λ f. ap (λ (q : List ℕ). tableAt q j) (sym (table-put-above tables k a s (ltb-false a width (F→false _ f)))))
 
+-- a row that is put where it stands changes nothing
+pub put-back : (tables : List ℕ) (k e : ℕ) → withRowIn tables k e (rowAt (tableAt tables k) e) ≡ tables
+put-back tables k e =
+    either (split (ltb e width))
+    (λ t.
+    let l = ltb-true e width (T→true _ t) in
+    ap (withRowIn tables k e) (sym (table-row tables k e l))
+    ∙ sym (table-put tables k e (record { low = getD tables (k * rowWords + e) 0; high = getD tables (k * rowWords + e + width) 0 }) l)
+    ∙ ap (λ (t : List ℕ). set t (k * rowWords + e + width) (getD tables (k * rowWords + e + width) 0)) (set-getD tables (k * rowWords + e) 0)
+    ∙ set-getD tables (k * rowWords + e + width) 0)
+    (λ f. sym (table-put-above tables k e _ (ltb-false e width (F→false _ f))))
+
+-- puts into different tables, in either order
+pub put-comm : (tables : List ℕ) (j k a b : ℕ) (s t : Set) → (j ≡ k → ⊥) → withRowIn (withRowIn tables j a s) k b t
+    ≡ withRowIn (withRowIn tables k b t) j a s
+put-comm tables j k a b s t ne =
+    either (split (ltb a width))
+    (λ x. either (split (ltb b width)) (λ y. both (ltb-true a width (T→true _ x)) (ltb-true b width (T→true _ y)))
+    (λ y. let g = ltb-false b width (F→false _ y) in sym (table-put-above (withRowIn tables j a s) k b t g)
+    ∙ ap (λ (l : List ℕ). withRowIn l j a s) (table-put-above tables k b t g)))
+    (λ x. let g = ltb-false a width (F→false _ x) in ap (λ (l : List ℕ). withRowIn l k b t) (sym (table-put-above tables j a s g))
+    ∙ table-put-above (withRowIn tables k b t) j a s g)
+  where
+    -- one word, put before a row of another table or after it
+    one-word : (l : List ℕ) (i x : ℕ) → a < width → (j * rowWords + a ≡ i → ⊥) → (j * rowWords + a + width ≡ i → ⊥)
+        → set (withRowIn l j a s) i x ≡ withRowIn (set l i x) j a s
+    one-word l i x la low high =
+        ap (λ (q : List ℕ). set q i x) (sym (table-put l j a s la))
+        ∙ set-comm (set l (j * rowWords + a) (s .low)) (j * rowWords + a + width) i (s .high) x high
+        ∙ ap (λ (q : List ℕ). set q (j * rowWords + a + width) (s .high)) (set-comm l (j * rowWords + a) i (s .low) x low)
+        ∙ table-put (set l i x) j a s la
+
+    both : a < width → b < width → withRowIn (withRowIn tables j a s) k b t ≡ withRowIn (withRowIn tables k b t) j a s
+    both la lb =
+        sym (table-put (withRowIn tables j a s) k b t lb)
+        ∙ ap (λ (l : List ℕ). set l (k * rowWords + b + width) (t .high))
+        (one-word tables (k * rowWords + b) (t .low) la (λ q. ne (omega (arith, la, lb, q))) (λ q. ne (omega (arith, la, lb, q))))
+        ∙ one-word (set tables (k * rowWords + b) (t .low)) (k * rowWords + b + width) (t .high) la (λ q. ne (omega (arith, la, lb, q)))
+        (λ q. ne (omega (arith, la, lb, q)))
+        ∙ ap (λ (l : List ℕ). withRowIn l j a s) (table-put tables k b t lb)
+
 -- a row that is joined with a set
 pub table-join : (tables : List ℕ) (k a : ℕ) (s old new : Set) (out : List ℕ)
     → old ≡ rowAt (tableAt tables k) a → new ≡ those (λ b. mem old b or mem s b) → out ≡ withRowIn tables k a new
@@ -143,30 +184,85 @@ table-join tables k a s old new out ho hn h = h ∙ ap (withRowIn tables k a) (h
 
 pub ruleset placing = (word-past, word-put-past, table-row-is, table-row-above, table-put-is, table-put-above)
 
--- a loop that puts row after row
+pub length-rows-in : (tables : List ℕ) (k : ℕ) (rows : List ℕ) (i : ℕ) → length (withRowsIn tables k rows i) ≡ length tables
+unfolding withRowsIn
+length-rows-in tables k rows zero = refl
+length-rows-in tables k rows (suc i) = length-put-in (withRowsIn tables k rows i) k i (rowAt rows i) ∙ length-rows-in tables k rows i
+
+-- ---- a table is put word by word: the low words of all rows, then the high ones
+
+-- n words, put one after another from a place on
+unfoldable pub withWords : List ℕ → ℕ → (ℕ → ℕ) → ℕ → List ℕ
+withWords tables at f zero = tables
+withWords tables at f (suc n) = set (withWords tables at f n) (at + n) (f n)
+
+module _ (at : ℕ) (f : ℕ → ℕ) where
+  -- a word before them may as well be put first
+  words-past : (tables : List ℕ) (n i x : ℕ) → i < at → set (withWords tables at f n) i x ≡ withWords (set tables i x) at f n
+  unfolding withWords
+  words-past tables zero i x h = refl
+  words-past tables (suc n) i x h =
+      set-comm (withWords tables at f n) (at + n) i (f n) x (λ e. omega arith) ∙ ap (λ (q : List ℕ). set q (at + n) (f n)) (words-past tables n i x h)
+
+  words-more : (tables : List ℕ) (m n : ℕ) → withWords (withWords tables at f m) (at + m) (λ i. f (m + i)) n ≡ withWords tables at f (m + n)
+  unfolding withWords
+  words-more tables m zero = ap (withWords tables at f) (sym (add-zero m))
+  words-more tables m (suc n) =
+      (λ i. set (words-more tables m n i) (add-assoc at m n i) (f (m + n))) ∙ ap (withWords tables at f) (sym (add-suc m n))
+
+  length-words : (tables : List ℕ) (n : ℕ) → length (withWords tables at f n) ≡ length tables
+  unfolding withWords
+  length-words tables zero = refl
+  length-words tables (suc n) = length-set (withWords tables at f n) (at + n) (f n) ∙ length-words tables n
+
+-- the tables with the first n of these words in table k
+unfoldable pub withWordsIn : List ℕ → ℕ → List ℕ → ℕ → List ℕ
+withWordsIn tables k rows n = withWords tables (k * rowWords) (λ i. getD rows i 0) n
+
 module _ (tables : List ℕ) (k : ℕ) (rows : List ℕ) where
-  pub rows-begin : (held : List ℕ) → held ≡ tables → held ≡ withRowsIn tables k rows 0
-  unfolding withRowsIn
-  rows-begin held h = h
+  words-of-rows : (n : ℕ) → n ≤ width
+      → withRowsIn tables k rows n ≡ withWords (withWordsIn tables k rows n) (k * rowWords + width) (λ i. getD rows (width + i) 0) n
+  unfolding withRowsIn withWords withWordsIn
+  words-of-rows zero l = refl
+  words-of-rows (suc n) l =
+      let lows : List ℕ = withWordsIn tables k rows n in
+      let highs : ℕ → ℕ = λ i. getD rows (width + i) 0 in
+      let place : k * rowWords + n + width ≡ k * rowWords + width + n = omega arith in
+      (λ i. withRowIn (words-of-rows n (omega arith) i) k n (sym (row-in rows n l) i))
+      ∙ sym (table-put (withWords lows (k * rowWords + width) highs n) k n (record { low = getD rows n 0; high = getD rows (width + n) 0 }) l)
+      ∙ (λ i. set (words-past (k * rowWords + width) highs lows n (k * rowWords + n) (getD rows n 0) (omega arith) i) (place i) (highs n))
 
-  pub rows-next : (i : ℕ) (s : Set) (held out : List ℕ) → s ≡ rowAt rows i → held ≡ withRowsIn tables k rows i → out ≡ withRowIn held k i s
-      → out ≡ withRowsIn tables k rows (i + 1)
-  unfolding withRowsIn
-  rows-next i s held out hs hh ho =
-      ho ∙ (λ j. withRowIn (hh j) k i (hs j)) ∙ ap (withRowsIn tables k rows) (sym (add-one i))
+  pub words-begin : (held : List ℕ) → held ≡ tables → held ≡ withWordsIn tables k rows 0
+  unfolding withWords withWordsIn
+  words-begin held h = h
 
-  pub rows-end : (i : ℕ) (held : List ℕ) → width ≤ i → i ≤ width → held ≡ withRowsIn tables k rows i → held ≡ withTable tables k rows
-  rows-end i held l g h = let same : i ≡ width = omega arith in h ∙ ap (withRowsIn tables k rows) same
+  pub words-next : (i : ℕ) (held out : List ℕ) → held ≡ withWordsIn tables k rows i → out ≡ set held (k * rowWords + i) (getD rows i 0)
+      → out ≡ withWordsIn tables k rows (i + 1)
+  unfolding withWords withWordsIn
+  words-next i held out hh ho =
+      ho ∙ ap (λ (q : List ℕ). set q (k * rowWords + i) (getD rows i 0)) hh ∙ ap (withWordsIn tables k rows) (sym (add-one i))
 
-  length-rows-in : (i : ℕ) → length (withRowsIn tables k rows i) ≡ length tables
-  unfolding withRowsIn
-  length-rows-in zero = refl
-  length-rows-in (suc i) = length-put-in (withRowsIn tables k rows i) k i (rowAt rows i) ∙ length-rows-in i
+  pub words-end : (i : ℕ) (held : List ℕ) → rowWords ≤ i → i ≤ rowWords → held ≡ withWordsIn tables k rows i → held ≡ withTable tables k rows
+  unfolding withWordsIn
+  words-end i held l g h =
+      let same : i ≡ width + width = omega arith in
+      h
+      ∙ ap (withWordsIn tables k rows) same
+      ∙ sym (words-more (k * rowWords) (λ j. getD rows j 0) tables width width)
+      ∙ sym (words-of-rows width (omega arith))
 
-  pub rows-length : (i : ℕ) (held : List ℕ) → held ≡ withRowsIn tables k rows i → length held ≡ length tables
-  rows-length i held h = ap length h ∙ length-rows-in i
+  pub words-length : (i : ℕ) (held : List ℕ) → held ≡ withWordsIn tables k rows i → length held ≡ length tables
+  unfolding withWordsIn
+  words-length i held h = ap length h ∙ length-words (k * rowWords) (λ j. getD rows j 0) tables i
 
-pub ruleset putting = (rows-begin, rows-next, rows-end, rows-length)
+-- a table is taken word by word
+pub take-next : (tables : List ℕ) (k i x : ℕ) (held : List ℕ) → i < rowWords → held ≡ withWordsIn noRows 0 (tableAt tables k) i
+    → x ≡ getD tables (k * rowWords + i) 0 → set held i x ≡ withWordsIn noRows 0 (tableAt tables k) (i + 1)
+take-next tables k i x held l hh hx =
+    let place : i ≡ 0 * rowWords + i = omega arith in
+    words-next noRows 0 (tableAt tables k) i held (set held i x) hh (λ j. set held (place j) ((hx ∙ sym (read-at tables k 0 i l)) j))
+
+pub ruleset putting = (words-begin, words-next, words-end, words-length, take-next)
 
 -- ---- a relation's rows are one table
 

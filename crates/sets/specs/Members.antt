@@ -63,6 +63,11 @@ unfoldable pub leastBelow : ℕ → (ℕ → Bool) → ℕ
 leastBelow zero p = 0
 leastBelow (suc w) p = orNext (p 0) (leastBelow w (λ a. p (suc a)))
 
+-- one more than the greatest number below w that passes, or 0 where none does
+unfoldable pub endBelow : ℕ → (ℕ → Bool) → ℕ
+endBelow zero p = 0
+endBelow (suc w) p = when p w then suc w else endBelow w p
+
 -- the least member above a, or the width where there is none
 unfoldable pub nextAbove : Set → ℕ → ℕ
 nextAbove s a = leastBelow width (λ b. mem s b and ltb a b)

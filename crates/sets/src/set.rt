@@ -2,7 +2,7 @@
 ghost use mathlib.Core.Path.{_≡_};
 ghost use lib.Dec.{eqb, ltb};
 ghost use Rattle.sets.specs.Tests.{_and_, _or_, non};
-ghost use Rattle.sets.specs.Members.{width, mem, those, within, isEmpty, leastBelow, nextAbove, countBelow};
+ghost use Rattle.sets.specs.Members.{width, mem, those, within, isEmpty, leastBelow, endBelow, nextAbove, countBelow};
 use crate::activity::Activity;
 use crate::activity::WORD;
 
@@ -170,7 +170,33 @@ impl Set {
     pub fn next(self, a: Activity) -> Activity
         ensures { λ r. ⌜ r .0 ≡ nextAbove self (a .0) ⌝ }
     {
-        let up = self.difference(Set::below(a.0));
-        up.difference(Set::one(a)).least()
+        let n = a.0;
+        let low = self.low;
+        let high = self.high;
+        if n < WORD - 1 {
+            let up = low >> (n + 1);
+            if up != 0 {
+                return Activity(n + 1 + u64::trailing_zeros(up) as u8);
+            }
+            return Activity(WORD + u64::trailing_zeros(high) as u8);
+        }
+        if n < Activity::LIMIT - 1 {
+            let up = high >> (n - (WORD - 1));
+            if up != 0 {
+                return Activity(n + 1 + u64::trailing_zeros(up) as u8);
+            }
+        }
+        Activity(Activity::LIMIT)
+    }
+
+    // One more than the greatest member, 0 where there is none: where a walk up the activities can stop.
+    pub fn end(self) -> u8
+        ensures { λ r. ⌜ r ≡ endBelow width (mem self) ⌝ }
+    {
+        let high = self.high;
+        if high != 0 {
+            return Activity::LIMIT - u64::leading_zeros(high) as u8;
+        }
+        WORD - u64::leading_zeros(self.low) as u8
     }
 }

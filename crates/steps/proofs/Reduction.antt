@@ -1,6 +1,5 @@
 -- The transitive reduction, by loops over the members of a row: what is known of a row while its targets are judged and its middles are
 -- tried. Assumes nothing.
-use Rattle.sets.specs.Members.{noSet}
 use mathlib.Core.Path.{_≡_, refl, sym, ap, _∙_, subst}
 use mathlib.Core.Bool.{Bool, true, false, not}
 use mathlib.Core.Logic.{_⊎_, inl, inr}
@@ -8,16 +7,17 @@ use mathlib.Core.List.{List}
 use Prim.Native.Nat.{ℕ, zero, suc, _+_, _≤_, _<_, suc-le-suc}
 use native.Mathlib.Nat.{zero-lt-suc}
 use native.Mathlib.Omega.{arith}
-use borrow.Author.Tests.{not-true, not-false}
+use borrow.Author.Tests.{not-false}
 use lib.Dec.{T, eqb, eqb→eq, eqb-refl}
 use Rattle.sets.specs.Tests.{_and_, _or_, non}
-use Rattle.sets.specs.Members.{width, mem, those, isEmpty, digit, someBelow, countBelow, leastBelow}
+use Rattle.sets.specs.Members.{noSet, width, mem, those, isEmpty, digit, someBelow, countBelow, leastBelow}
 use Rattle.sets.specs.Rows.{rowAt, inRow}
 use Rattle.sets.specs.declared.set.Set.{Set}
-use Rattle.sets.proofs.Tests.{and-i, and-l, and-r, and-true, or-e, or-l, or-r, or-false, non-i, non-e, non-false, T-ext, T-eq, true→T, false→F, F→false, split, either}
+use Rattle.sets.proofs.Tests.{and-i, and-l, and-r, and-true, or-e, or-l, or-r, or-false, non-i, non-e, T-ext, T-eq, true→T, false→F, F→false, split, either}
 use Rattle.sets.proofs.Tautologies.{by3}
-use Rattle.sets.proofs.Below.{some-i, some-e, count-less, least-is, least-lt}
-use Rattle.sets.proofs.Members.{mem-none, none-those, those-ext, those-of, empty-e, empty-none}
+use Rattle.sets.proofs.Below.{some-i, some-e, count-less, least-is}
+use Rattle.sets.proofs.Members.{mem-none, none-those, those-ext, those-of, empty-e}
+use Rattle.sets.proofs.Passing.{least-low}
 use Rattle.sets.proofs.MadeSets.{is-those}
 use Rattle.steps.specs.Rowwise.{reducedOf}
 
@@ -48,8 +48,7 @@ count-fewer whole part t l h out f =
 least-in : (rest : Set) (a : ℕ) (r : Bool) → r ≡ isEmpty rest → not r ≡ true → a ≡ leastBelow width (mem rest) → (a < width)
     × T (mem rest a)
 least-in rest a r hr ht ha =
-    let some : T (someBelow width (mem rest)) = non-false _ (sym (empty-none rest) ∙ sym hr ∙ not-true r ht) in
-    let low : leastBelow width (mem rest) < width = least-lt width (mem rest) some in
+    let low = least-low rest _ r hr ht refl in
     (subst (λ (n : ℕ). n < width) (sym ha) low, subst (λ (n : ℕ). T (mem rest n)) (sym ha) (least-is width (mem rest) low))
 
 -- ---- the middles that are left
@@ -134,10 +133,6 @@ trying-first rows s t kept targets middles r hr hn ht h =
     let l = least-in targets t r hr hn ht in
     record { judging = h; low = l .0; here = l .1; part = λ a la m. m }
 
-apart : (a b c : Bool) → (a and non (b or c)) ≡ ((a and non b) and non c)
-unfolding _and_ _or_ non
-apart = by3 (λ a b c. a and non (b or c)) (λ a b c. (a and non b) and non c) tt
-
 -- a middle is tried: all targets that it joins go
 module _ (rows : List ℕ) (s t : ℕ) (kept targets₀ targets middles targets′ middles′ joined : Set) (u : ℕ) (r : Bool) (hr : r ≡ isEmpty middles)
     (hn : not r ≡ true) (hu : u ≡ leastBelow width (mem middles)) (hj : joined ≡ rowAt rows u)
@@ -154,7 +149,8 @@ module _ (rows : List ℕ) (s t : ℕ) (kept targets₀ targets middles targets�
             h .whole x l
             ∙ ap (λ (b : Bool). mem kept x or b)
             (ap (λ (b : Bool). mem targets x and non b) (joined-turn rows middles middles′ u r x hr hn hu hm)
-            ∙ apart (mem targets x) (mem (rowAt rows u) x) (joinedBy rows middles′ x)
+            ∙ by3 (λ a b c. a and non (b or c)) (λ a b c. a and non b and non c) (unfold _and_ _or_ non in tt) (mem targets x) (mem (rowAt rows u) x)
+            (joinedBy rows middles′ x)
             ∙ ap (λ (b : Bool). b and non (joinedBy rows middles′ x))
             (sym (stay x l ∙ ap (λ (w : Set). mem targets x and non (mem w x)) hj)));
         is-set = h .is-set;

@@ -1,5 +1,5 @@
 -- What excludes a target after steps 1 to 5: itself, and the smallest source of step 4's and of step 5's own pairs. Assumes nothing.
-use mathlib.Core.Path.{_≡_, refl, sym, ap, ap₂, _∙_, subst}
+use mathlib.Core.Path.{_≡_, sym, ap, ap₂, _∙_, subst}
 use mathlib.Core.Bool.{Bool, true, false, not}
 use mathlib.Core.List.{List}
 use Prim.Native.Nat.{ℕ, _<_}
@@ -39,20 +39,16 @@ smallest-is s one k hk ho =
     ho
     ∙ those-ext (λ b. eqb b k) (smallest (mem s))
     (λ a l.
-    T-ext (eqb a k) (mem s a and eqb a (leastBelow width (mem s)))
-    (λ t.
-    let same : a ≡ leastBelow width (mem s) = eqb→eq a k t ∙ hk in
-    and-i _ _ (subst (λ (n : ℕ). T (mem s n)) (sym same) (least-is width (mem s) (subst (λ (n : ℕ). n < width) same l)))
-    (subst (λ (n : ℕ). T (eqb a n)) hk t))
-    (λ t. subst (λ (n : ℕ). T (eqb a n)) (sym hk) (and-r _ _ t)))
+    ap (eqb a) hk
+    ∙ T-ext (eqb a (leastBelow width (mem s))) (mem s a and eqb a (leastBelow width (mem s)))
+    (λ t. let same = eqb→eq a (leastBelow width (mem s)) t in
+    and-i _ _ (subst (λ (n : ℕ). T (mem s n)) (sym same) (least-is width (mem s) (subst (λ (n : ℕ). n < width) same l))) t)
+    (λ t. and-r _ _ t))
 
--- of a set that is known
-smallest-of : (s u : Set) (p : ℕ → Bool) → s ≡ those p → u ≡ those (smallest (mem s)) → u ≡ those (smallest p)
+-- the least of two tests that agree
+pub smallest-as : (p q : ℕ → Bool) → ((a : ℕ) → a < width → p a ≡ q a) → (a : ℕ) → a < width → smallest p a ≡ smallest q a
 unfolding smallest
-smallest-of s u p hs hu =
-    hu
-    ∙ those-ext (smallest (mem s)) (smallest p)
-    (λ a l. ap₂ (λ (t : Bool) (n : ℕ). t and eqb a n) (is-those s p hs a l) (least-ext width (mem s) p (is-those s p hs)))
+smallest-as p q h a l = ap₂ (λ (b : Bool) (n : ℕ). b and eqb a n) (h a l) (least-ext width p q h)
 
 pub excluders-are : (events : Set) (before later chains : List ℕ) (a : ℕ) (itself : Bool) (sources four closed five own both r : Set)
     → itself ≡ excludesItself before chains a
@@ -62,13 +58,9 @@ pub excluders-are : (events : Set) (before later chains : List ℕ) (a : ℕ) (i
     → r ≡ those (excluders events before later chains a)
 unfolding excluders
 excluders-are events before later chains a itself sources four closed five own both r hi hs h4 hc h5 ho hb hr =
-    let step4 = smallest-of sources four (apart events before later a) hs h4 in
-    let step5 = smallest-of closed five (closing events itself before later a) hc h5 in
-    let two = joined _or_ own four both (λ x. itself and eqb x a) (smallest (apart events before later a))
-    (is-those own (λ x. itself and eqb x a) ho) (is-those four (smallest (apart events before later a)) step4) hb in
-    joined _or_ both five r (λ x. itself and eqb x a or smallest (apart events before later a) x)
-    (smallest (closing events itself before later a))
-    (is-those both (λ x. itself and eqb x a or smallest (apart events before later a) x) two)
-    (is-those five (smallest (closing events itself before later a)) step5) hr
+    let step4 = h4 ∙ those-ext _ _ (smallest-as (mem sources) _ (is-those sources _ hs)) in
+    let step5 = h5 ∙ those-ext _ _ (smallest-as (mem closed) _ (is-those closed _ hc)) in
+    let two = joined _or_ own four both _ _ (is-those own _ ho) (is-those four _ step4) hb in
+    joined _or_ both five r _ _ (is-those both _ two) (is-those five _ step5) hr
     ∙ ap (λ (b : Bool). those (λ x. b and eqb x a or smallest (apart events before later a) x
     or smallest (closing events b before later a) x)) hi

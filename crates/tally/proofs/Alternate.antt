@@ -3,38 +3,31 @@
 use mathlib.Core.Path.{_≡_, refl, sym, ap, _∙_}
 use mathlib.Core.Bool.{Bool, true, false}
 use mathlib.Core.List.{List, [], reverseAux}
-use Prim.Native.Nat.{ℕ, _+_, _*_, _≤_, _<_}
-use borrow.Author.Tests.{ltb-true, ltb-false}
+use Prim.Native.Nat.{ℕ, _<_}
+use borrow.Author.Tests.{lt-ltb}
 use lib.Dec.{T, ltb}
-use lib.ListN.{getD, set}
-use lib.Seq.{set-getD}
 use Rattle.sets.specs.Tests.{_and_, _or_, non, when_then_else_}
 use Rattle.sets.specs.Members.{width, mem, those, isEmpty}
-use Rattle.sets.specs.Rows.{rowAt, rowWords}
+use Rattle.sets.specs.Rows.{rowAt}
 use Rattle.sets.specs.Tables.{tableAt, withRowIn, gainedIn}
 use Rattle.sets.specs.declared.set.Set.{Set}
-use Rattle.sets.proofs.Tests.{T→true, F→false, true→T, T-eq, split, either}
+use Rattle.sets.proofs.Tests.{true→T, false→F, T-eq, either, neither, and-true}
 use Rattle.sets.proofs.Tautologies.{by3}
-use Rattle.sets.proofs.Members.{those-ext, those-of, mem-those, empty-e}
+use Rattle.sets.proofs.Members.{those-ext, those-of, empty-e}
 use Rattle.sets.proofs.MadeSets.{is-those}
-use Rattle.sets.proofs.TableLaws.{table-row, table-put, table-put-above}
+use Rattle.sets.proofs.TableLaws.{put-back}
 use Rattle.rules.specs.Traces.{_has_}
 use Rattle.tally.specs.Passes.{notedIn, notSince, reaches, cut}
-use Rattle.tally.specs.Tallies.{unalternatedTable, noteSinceIn, sinceBy}
-use Rattle.tally.proofs.Turns.{seenIn}
+use Rattle.tally.specs.Tallies.{unalternatedTable, noteSinceIn, looksBack, sinceBy}
+use Rattle.tally.proofs.Turns.{heldIn, not-held, noted-where}
 use Rattle.tally.proofs.Since.{since, since-all}
 
--- what the row lacks and is not met, joined to the row, is what is not met joined to it
-absorb : (a r n : Bool) → (a or (r and non a and n)) ≡ (a or (r and n))
-unfolding _and_ _or_ non
-absorb = by3 (λ a r n. a or (r and non a and n)) (λ a r n. a or (r and n)) tt
-
-module _ (wide : Bool) (tables : List ℕ) (k e : ℕ) (past : List ℕ) (seen : Set) (r : Bool) (hr : r ≡ mem seen e) (out : List ℕ) where
+module _ (wide : Bool) (tables : List ℕ) (k e : ℕ) (past : List ℕ) (seen : Set) (r : Bool) (hr : r ≡ looksBack wide seen e) (out : List ℕ) where
   abbrev old : ℕ → Bool
   old x = mem (rowAt (tableAt tables k) e) x
 
   abbrev choice : ℕ → Bool
-  choice x = when mem seen e then notSince e past [] x else non (mem seen x)
+  choice x = when looksBack wide seen e then notSince e past [] x else non (mem seen x)
 
   pub note-repeat : (row lacked wanted left : Set) → r ≡ true → row ≡ rowAt (tableAt tables k) e → lacked ≡ those (λ x. non (mem row x))
       → wanted ≡ those (λ x. reaches wide x and mem lacked x) → left ≡ those (λ x. mem wanted x and notSince e past [] x)
@@ -49,7 +42,7 @@ module _ (wide : Bool) (tables : List ℕ) (k e : ℕ) (past : List ℕ) (seen :
       ∙ ap (λ (s : Set). those (λ x. old x or (reaches wide x and non (mem s x) and notSince e past [] x))) hrow
       ∙ those-ext (λ x. old x or (reaches wide x and non (old x) and notSince e past [] x)) (λ x. old x or (reaches wide x and choice x))
       (λ x l.
-      absorb (old x) (reaches wide x) (notSince e past [] x)
+      by3 (λ a r n. a or (r and non a and n)) (λ a r n. a or (r and n)) (unfold _and_ _or_ non in tt) (old x) (reaches wide x) (notSince e past [] x)
       ∙ ap (λ (t : Bool). old x or (reaches wide x and (when t then notSince e past [] x else non (mem seen x)))) (sym ht ∙ hr)))
 
   pub note-first : (unseen others : Set) → r ≡ false → unseen ≡ those (λ x. non (mem seen x)) → others ≡ those (λ x. reaches wide x and mem unseen x)
@@ -63,17 +56,6 @@ module _ (wide : Bool) (tables : List ℕ) (k e : ℕ) (past : List ℕ) (seen :
       ∙ ap (λ (t : Bool). those (λ x. old x or (reaches wide x and (when t then notSince e past [] x else non (mem seen x))))) (sym ht ∙ hr))
 
 -- a row that has all gains nothing
-put-back : (tables : List ℕ) (k e : ℕ) → withRowIn tables k e (rowAt (tableAt tables k) e) ≡ tables
-put-back tables k e =
-    either (split (ltb e width))
-    (λ t.
-    let l = ltb-true e width (T→true _ t) in
-    ap (withRowIn tables k e) (sym (table-row tables k e l))
-    ∙ sym (table-put tables k e (record { low = getD tables (k * rowWords + e) 0; high = getD tables (k * rowWords + e + width) 0 }) l)
-    ∙ ap (λ (t : List ℕ). set t (k * rowWords + e + width) (getD tables (k * rowWords + e + width) 0)) (set-getD tables (k * rowWords + e) 0)
-    ∙ set-getD tables (k * rowWords + e + width) 0)
-    (λ f. sym (table-put-above tables k e _ (ltb-false e width (F→false _ f))))
-
 gains-none : (a g b : Bool) → (T (g and non a) → ⊥) → (a or (g and b)) ≡ a
 unfolding _and_ _or_ non
 gains-none true g b h = refl
@@ -96,39 +78,35 @@ note-full wide tables k e p row lacked wanted r whole hrow hk hw hr ht =
         empty-e wanted (true→T (sym hr ∙ ht)) x l
         (T-eq (sym (is-those wanted _ hw x l ∙ ap (λ (b : Bool). reaches wide x and b) (is-those lacked _ hk x l))) t)
 
+unheld : (r p : Bool) → (r and p) ≡ false → non r ≡ false → p ≡ false
+unfolding _and_ non
+unheld true p h n = h
+unheld false p h n = absurd (false→F n tt)
+
 -- either way the row gains the fact of the place
-module _ (wide : Bool) (tables : List ℕ) (e : ℕ) (σ rest : List ℕ) (seen : Set) (hs : seen ≡ seenIn (reverseAux σ [])) where
+module _ (wide : Bool) (tables : List ℕ) (e : ℕ) (σ rest : List ℕ) (seen : Set) (hs : seen ≡ heldIn wide (reverseAux σ [])) where
   abbrev past : List ℕ
   past = reverseAux σ []
 
-  member : (x : ℕ) → x < width → mem seen x ≡ past has x
-  member x l = ap (λ (s : Set). mem s x) hs ∙ mem-those (λ y. past has y) x l
+  member : (x : ℕ) → x < width → mem seen x ≡ (reaches wide x and past has x)
+  member = is-those seen (λ y. reaches wide y and past has y) hs
 
-  pick : (x : ℕ) → x < width → (t : Bool) → past has e ≡ t → (when t then non (since e x [] past) else non (mem seen x)) ≡ non (since e x [] past)
-  pick x l true q = refl
-  pick x l false q = ap non (member x l ∙ sym (since-all e x [] past none q))
-    where
-      none : [] has e ≡ false
-      none = unfold _has_ in refl
+  -- where it does not look back there is no e before
+  first : e < width → looksBack wide seen e ≡ false → past has e ≡ false
+  unfolding looksBack
+  first l q =
+      let two = neither (mem seen e) (non (reaches wide e) and ltb e width) q in
+      unheld (reaches wide e) (past has e) (sym (member e l) ∙ two .0)
+      (sym (and-true _) ∙ ap (λ (t : Bool). non (reaches wide e) and t) (sym (lt-ltb e width l)) ∙ two .1)
+
+  pick : (x : ℕ) → x < width → e < width → (t : Bool) → looksBack wide seen e ≡ t
+      → (reaches wide x and (when t then non (since e x [] past) else non (mem seen x))) ≡ (reaches wide x and non (since e x [] past))
+  pick x lx l true q = refl
+  pick x lx l false q =
+      ap (λ (t : Bool). reaches wide x and non t) (member x lx)
+      ∙ not-held (reaches wide x) (past has x)
+      ∙ ap (λ (t : Bool). reaches wide x and non t) (sym (since-all e x past (first l q)))
 
   pub since-is : sinceBy wide tables e σ seen ≡ noteSinceIn wide tables e past rest
-  unfolding sinceBy noteSinceIn notedIn cut notSince
-  since-is = either (split (ltb e width)) (λ l. inside (ltb-true e width (T→true _ l))) (λ g. outside (ltb-false e width (F→false _ g)))
-    where
-      k : ℕ
-      k = unalternatedTable
-
-      inside : e < width → withRowIn tables k e
-          (those (λ x. mem (rowAt (tableAt tables k) e) x or (reaches wide x and (when mem seen e then non (since e x [] past) else non (mem seen x)))))
-          ≡ withRowIn tables k e (those (λ x. mem (rowAt (tableAt tables k) e) x or (reaches wide x and non (since e x [] past))))
-      inside l =
-          ap (withRowIn tables k e)
-          (those-ext (λ x. mem (rowAt (tableAt tables k) e) x or (reaches wide x and (when mem seen e then non (since e x [] past) else non (mem seen x))))
-          (λ x. mem (rowAt (tableAt tables k) e) x or (reaches wide x and non (since e x [] past)))
-          (λ x lx. ap (λ (t : Bool). mem (rowAt (tableAt tables k) e) x or (reaches wide x and t))
-          (ap (λ (t : Bool). when t then non (since e x [] past) else non (mem seen x)) (member e l) ∙ pick x lx (past has e) refl)))
-
-      outside : width ≤ e → withRowIn tables k e
-          (those (λ x. mem (rowAt (tableAt tables k) e) x or (reaches wide x and (when mem seen e then non (since e x [] past) else non (mem seen x)))))
-          ≡ withRowIn tables k e (those (λ x. mem (rowAt (tableAt tables k) e) x or (reaches wide x and non (since e x [] past))))
-      outside g = sym (table-put-above tables k e _ g) ∙ table-put-above tables k e _ g
+  unfolding sinceBy noteSinceIn cut notSince
+  since-is = noted-where tables unalternatedTable e _ _ (λ l x lx. pick x lx l (looksBack wide seen e) refl)

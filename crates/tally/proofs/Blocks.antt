@@ -1,28 +1,29 @@
 -- A look back by blocks of eight places: a block without an e is passed at once, and what stands in a block stays true from place to place.
 -- Assumes nothing.
-use mathlib.Core.Path.{_≡_, refl, sym, ap, ap₂, subst, _∙_}
+use mathlib.Core.Path.{_≡_, refl, sym, ap, ap₂, _∙_}
 use mathlib.Core.Bool.{Bool, true, false, not}
-use mathlib.Core.Logic.{_⊎_, inl, inr}
-use mathlib.Core.List.{List, []}
-use Prim.Native.Nat.{ℕ, zero, suc, _+_, _*_, _/_, _-_, _≤_, _<_}
+use mathlib.Core.List.{List, [], _∷_}
+use Prim.Native.Nat.{ℕ, _+_, _*_, _/_, _-_, _≤_, _<_}
+use native.Mathlib.Numerals.{add-one}
 use native.Mathlib.Omega.{arith}
-use borrow.Author.Tests.{eq-eqb, ne-eqb, eqb-false}
-use lib.Dec.{T, eqb, eqb→eq}
-use lib.ListN.{length, getD, take, drop}
-use lib.Seq.{getD-take, length-take-le}
+use borrow.Author.Tests.{ne-eqb, ltb-true, ltb-false}
+use lib.Dec.{T, eqb, eqb→eq, ltb}
+use lib.ListN.{length, length-drop, getD, take, drop}
+use lib.Seq.{getD-take, getD-drop, length-take-le}
 use Rattle.sets.specs.Tests.{_and_, _or_, non}
 use Rattle.sets.specs.Members.{width, mem, those, isEmpty, someBelow}
 use Rattle.sets.specs.Rows.{Relation, rowAt, withRow, noRows, rowsOf}
 use Rattle.sets.specs.declared.set.Set.{Set}
-use Rattle.sets.proofs.Tests.{and-i, and-l, and-r, and-true, or-e, or-l, or-r, or-false, non-e, T-ext, T-eq, true→T, F→false, split, either}
-use Rattle.sets.proofs.Below.{some-i, some-e}
-use Rattle.sets.proofs.Members.{those-ext, those-of, mem-those}
-use Rattle.sets.proofs.MadeSets.{is-those}
+use Rattle.sets.proofs.Tests.{and-i, and-l, and-r, or-e, or-l, or-r, or-false, non-e, nor, not-non, T-ext, T-eq, T→true, true→T, F→false, eqb-of}
+use Rattle.sets.proofs.Tests.{split, either}
+use Rattle.sets.proofs.Below.{some-i, some-e, some-ext}
+use Rattle.sets.proofs.Members.{those-ext, those-of}
+use Rattle.sets.proofs.MadeSets.{Is, is-those, less}
 use Rattle.sets.proofs.RowLaws.{row-rowsOf, gain-rowsOf, rowsOf-ext, empty-rowsOf}
 use Rattle.rules.specs.Traces.{_has_}
-use Rattle.tally.specs.Passes.{notSince, inBlock, PassedTo}
-use Rattle.tally.proofs.Turns.{pastAt}
-use Rattle.tally.proofs.Since.{since, since-near, regroup, Looked, look-start, look-next}
+use Rattle.tally.specs.Passes.{inBlock}
+use Rattle.tally.proofs.Since.{regroup, Looked}
+use Rattle.tally.proofs.Somes.{eqb-sym, some-last}
 
 -- ---- whether a block is passed
 
@@ -33,142 +34,72 @@ stop-empty left b r hr ht = ap (λ (t : Bool). non t and b) (sym ht ∙ hr)
 pub stop-at : (left block : Set) (e : ℕ) (r h : Bool) → r ≡ isEmpty left → r ≡ false → h ≡ mem block e → not h
     ≡ (non (isEmpty left) and non (mem block e))
 unfolding _and_ non
-stop-at left block e r h hr hf hh = flip h ∙ ap₂ (λ (t u : Bool). non t and non u) (sym hf ∙ hr) hh
-  where
-    flip : (t : Bool) → not t ≡ non t
-    flip true = refl
-    flip false = refl
+stop-at left block e r h hr hf hh = not-non h ∙ ap₂ (λ (t u : Bool). non t and non u) (sym hf ∙ hr) hh
 
--- ---- places one after another
+-- ---- what stands from a place on
 
--- x stands at one of the n places from `low` on
-unfoldable pub between : List ℕ → ℕ → ℕ → ℕ → Bool
-between past low zero x = false
-between past low (suc n) x = eqb x (getD past (low + n) 0) or between past low n x
+has-some : (l : List ℕ) (x : ℕ) → l has x ≡ someBelow (length l) (λ p. eqb x (getD l p 0))
+unfolding _has_ someBelow
+has-some [] x = refl
+has-some (y ∷ l) x = ap (λ (t : Bool). eqb x y or t) (has-some l x)
 
-between-i : (past : List ℕ) (low n x p : ℕ) → low ≤ p → p < low + n → T (eqb x (getD past p 0)) → T (between past low n x)
-unfolding between
-between-i past low zero x p l h t = absurd (omega (arith, l, h))
-between-i past low (suc n) x p l h t =
-    either (split (eqb p (low + n)))
-    (λ q. or-l _ _ (subst (λ (k : ℕ). T (eqb x (getD past k 0))) (eqb→eq p (low + n) q) t))
-    (λ q. let apart = eqb-false p (low + n) (F→false _ q) in or-r _ _ (between-i past low n x p l (omega (arith, apart, h)) t))
+module _ (past : List ℕ) (i x : ℕ) where
+  from-i : (p : ℕ) → i ≤ p → p < length past → T (eqb x (getD past p 0)) → T (drop i past has x)
+  from-i p l h t =
+      let at : i + (p - i) ≡ p = omega arith in
+      T-eq (sym (has-some (drop i past) x)) (some-i (length (drop i past)) _ (p - i) (omega (arith, length-drop i past))
+      (T-eq (ap (eqb x) (sym (getD-drop i past (p - i) 0 ∙ ap (λ (n : ℕ). getD past n 0) at))) t))
 
-between-e : (past : List ℕ) (low n x : ℕ) → T (between past low n x) → (p : ℕ) × (low ≤ p) × (p < low + n) × T (eqb x (getD past p 0))
-unfolding between
-between-e past low zero x t = absurd t
-between-e past low (suc n) x t = go (or-e _ _ t) (between-e past low n x)
-  where
-    go : T (eqb x (getD past (low + n) 0)) ⊎ T (between past low n x)
-        → (T (between past low n x) → (p : ℕ) × (low ≤ p) × (p < low + n) × T (eqb x (getD past p 0)))
-        → (p : ℕ) × (low ≤ p) × (p < low + suc n) × T (eqb x (getD past p 0))
-    go (inl h) ih = (low + n, omega arith, omega arith, h)
-    go (inr h) ih = let r = ih h in (r .0, r .1, omega (arith, r .2), r .3)
-
--- n places without an e are passed
-look-places : (past : List ℕ) (e : ℕ) (wanted : Set) (low n : ℕ) (left left′ : Set) → Looked past e wanted left (low + n)
-    → (T (between past low n e) → ⊥) → left′ ≡ those (λ a. mem left a and non (between past low n a)) → Looked past e wanted left′ low
-unfolding between non
-look-places past e wanted low zero left left′ inv free h =
-    let same : left ≡ left′ = sym (h ∙ those-ext (λ a. mem left a and true) (mem left) (λ a l. and-true (mem left a)) ∙ inv .is-set) in
-    let here : low + 0 ≡ low = omega arith in
-    subst (λ (s : Set). Looked past e wanted s low) same (subst (λ (k : ℕ). Looked past e wanted left k) here inv)
-look-places past e wanted low (suc n) left left′ inv free h =
-    look-places past e wanted low n rest left′ step (λ t. free (or-r _ _ t))
-    (h ∙ those-ext (λ a. mem left a and non (eqb a (getD past (low + n) 0) or between past low n a))
-    (λ a. mem rest a and non (between past low n a))
-    (λ a l.
-    sym (regroup (mem left a) (eqb a (getD past (low + n) 0)) (between past low n a))
-    ∙ ap (λ (t : Bool). t and non (between past low n a))
-    (sym (mem-those (λ b. mem left b and non (mem one b)) a l
-    ∙ ap (λ (t : Bool). mem left a and non t) (mem-those (λ b. eqb b (getD past (low + n) 0)) a l)))))
-  where
-    one : Set
-    one = those (λ b. eqb b (getD past (low + n) 0))
-
-    rest : Set
-    rest = those (λ a. mem left a and non (mem one a))
-
-    upper : low + suc n ≡ low + n + 1
-    upper = omega arith
-
-    step : Looked past e wanted rest (low + n)
-    step =
-        look-next (low + n) (subst (λ (k : ℕ). Looked past e wanted left k) upper inv) rest one refl refl
-        (λ q. free (or-l _ _ (true→T (eq-eqb e (getD past (low + n) 0) (sym q)))))
+  from-e : T (drop i past has x) → (p : ℕ) × (i ≤ p) × (p < length past) × T (eqb x (getD past p 0))
+  from-e t =
+      let r = some-e (length (drop i past)) _ (T-eq (has-some (drop i past) x) t) in
+      (i + r .0, omega arith, omega (arith, length-drop i past), T-eq (ap (eqb x) (getD-drop i past (r .0) 0)) (r .2))
 
 -- ---- a block
 
--- a look back that comes to places up to `end`: no place from there on is of a block that begins before it
-pub record Passing (past : List ℕ) (e : ℕ) (wanted left : Set) (end : ℕ) : Type 0 where
-  pub looked : Looked past e wanted left end
-  pub whole : (p : ℕ) → p < length past → p / 8 * 8 < end → p < end
-
-pub passing-start : (past : List ℕ) (e : ℕ) (wanted : Set) (n : ℕ) → those (mem wanted) ≡ wanted → length past ≡ n
-    → Passing past e wanted wanted n
-passing-start past e wanted n h q =
-    subst (λ (k : ℕ). Passing past e wanted wanted k) q (record { looked = look-start past e wanted h; whole = λ p l b. l })
-
-module _ (past : List ℕ) (e : ℕ) (wanted left : Set) (end : ℕ) (inv : Passing past e wanted left end) (some : 0 < end) where
+module _ (past : List ℕ) (e : ℕ) (wanted left : Set) (end : ℕ) (inv : Looked past e wanted left end) (some : 0 < end) where
   abbrev j : ℕ
   j = (end - 1) / 8
 
-  reach : end ≤ length past
-  reach = inv .looked .reached
-
-  low : j * 8 < end
-  low = omega (arith, some)
-
-  upper : j * 8 + (end - j * 8) ≡ end
-  upper = omega (arith, low)
-
-  -- the block of the last place is what stands from its first place on
-  block-is : (x : ℕ) → inBlock past j x ≡ between past (j * 8) (end - j * 8) x
+  -- what stands from the block's first place on stands in the block or after it
+  block-is : (x : ℕ) → drop (j * 8) past has x ≡ (inBlock past j x or drop end past has x)
   unfolding inBlock
   block-is x =
       T-ext _ _
       (λ t.
-      let p = some-e (length past) _ t in
-      let same : p .0 / 8 ≡ j = eqb→eq (p .0 / 8) j (and-l _ _ (p .2)) in
-      let begun : p .0 / 8 * 8 < end = subst (λ (k : ℕ). k * 8 < end) (sym same) low in
-      let above : j * 8 ≤ p .0 = omega (arith, same) in
-      let here : p .0 < end = inv .whole (p .0) (p .1) begun in
-      between-i past (j * 8) (end - j * 8) x (p .0) above (subst (λ (k : ℕ). p .0 < k) (sym upper) here) (and-r _ _ (p .2)))
+      let p = from-e past (j * 8) x t in
+      either (split (ltb (p .0) end))
+      (λ q.
+      let near = ltb-true (p .0) end (T→true _ q) in
+      let same : p .0 / 8 ≡ j = omega (arith, near) in
+      or-l _ _ (some-i (length past) _ (p .0) (p .2) (and-i _ _ (eqb-of same) (p .3))))
+      (λ q. or-r _ _ (from-i past end x (p .0) (ltb-false (p .0) end (F→false _ q)) (p .2) (p .3))))
       (λ t.
-      let p = between-e past (j * 8) (end - j * 8) x t in
-      let here : p .0 < end = subst (λ (k : ℕ). p .0 < k) upper (p .2) in
-      let above : j * 8 ≤ p .0 = p .1 in
-      let same : p .0 / 8 ≡ j = omega (arith, here, above) in
-      let below : p .0 < length past = omega (arith, here, reach) in
-      some-i (length past) _ (p .0) below (and-i _ _ (true→T (eq-eqb (p .0 / 8) j same)) (p .3)))
+      either (or-e _ _ t)
+      (λ b.
+      let p = some-e (length past) _ b in
+      let same : p .0 / 8 ≡ j = eqb→eq (p .0 / 8) j (and-l _ _ (p .2)) in
+      from-i past (j * 8) x (p .0) (omega (arith, same)) (p .1) (and-r _ _ (p .2)))
+      (λ b. let p = from-e past end x b in from-i past (j * 8) x (p .0) (omega arith) (p .2) (p .3)))
 
-  pub passing-next : (blocks : List ℕ) (block left′ : Set) (r : Bool) → j < width → e < width → blocks ≡ rowsOf (inBlock past)
+  pub look-block : (blocks : List ℕ) (block left′ : Set) (r : Bool) → j < width → e < width → blocks ≡ rowsOf (inBlock past)
       → block ≡ rowAt blocks j → r ≡ (non (isEmpty left) and non (mem block e)) → r ≡ true
-      → left′ ≡ those (λ a. mem left a and non (mem block a)) → Passing past e wanted left′ (j * 8)
-  passing-next blocks block left′ r lj le hb hk hr ht hl =
+      → left′ ≡ those (λ a. mem left a and non (mem block a)) → Looked past e wanted left′ (j * 8)
+  look-block blocks block left′ r lj le hb hk hr ht hl =
       record {
-        looked =
-            look-places past e wanted (j * 8) (end - j * 8) left left′ (subst (λ (k : ℕ). Looked past e wanted left k) (sym upper) (inv .looked))
-            (λ t. non-e (mem block e) (and-r _ _ (true→T (sym hr ∙ ht))) (T-eq (sym (is e le)) t))
-            (hl ∙ those-ext (λ a. mem left a and non (mem block a)) (λ a. mem left a and non (between past (j * 8) (end - j * 8) a))
-            (λ a l. ap (λ (t : Bool). mem left a and non t) (is a l)));
-        whole = λ p l b. omega (arith, b);
+        reached = omega (arith, inv .reached);
+        unseen =
+            block-is e
+            ∙ nor _ _ (F→false _ (λ t. non-e (mem block e) (and-r _ _ (true→T (sym hr ∙ ht))) (T-eq (sym (is e le)) t))) (inv .unseen);
+        left-is =
+            less left block left′ _ _ (is-those left _ (inv .left-is)) is hl
+            ∙ those-ext (λ x. mem wanted x and non (drop end past has x) and non (inBlock past j x))
+            (λ x. mem wanted x and non (drop (j * 8) past has x))
+            (λ x l. regroup (mem wanted x) (drop end past has x) (inBlock past j x) ∙ ap (λ (t : Bool). mem wanted x and non t) (sym (block-is x)));
       }
     where
-      is : (x : ℕ) → x < width → mem block x ≡ between past (j * 8) (end - j * 8) x
-      is x l =
-          is-those block (inBlock past j) (hk ∙ ap (λ (rows : List ℕ). rowAt rows j) hb ∙ row-rowsOf (inBlock past) j lj) x l
-          ∙ block-is x
-
--- where it stops, what is left is to be looked for before it
-pub passing-stop : (past : List ℕ) (e : ℕ) (wanted left : Set) (end : ℕ) → Passing past e wanted left end → PassedTo past e wanted left end
-unfolding notSince _has_
-passing-stop past e wanted left end inv = (
-  inv .looked .reached,
-  those-ext (λ x. mem left x and non (since e x [] (pastAt past end))) (λ x. mem left x and non (since e x (drop end past) (pastAt past end)))
-      (λ x l. ap (λ (t : Bool). mem left x and non t) (since-near e x [] (drop end past) (pastAt past end) refl (inv .looked .unseen)))
-      ∙ inv .looked .whole,
-)
+      is : Is block (inBlock past j)
+      is = is-those block (inBlock past j) (hk ∙ ap (λ (rows : List ℕ). rowAt rows j) hb ∙ row-rowsOf (inBlock past) j lj)
 
 -- ---- a place is put down
 
@@ -193,45 +124,20 @@ pub blocks-none : noRows ≡ rowsOf (inBlock [])
 unfolding inBlock someBelow
 blocks-none = empty-rowsOf (inBlock []) (λ j x lj lx. refl)
 
+block-taken : (σ : List ℕ) (i j x : ℕ) → i ≤ length σ → inBlock (take i σ) j x ≡ someBelow i (λ p. eqb (p / 8) j and eqb x (getD σ p 0))
+unfolding inBlock
+block-taken σ i j x h =
+    ap (λ (n : ℕ). someBelow n (λ p. eqb (p / 8) j and eqb x (getD (take i σ) p 0))) (length-take-le i σ h)
+    ∙ some-ext i _ _ (λ p l. ap (λ (y : ℕ). eqb (p / 8) j and eqb x y) (getD-take i σ p 0 l))
+
 pub blocks-next : (σ : List ℕ) (i : ℕ) → i < length σ
     → rowsOf (λ j x. inBlock (take i σ) j x or eqb j (length (take i σ) / 8) and eqb x (getD σ i 0)) ≡ rowsOf (inBlock (take (i + 1) σ))
-unfolding inBlock
 blocks-next σ i h =
+    let upto : i ≤ length σ = omega arith in
     rowsOf-ext _ _
     (λ j x lj lx.
-    T-ext _ _
-    (λ t. go j x (or-e _ _ t))
-    (λ t.
-    let p = some-e (length (take (i + 1) σ)) _ t in
-    let near : p .0 < i + 1 = subst (λ (n : ℕ). p .0 < n) long (p .1) in
-    let here : T (eqb x (getD σ (p .0) 0)) = subst (λ (n : ℕ). T (eqb x n)) (getD-take (i + 1) σ (p .0) 0 near) (and-r _ _ (p .2)) in
-    either (split (eqb (p .0) i))
-    (λ q. let same = eqb→eq (p .0) i q in
-    or-r _ _ (and-i _ _ (true→T (eq-eqb j (length (take i σ) / 8) (sym (eqb→eq (p .0 / 8) j (and-l _ _ (p .2))) ∙ ap (λ (n : ℕ). n / 8) (same ∙ sym short))))
-    (subst (λ (n : ℕ). T (eqb x (getD σ n 0))) same here)))
-    (λ q.
-    let apart = eqb-false (p .0) i (F→false _ q) in
-    let before : p .0 < i = omega (arith, apart, near) in
-    or-l _ _ (some-i (length (take i σ)) _ (p .0) (subst (λ (n : ℕ). p .0 < n) (sym short) before)
-    (and-i _ _ (and-l _ _ (p .2)) (subst (λ (n : ℕ). T (eqb x n)) (sym (getD-take i σ (p .0) 0 before)) here))))))
-  where
-    short : length (take i σ) ≡ i
-    short = length-take-le i σ (omega (arith, h))
-
-    long : length (take (i + 1) σ) ≡ i + 1
-    long = length-take-le (i + 1) σ (omega (arith, h))
-
-    go : (j x : ℕ) → T (someBelow (length (take i σ)) (λ p. eqb (p / 8) j and eqb x (getD (take i σ) p 0)))
-        ⊎ T (eqb j (length (take i σ) / 8) and eqb x (getD σ i 0))
-        → T (someBelow (length (take (i + 1) σ)) (λ p. eqb (p / 8) j and eqb x (getD (take (i + 1) σ) p 0)))
-    go j x (inl t) =
-        let p = some-e (length (take i σ)) _ t in
-        let before : p .0 < i = subst (λ (n : ℕ). p .0 < n) short (p .1) in
-        let near : p .0 < i + 1 = omega (arith, before) in
-        some-i (length (take (i + 1) σ)) _ (p .0) (subst (λ (n : ℕ). p .0 < n) (sym long) near)
-        (and-i _ _ (and-l _ _ (p .2)) (subst (λ (n : ℕ). T (eqb x n)) (getD-take i σ (p .0) 0 before ∙ sym (getD-take (i + 1) σ (p .0) 0 near)) (and-r _ _ (p .2))))
-    go j x (inr t) =
-        let near : i < i + 1 = omega arith in
-        let same : i / 8 ≡ j = sym (eqb→eq j (length (take i σ) / 8) (and-l _ _ t) ∙ ap (λ (n : ℕ). n / 8) short) in
-        some-i (length (take (i + 1) σ)) _ i (subst (λ (n : ℕ). i < n) (sym long) near)
-        (and-i _ _ (true→T (eq-eqb (i / 8) j same)) (subst (λ (n : ℕ). T (eqb x n)) (sym (getD-take (i + 1) σ i 0 near)) (and-r _ _ t)))
+    ap₂ _or_ (block-taken σ i j x upto)
+    (ap (λ (n : ℕ). eqb j (n / 8) and eqb x (getD σ i 0)) (length-take-le i σ upto) ∙ ap (λ (t : Bool). t and eqb x (getD σ i 0)) (eqb-sym j (i / 8)))
+    ∙ sym (block-taken σ (i + 1) j x (omega arith)
+    ∙ ap (λ (n : ℕ). someBelow n (λ p. eqb (p / 8) j and eqb x (getD σ p 0))) (add-one i)
+    ∙ some-last i (λ p. eqb (p / 8) j and eqb x (getD σ p 0))))

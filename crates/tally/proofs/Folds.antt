@@ -1,16 +1,22 @@
 -- A pass over a trace, and over all traces, puts into row a what some place of a says: in either order of the places. Assumes nothing.
-use mathlib.Core.Path.{_≡_, refl, sym, ap, _∙_}
+use mathlib.Core.Path.{_≡_, refl, sym, ap, _∙_, subst}
 use mathlib.Core.Bool.{Bool, true, false}
 use mathlib.Core.List.{List, [], _∷_}
 use Prim.Native.Nat.{ℕ}
-use borrow.Author.Tests.{eqb-true}
-use lib.Dec.{eqb}
+use lib.Dec.{T, eqb, eqb→eq}
 use Rattle.sets.specs.Tests.{_and_, _or_}
 use Rattle.sets.specs.Rows.{Relation, noRows, rowsOf}
-use Rattle.sets.proofs.Tests.{or-assoc, or-comm, or-false, false-or, false-and}
+use Rattle.sets.proofs.Tests.{and-i, and-l, and-r, or-assoc, or-comm, or-false, false-or, T-ext}
 use Rattle.sets.proofs.RowLaws.{rowsOf-ext, gain-rowsOf, empty-rowsOf}
 use Rattle.rules.specs.Traces.{Traces, atSomeFrom, atSome, someTrace}
-use Rattle.tally.specs.Passes.{Fact, gained, gains, forward, backward, through}
+use Rattle.tally.specs.Passes.{Fact, gained, gains, forward, backward, through, reaches, cut}
+
+-- of two that are the same it may be said of either
+pub at-same : (a e : ℕ) (f : ℕ → Bool) → (eqb a e and f e) ≡ (eqb a e and f a)
+at-same a e f =
+    T-ext _ _
+    (λ t. and-i _ _ (and-l _ _ t) (subst (λ (n : ℕ). T (f n)) (sym (eqb→eq a e (and-l _ _ t))) (and-r _ _ t)))
+    (λ t. and-i _ _ (and-l _ _ t) (subst (λ (n : ℕ). T (f n)) (eqb→eq a e (and-l _ _ t)) (and-r _ _ t)))
 
 module _ (p : Fact) where
   -- what the places of a say, in the rest of a trace
@@ -22,14 +28,6 @@ module _ (p : Fact) where
   unfolding gains gained
   gains-rowsOf r e past rest = gain-rowsOf r e (p e past rest)
 
-  at-e : (a e : ℕ) (past rest : List ℕ) (x : ℕ) → (eqb a e and p e past rest x) ≡ (eqb a e and p a past rest x)
-  at-e a e past rest x = pick (eqb a e) refl
-    where
-      pick : (t : Bool) → eqb a e ≡ t → (eqb a e and p e past rest x) ≡ (eqb a e and p a past rest x)
-      pick true h = ap (λ (n : ℕ). eqb a e and p n past rest x) (sym (eqb-true a e h))
-      pick false h = ap (λ (t : Bool). t and p e past rest x) h ∙ false-and _ ∙ sym (false-and _)
-          ∙ ap (λ (t : Bool). t and p a past rest x) (sym h)
-
   pub forward-rowsOf : (r : Relation) (past rest : List ℕ) → forward (gains p) (rowsOf r) past rest
       ≡ rowsOf (λ a x. r a x or said past rest a x)
   unfolding forward atSomeFrom
@@ -40,7 +38,7 @@ module _ (p : Fact) where
       ∙ rowsOf-ext (λ a x. r a x or eqb a e and p e past rest x or said (e ∷ past) rest a x) (λ a x. r a x or said past (e ∷ rest) a x)
       (λ a x ha hx.
       or-assoc (r a x) (eqb a e and p e past rest x) (said (e ∷ past) rest a x)
-      ∙ ap (λ (b : Bool). r a x or (b or said (e ∷ past) rest a x)) (at-e a e past rest x))
+      ∙ ap (λ (b : Bool). r a x or (b or said (e ∷ past) rest a x)) (at-same a e (λ n. p n past rest x)))
 
   pub backward-rowsOf : (r : Relation) (past rest : List ℕ) → backward (gains p) (rowsOf r) past rest
       ≡ rowsOf (λ a x. r a x or said past rest a x)
@@ -53,11 +51,16 @@ module _ (p : Fact) where
       (λ a x ha hx.
       or-assoc (r a x) (said (e ∷ past) rest a x) (eqb a e and p e past rest x)
       ∙ ap (λ (b : Bool). r a x or b) (or-comm (said (e ∷ past) rest a x) (eqb a e and p e past rest x))
-      ∙ ap (λ (b : Bool). r a x or (b or said (e ∷ past) rest a x)) (at-e a e past rest x))
+      ∙ ap (λ (b : Bool). r a x or (b or said (e ∷ past) rest a x)) (at-same a e (λ n. p n past rest x)))
 
   -- what some trace says
   abbrev pub heard : Traces → Relation
   heard L a x = someTrace L (atSome a (λ q s. p a q s x))
+
+-- what is heard in a form of what the form can hold
+pub heard-in : (wide : Bool) (p : Fact) (L : Traces) (a x : ℕ) → reaches wide x ≡ true → heard (cut wide p) L a x ≡ heard p L a x
+unfolding cut _and_
+heard-in wide p L a x h = ap (λ (b : Bool). someTrace L (atSome a (λ q s. b and p a q s x))) h
 
 -- one pass after another, over all traces: `pass` takes rows and a trace
 module _ (p : Fact) (pass : List ℕ → List ℕ → List ℕ)

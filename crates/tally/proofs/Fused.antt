@@ -2,52 +2,20 @@
 use mathlib.Core.Path.{_≡_, refl, sym, ap, _∙_}
 use mathlib.Core.Bool.{Bool}
 use mathlib.Core.List.{List, [], _∷_}
-use Prim.Native.Nat.{ℕ, _+_, _*_, _<_}
+use Prim.Native.Nat.{ℕ}
 use native.Mathlib.Omega.{arith}
-use borrow.Author.Tests.{ltb-true, ltb-false}
-use lib.Dec.{ltb}
-use lib.ListN.{set}
-use lib.Seq.{set-comm}
 use Rattle.sets.specs.Tests.{_or_}
-use Rattle.sets.specs.Members.{width, mem, those}
-use Rattle.sets.specs.Rows.{rowAt, rowWords}
+use Rattle.sets.specs.Members.{mem, those}
+use Rattle.sets.specs.Rows.{rowAt}
 use Rattle.sets.specs.Tables.{tableAt, withRowIn}
 use Rattle.sets.specs.declared.set.Set.{Set}
-use Rattle.sets.proofs.Tests.{T→true, F→false, split, either}
-use Rattle.sets.proofs.TableLaws.{table-put, table-put-above, table-put-other}
+use Rattle.sets.proofs.Tests.{either}
+use Rattle.sets.proofs.TableLaws.{put-comm, table-put-other}
 use Rattle.tally.specs.Passes.{Turn, notedIn, forward, cut, isEarlier, notEarlier, notDirectly, notSince}
 use Rattle.tally.specs.Tallies.{beforeTable, unprecededTable, unchainedTable, unalternatedTable, notePastIn, noteSinceIn, pastBy}
 use Rattle.tally.specs.Tallies.{sinceBy}
 
 -- ---- puts into different tables, in either order
-
-put-comm : (tables : List ℕ) (j k a b : ℕ) (s t : Set) → (j ≡ k → ⊥) → withRowIn (withRowIn tables j a s) k b t
-    ≡ withRowIn (withRowIn tables k b t) j a s
-put-comm tables j k a b s t ne =
-    either (split (ltb a width))
-    (λ x. either (split (ltb b width)) (λ y. both (ltb-true a width (T→true _ x)) (ltb-true b width (T→true _ y)))
-    (λ y. let g = ltb-false b width (F→false _ y) in sym (table-put-above (withRowIn tables j a s) k b t g)
-    ∙ ap (λ (l : List ℕ). withRowIn l j a s) (table-put-above tables k b t g)))
-    (λ x. let g = ltb-false a width (F→false _ x) in ap (λ (l : List ℕ). withRowIn l k b t) (sym (table-put-above tables j a s g))
-    ∙ table-put-above (withRowIn tables k b t) j a s g)
-  where
-    -- one word, put before a row of another table or after it
-    one-word : (l : List ℕ) (i x : ℕ) → a < width → (j * rowWords + a ≡ i → ⊥) → (j * rowWords + a + width ≡ i → ⊥)
-        → set (withRowIn l j a s) i x ≡ withRowIn (set l i x) j a s
-    one-word l i x la low high =
-        ap (λ (q : List ℕ). set q i x) (sym (table-put l j a s la))
-        ∙ set-comm (set l (j * rowWords + a) (s .low)) (j * rowWords + a + width) i (s .high) x high
-        ∙ ap (λ (q : List ℕ). set q (j * rowWords + a + width) (s .high)) (set-comm l (j * rowWords + a) i (s .low) x low)
-        ∙ table-put (set l i x) j a s la
-
-    both : a < width → b < width → withRowIn (withRowIn tables j a s) k b t ≡ withRowIn (withRowIn tables k b t) j a s
-    both la lb =
-        sym (table-put (withRowIn tables j a s) k b t lb)
-        ∙ ap (λ (l : List ℕ). set l (k * rowWords + b + width) (t .high))
-        (one-word tables (k * rowWords + b) (t .low) la (λ q. ne (omega (arith, la, lb, q))) (λ q. ne (omega (arith, la, lb, q))))
-        ∙ one-word (set tables (k * rowWords + b) (t .low)) (k * rowWords + b + width) (t .high) la (λ q. ne (omega (arith, la, lb, q)))
-        (λ q. ne (omega (arith, la, lb, q)))
-        ∙ ap (λ (l : List ℕ). withRowIn l j a s) (table-put tables k b t lb)
 
 noted-comm : (tables : List ℕ) (j k a b : ℕ) (p q : ℕ → Bool) → (j ≡ k → ⊥) → notedIn (notedIn tables j a p) k b q
     ≡ notedIn (notedIn tables k b q) j a p

@@ -6,13 +6,14 @@ use Prim.Native.Nat.{ℕ, _+_, _-_, _≤_, _<_}
 use native.Mathlib.Omega.{arith}
 use lib.Dec.{eqb}
 use lib.ListN.{length, getD, drop}
+use lib.Seq.{drop-length}
 use Rattle.sets.specs.Tests.{_or_}
 use Rattle.sets.specs.Members.{mem, those, noSet}
 use Rattle.sets.specs.declared.set.Set.{Set}
 use Rattle.rules.specs.Traces.{_beginsWith_}
 use Rattle.tally.specs.Passes.{backward}
 use Rattle.tally.specs.Tallies.{noteRestIn, restBy}
-use Rattle.tally.proofs.Turns.{pastAt, rest-next, rest-none, seenIn, lastIn, seen-more, seen-none, last-none, rest-is}
+use Rattle.tally.proofs.Turns.{pastAt, rest-next, seenIn, lastIn, seen-more, seen-none, last-none, rest-is}
 use Rattle.tally.proofs.Turns.{backward-start, backward-next}
 
 -- the tally is that of the pass over what was passed of the trace; `after` and `next` are the sets of what stands after the place and
@@ -27,8 +28,8 @@ pub start : (wide : Bool) (σ t : List ℕ) → Passed wide σ t t noSet noSet (
 start wide σ t =
     record {
       reached = omega arith;
-      after-is = seen-none ∙ ap seenIn (sym (rest-none σ));
-      next-is = last-none ∙ ap lastIn (sym (rest-none σ));
+      after-is = seen-none ∙ ap seenIn (sym (drop-length σ));
+      next-is = last-none ∙ ap lastIn (sym (drop-length σ));
       so-far = backward-start (noteRestIn wide) σ t;
     }
 

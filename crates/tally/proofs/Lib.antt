@@ -1,5 +1,6 @@
 -- The modules of `proofs/` that belong to no one function.
 pub mod Turns
+pub mod Somes
 pub mod Folds
 pub mod Since
 pub mod Blocks
@@ -9,6 +10,4 @@ pub mod Onward
 pub mod Homeward
 pub mod Walks
 pub mod LogLaws
-pub mod Heard
-pub mod WholeForm
 pub mod Tallying

@@ -1,14 +1,14 @@
 -- What the rules ask of a log, in other words: what every place has, some place lacks; two activities stand together where one stands
 -- before the other. Assumes nothing.
 use mathlib.Core.Path.{_≡_, refl, sym, ap, ap₂, _∙_}
-use mathlib.Core.Bool.{Bool, true, false}
+use mathlib.Core.Bool.{Bool, false}
 use mathlib.Core.List.{List, [], _∷_}
 use Prim.Native.Nat.{ℕ}
-use lib.Dec.{T, eqb, eqb→eq}
+use lib.Dec.{eqb, eqb→eq}
 use Rattle.sets.specs.Tests.{_and_, _or_, non}
-use Rattle.sets.proofs.Tests.{and-l, and-r, or-e, or-l, or-r, either, non-and, F→false, false→F, or-true}
-use Rattle.rules.specs.Traces.{Traces, _has_, atEachFrom, atSomeFrom, everyTrace, someTrace}
-use Rattle.rules.specs.Mining.{event, atMostOnce, before, together, between}
+use Rattle.sets.proofs.Tests.{and-l, and-r, and-comm, non-non, non-and, and-false, or-false, F→false}
+use Rattle.rules.specs.Traces.{Traces, _has_, _beginsWith_, atEachFrom, atEach, atSomeFrom, atSome, everyTrace, someTrace}
+use Rattle.rules.specs.Mining.{atMostOnce, before, together}
 use Rattle.sets.proofs.Tautologies.{by2, by4, by5}
 
 -- ---- every and some, of places and of traces
@@ -35,14 +35,21 @@ unfolding someTrace
 some-ext [] p q h = refl
 some-ext (σ ∷ L) p q h = ap₂ _or_ (h σ) (some-ext L p q h)
 
-or-swap : (a b c d : Bool) → (a or b or (c or d)) ≡ (a or c or (b or d))
-unfolding _and_ _or_ non
-or-swap = by4 (λ a b c d. a or b or (c or d)) (λ a b c d. a or c or (b or d)) tt
-
 pub some-or : (L : Traces) (p q : List ℕ → Bool) → someTrace L (λ σ. p σ or q σ) ≡ (someTrace L p or someTrace L q)
-unfolding someTrace _or_
+unfolding someTrace _and_ _or_ non
 some-or [] p q = refl
-some-or (σ ∷ L) p q = ap (λ (t : Bool). p σ or q σ or t) (some-or L p q) ∙ or-swap (p σ) (q σ) (someTrace L p) (someTrace L q)
+some-or (σ ∷ L) p q =
+    ap (λ (t : Bool). p σ or q σ or t) (some-or L p q)
+    ∙ by4 (λ a b c d. a or b or (c or d)) (λ a b c d. a or c or (b or d)) tt (p σ) (q σ) (someTrace L p) (someTrace L q)
+
+-- not at each place is at some place not
+pub non-every : (t : ℕ) (p : List ℕ → List ℕ → Bool) (L : Traces) → non (everyTrace L (atEach t p))
+    ≡ someTrace L (atSome t (λ q s. non (p q s)))
+non-every t p L =
+    (λ i. non (everyTrace L (atEach t (λ q s. sym (non-non (p q s)) i))))
+    ∙ ap non
+    (every-non L (atSome t (λ q s. non (p q s))) (atEach t (λ q s. non (non (p q s)))) (λ σ. each-non t (λ q s. non (p q s)) [] σ))
+    ∙ non-non (someTrace L (atSome t (λ q s. non (p q s))))
 
 -- ---- step 1: at most once is never before itself
 
@@ -54,89 +61,54 @@ once L s =
 
 -- ---- step 4: together is before, one way or the other
 
--- what stood before the start stands before every place
-from-past : (et es ps st a : Bool) → (et and ps or ((es or ps) and st or a))
-    ≡ (ps and (et or st) or (et and false or ((es or false) and st or a)))
-unfolding _and_ _or_ non
-from-past =
-    by5 (λ et es ps st a. et and ps or ((es or ps) and st or a))
-    (λ et es ps st a. ps and (et or st) or (et and false or ((es or false) and st or a))) tt
+-- a pair is met at its second place with the first behind it, or it was open before, or it is met from its first place on
+module _ (s t : ℕ) where
+  pub later-from : (past rest : List ℕ)
+      → atSomeFrom t (λ q r. q has s) past rest ≡ (past has s and rest has t or atSomeFrom s (λ q r. r has t) past rest)
+  unfolding atSomeFrom _has_
+  later-from past [] = sym (or-false _ ∙ and-false (past has s))
+  later-from past (x ∷ rest) =
+      ap (λ (b : Bool). eqb t x and past has s or b) (later-from (x ∷ past) rest)
+      ∙ by5 (λ e p m r a. e and p or ((m or p) and r or a)) (λ e p m r a. p and (e or r) or (m and r or a)) (unfold _and_ _or_ non in tt)
+      (eqb t x) (past has s) (eqb s x) (rest has t) (atSomeFrom s (λ q r. r has t) (x ∷ past) rest)
 
-none-left : (ps : Bool) → false ≡ (ps and false or false)
-unfolding _and_ _or_
-none-left true = refl
-none-left false = refl
+  pub later-all : (σ : List ℕ) → atSome t (λ q r. q has s) σ ≡ atSome s (λ q r. r has t) σ
+  unfolding _and_ _or_ _has_
+  later-all σ = later-from [] σ
 
--- s stands before some t of the trace, after this past
-abbrev preceded : ℕ → ℕ → List ℕ → List ℕ → Bool
-preceded s t past σ = atSomeFrom t (λ q r. q has s) past σ
+  pub next-from : (past rest : List ℕ)
+      → atSomeFrom t (λ q r. q beginsWith s) past rest
+      ≡ (past beginsWith s and rest beginsWith t or atSomeFrom s (λ q r. r beginsWith t) past rest)
+  unfolding atSomeFrom _beginsWith_
+  next-from past [] = sym (or-false _ ∙ and-false (past beginsWith s))
+  next-from past (x ∷ rest) = ap₂ _or_ (and-comm (eqb t x) (past beginsWith s)) (next-from (x ∷ past) rest)
 
-preceded-from : (s t : ℕ) (past σ : List ℕ) → preceded s t past σ ≡ (past has s and σ has t or preceded s t [] σ)
-unfolding atSomeFrom _has_
-preceded-from s t past [] = none-left (past has s)
-preceded-from s t past (x ∷ σ) =
-    ap (λ (b : Bool). eqb t x and past has s or b) (preceded-from s t (x ∷ past) σ)
-    ∙ from-past (eqb t x) (eqb s x) (past has s) (σ has t) (preceded s t [] σ)
-    ∙ ap (λ (b : Bool). past has s and (eqb t x or σ has t) or (eqb t x and false or b)) (sym (preceded-from s t (x ∷ []) σ))
+pub before-later : (L : Traces) (a x : ℕ) → someTrace L (atSome a (λ q r. r has x)) ≡ before L a x
+unfolding before
+before-later L a x = some-ext L (atSome a (λ q r. r has x)) (atSome x (λ q r. q has a)) (λ σ. sym (later-all a x σ))
 
--- two that are not the same stand in a trace where one stands before the other
+-- of two that are not the same one stands first
 both-ways : (es et hs ht b c : Bool) → (es and et) ≡ false → (hs and ht) ≡ (b or c)
-    → ((es or hs) and (et or ht)) ≡ (et and false or ((es or false) and ht or b) or (es and false or ((et or false) and hs or c)))
-unfolding _and_ _or_
-both-ways true true hs ht b c d h = absurd (false→F d tt)
-both-ways true false true true b c d h = refl
-both-ways true false true false b c d h = h
-both-ways true false false true b c d h = refl
-both-ways true false false false b c d h = h
-both-ways false true true ht b c d h = sym (or-true b)
-both-ways false true false ht b c d h = h
-both-ways false false hs ht b c d h = h
+    → ((es or hs) and (et or ht)) ≡ (es and ht or b or (et and hs or c))
+unfolding _and_ _or_ non
+both-ways es et hs ht b c d h =
+    by4 (λ v w x y. (v or x) and (w or y)) (λ v w x y. v and w or (v and y or w and x or x and y)) tt es et hs ht
+    ∙ ap₂ (λ (x y : Bool). x or (es and ht or et and hs or y)) d h
+    ∙ by4 (λ v w x y. v or w or (x or y)) (λ v w x y. v or x or (w or y)) tt (es and ht) (et and hs) b c
 
 module _ (s t : ℕ) (d : s ≡ t → ⊥) where
   apart : (x : ℕ) → (eqb s x and eqb t x) ≡ false
   apart x = F→false (eqb s x and eqb t x) (λ h. d (eqb→eq s x (and-l _ _ h) ∙ sym (eqb→eq t x (and-r _ _ h))))
 
-  pub together-trace : (σ : List ℕ) → (σ has s and σ has t) ≡ (preceded s t [] σ or preceded t s [] σ)
+  together-from : (past σ : List ℕ) → (σ has s and σ has t)
+      ≡ (atSomeFrom s (λ q r. r has t) past σ or atSomeFrom t (λ q r. r has s) past σ)
   unfolding atSomeFrom _has_ _and_ _or_
-  together-trace [] = refl
-  together-trace (x ∷ σ) =
-      both-ways (eqb s x) (eqb t x) (σ has s) (σ has t) (preceded s t [] σ) (preceded t s [] σ) (apart x) (together-trace σ)
-      ∙ ap₂ (λ (b c : Bool). eqb t x and false or b or (eqb s x and false or c)) (sym (preceded-from s t (x ∷ []) σ))
-      (sym (preceded-from t s (x ∷ []) σ))
+  together-from past [] = refl
+  together-from past (x ∷ σ) = both-ways (eqb s x) (eqb t x) (σ has s) (σ has t) _ _ (apart x) (together-from (x ∷ past) σ)
 
   pub together-before : (L : Traces) → together L s t ≡ (before L s t or before L t s)
   unfolding together before
   together-before L =
-      some-ext L (λ σ. σ has s and σ has t) (λ σ. preceded s t [] σ or preceded t s [] σ) together-trace
-      ∙ some-or L (preceded s t []) (preceded t s [])
-
--- ---- step 6: what stands between two, and the later of the two, are events
-
-module _ (u : ℕ) (p : List ℕ → List ℕ → Bool) where
-  stands : (past σ : List ℕ) → T (atSomeFrom u p past σ) → T (σ has u)
-  unfolding atSomeFrom _has_
-  stands past [] h = h
-  stands past (x ∷ σ) h = either (or-e _ _ h) (λ k. or-l _ _ (and-l _ _ k)) (λ k. or-r _ _ (stands (x ∷ past) σ k))
-
-  follows : (t : ℕ) → ((past rest : List ℕ) → T (p past rest) → T (rest has t)) → (past σ : List ℕ) → T (atSomeFrom u p past σ)
-      → T (σ has t)
-  unfolding atSomeFrom _has_
-  follows t f past [] h = h
-  follows t f past (x ∷ σ) h = either (or-e _ _ h) (λ k. or-r _ _ (f past σ (and-r _ _ k))) (λ k. or-r _ _ (follows t f (x ∷ past) σ k))
-
-some-more : (L : Traces) (p q : List ℕ → Bool) → ((σ : List ℕ) → T (p σ) → T (q σ)) → T (someTrace L p) → T (someTrace L q)
-unfolding someTrace
-some-more [] p q f h = h
-some-more (σ ∷ L) p q f h = either (or-e _ _ h) (λ k. or-l _ _ (f σ k)) (λ k. or-r _ _ (some-more L p q f k))
-
-module _ (L : Traces) (s u t : ℕ) (h : T (between L s u t)) where
-  pub middle-event : T (event L u)
-  unfolding between event
-  middle-event = some-more L (atSomeFrom u (λ past rest. past has s and rest has t) []) (λ σ. σ has u)
-      (stands u (λ past rest. past has s and rest has t) []) h
-
-  pub later-event : T (event L t)
-  unfolding between event
-  later-event =
-      some-more L (atSomeFrom u (λ past rest. past has s and rest has t) []) (λ σ. σ has t)
-      (follows u (λ past rest. past has s and rest has t) t (λ past rest k. and-r _ _ k) []) h
+      some-ext L _ (λ σ. atSome t (λ q r. q has s) σ or atSome s (λ q r. q has t) σ)
+      (λ σ. together-from [] σ ∙ sym (ap₂ _or_ (later-all s t σ) (later-all t s σ)))
+      ∙ some-or L (atSome t (λ q r. q has s)) (atSome s (λ q r. q has t))

@@ -11,33 +11,33 @@ use Rattle.sets.specs.Members.{mem, those, noSet}
 use Rattle.sets.specs.Rows.{noRows, rowsOf}
 use Rattle.sets.specs.declared.set.Set.{Set}
 use Rattle.rules.specs.Traces.{_has_, _beginsWith_}
-use Rattle.tally.specs.Passes.{forward, inBlock}
+use Rattle.tally.specs.Passes.{forward, reaches, inBlock}
 use Rattle.tally.specs.Tallies.{notePastIn, noteSinceIn, pastBy, sinceBy}
-use Rattle.tally.proofs.Turns.{pastAt, past-next, seenIn, lastIn, seen-more, seen-all, seen-none, last-none, past-is, forward-next}
+use Rattle.tally.proofs.Turns.{pastAt, past-next, heldIn, lastIn, held-more, held-all, held-none, last-none, past-is, forward-next}
 use Rattle.tally.proofs.Turns.{forward-end}
 use Rattle.tally.proofs.Alternate.{since-is}
 use Rattle.tally.proofs.Blocks.{blocks-none, blocks-next}
 use Rattle.tally.proofs.Fused.{noteBoth, fused}
 
--- what is left of the pass, from the tally as it is, gives the whole pass; `seen` and `last` are the sets of what stands before the place
--- and directly before it, and the blocks know what stands before it
+-- what is left of the pass, from the tally as it is, gives the whole pass; `seen` and `last` are the sets of what stands before the place,
+-- as far as the form holds it, and directly before it, and the blocks know what stands before it
 pub record Passed (wide : Bool) (σ t₀ t blocks : List ℕ) (seen last : Set) (i : ℕ) : Type 0 where
   pub reached : i ≤ length σ
-  pub seen-is : seen ≡ seenIn (pastAt σ i)
+  pub seen-is : seen ≡ heldIn wide (pastAt σ i)
   pub last-is : last ≡ lastIn (pastAt σ i)
   pub blocks-are : blocks ≡ rowsOf (inBlock (take i σ))
   pub whole : forward (noteBoth wide) t (pastAt σ i) (drop i σ) ≡ forward (noteBoth wide) t₀ [] σ
 
 pub start : (wide : Bool) (σ t blocks : List ℕ) → blocks ≡ noRows → Passed wide σ t t blocks noSet noSet 0
-start wide σ t blocks h = record { reached = omega arith; seen-is = seen-none; last-is = last-none; blocks-are = h ∙ blocks-none; whole = refl }
+start wide σ t blocks h = record { reached = omega arith; seen-is = held-none wide; last-is = last-none; blocks-are = h ∙ blocks-none; whole = refl }
 
 -- the part of the trace before the place
 part-is : (σ : List ℕ) (i : ℕ) → take (i - 0) (drop 0 σ) ≡ take i σ
 part-is σ i = let same : i - 0 ≡ i = omega arith in ap (λ (n : ℕ). take n σ) same
 
 module _ {wide : Bool} {σ t₀ t blocks : List ℕ} {seen last : Set} {i : ℕ} (inv : Passed wide σ t₀ t blocks seen last i) where
-  pub over : length σ ≤ i → (seen ≡ those (λ x. σ has x)) × (t ≡ forward (noteSinceIn wide) (forward (notePastIn wide) t₀ [] σ) [] σ)
-  over h = (seen-all _ _ _ h (inv .seen-is), forward-end (noteBoth wide) _ _ _ _ h (inv .whole) ∙ fused wide _ _ _)
+  pub over : length σ ≤ i → (seen ≡ those (λ x. reaches wide x and σ has x)) × (t ≡ forward (noteSinceIn wide) (forward (notePastIn wide) t₀ [] σ) [] σ)
+  over h = (held-all σ i wide seen h (inv .seen-is), forward-end (noteBoth wide) _ _ _ _ h (inv .whole) ∙ fused wide _ _ _)
 
   module _ (h : i < length σ) where
     abbrev e : ℕ
@@ -47,23 +47,23 @@ module _ {wide : Bool} {σ t₀ t blocks : List ℕ} {seen last : Set} {i : ℕ}
     part = take (i - 0) (drop 0 σ)
 
     pub known : blocks ≡ rowsOf (inBlock part)
-    known = inv .blocks-are ∙ ap (λ (l : List ℕ). rowsOf (inBlock l)) (sym (part-is σ i))
+    known = rw (part-is σ i) (inv .blocks-are)
 
-    pub turn : (t′ blocks′ : List ℕ) (one seen′ : Set)
+    pub turn : (t′ blocks′ : List ℕ) (one both seen′ : Set)
         → blocks′ ≡ rowsOf (λ j x. inBlock part j x or eqb j (length part / 8) and eqb x e)
         → t′ ≡ sinceBy wide (pastBy wide t e seen last) e part seen
-        → one ≡ those (λ b. eqb b e) → seen′ ≡ those (λ a. mem seen a or mem one a) → Passed wide σ t₀ t′ blocks′ seen′ one (i + 1)
+        → one ≡ those (λ b. eqb b e) → both ≡ those (λ a. mem seen a or mem one a) → seen′ ≡ those (λ x. reaches wide x and mem both x)
+        → Passed wide σ t₀ t′ blocks′ seen′ one (i + 1)
     unfolding noteBoth _beginsWith_
-    turn t′ blocks′ one seen′ hb ht ho hs =
+    turn t′ blocks′ one both seen′ hb ht ho hu hs =
         record {
           reached = omega arith;
-          seen-is = seen-more _ _ seen one seen′ (inv .seen-is) ho hs ∙ ap seenIn (sym (past-next σ i h));
+          seen-is = held-more wide _ _ seen one both seen′ (inv .seen-is) ho hu hs ∙ ap (heldIn wide) (sym (past-next σ i h));
           last-is = ho ∙ ap lastIn (sym (past-next σ i h));
-          blocks-are = hb ∙ ap (λ (l : List ℕ). rowsOf (λ j x. inBlock l j x or eqb j (length l / 8) and eqb x e)) (part-is σ i) ∙ blocks-next σ i h;
+          blocks-are = (rw (part-is σ i) at hb) ∙ blocks-next σ i h;
           whole =
               forward-next (noteBoth wide) σ _ i t t′ h
-              (ht
-              ∙ ap (λ (l : List ℕ). sinceBy wide (pastBy wide t e seen last) e l seen) (part-is σ i)
+              ((rw (part-is σ i) at ht)
               ∙ since-is wide (pastBy wide t e seen last) e (take i σ) (drop (i + 1) σ) seen (inv .seen-is)
               ∙ ap (λ (l : List ℕ). noteSinceIn wide l e (pastAt σ i) (drop (i + 1) σ))
               (past-is wide t e (pastAt σ i) (drop (i + 1) σ) seen last (inv .seen-is) (inv .last-is)))

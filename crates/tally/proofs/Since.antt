@@ -1,170 +1,179 @@
 -- Looking back from a place to the last e: what stands since then. Assumes nothing.
-use mathlib.Core.Path.{_≡_, refl, sym, ap, ap₂, subst, _∙_}
+use mathlib.Core.Path.{_≡_, refl, sym, ap, ap₂, _∙_}
 use mathlib.Core.Bool.{Bool, true, false}
 use mathlib.Core.List.{List, [], _∷_, reverseAux}
-use Prim.Native.Nat.{ℕ, _+_, _-_, _≤_, _<_}
+use Prim.Native.Nat.{ℕ, zero, suc, _+_, _-_, _≤_, _<_}
 use native.Mathlib.Omega.{arith}
 use borrow.Author.Tests.{eq-eqb, ne-eqb}
-use lib.Dec.{T, eqb}
-use lib.ListN.{length, getD, drop}
-use lib.Seq.{take-all}
+use lib.Dec.{eqb}
+use lib.ListN.{length, getD, take, drop}
+use lib.Seq.{drop-length}
 use Rattle.sets.specs.Tests.{_and_, _or_, non}
-use Rattle.sets.specs.Members.{mem, those, isEmpty}
+use Rattle.sets.specs.Members.{width, mem, those, isEmpty}
 use Rattle.sets.specs.declared.set.Set.{Set}
-use Rattle.sets.proofs.Tests.{or-true, or-false, and-true, F→false, true→T}
+use Rattle.sets.proofs.Tests.{or-true, or-false, or-comm, or-assoc, and-true, and-false, false-and, neither, nor, F→false, true→T}
+use Rattle.sets.proofs.Tautologies.{by3}
 use Rattle.sets.proofs.Members.{those-ext, those-of, empty-e}
 use Rattle.rules.specs.Traces.{_has_, atSomeFrom}
-use Rattle.tally.specs.Passes.{notSince}
-use Rattle.tally.proofs.Turns.{pastAt, past-next, rest-next, rest-none}
+use Rattle.tally.specs.Passes.{notSince, PassedTo}
+use Rattle.tally.proofs.Turns.{pastAt, past-next, rest-next}
 
 -- x stands in `far` with no e nearer, where `near` was passed already
 abbrev pub since : ℕ → ℕ → List ℕ → List ℕ → Bool
 since e x near far = atSomeFrom x (λ nearer farther. non (nearer has e)) near far
 
--- once an e was passed, nothing farther counts
-pub since-met : (e x : ℕ) (near far : List ℕ) → near has e ≡ true → since e x near far ≡ false
-unfolding atSomeFrom _has_ _and_ _or_ non
-since-met e x near [] h = refl
-since-met e x near (y ∷ far) h =
-    ap₂ _or_ (ap (λ (t : Bool). eqb x y and non t) h ∙ none (eqb x y))
-    (since-met e x (y ∷ near) far (ap (λ (t : Bool). eqb e y or t) h ∙ or-true (eqb e y)))
-  where
-    none : (t : Bool) → (t and false) ≡ false
-    none true = refl
-    none false = refl
+module _ (e x : ℕ) where
+  -- of what was passed it matters only whether there was an e
+  since-near : (near other far : List ℕ) → near has e ≡ other has e → since e x near far ≡ since e x other far
+  unfolding atSomeFrom _has_
+  since-near near other [] h = refl
+  since-near near other (y ∷ far) h =
+      ap₂ _or_ (ap (λ (t : Bool). eqb x y and non t) h) (since-near (y ∷ near) (y ∷ other) far (ap (λ (t : Bool). eqb e y or t) h))
 
-pub since-step : (e x y : ℕ) (near far : List ℕ) → near has e ≡ false → since e x near (y ∷ far) ≡ (eqb x y or since e x (y ∷ near) far)
-unfolding atSomeFrom non
-since-step e x y near far h = ap (λ (t : Bool). t or since e x (y ∷ near) far) (ap (λ (t : Bool). eqb x y and non t) h ∙ and-true (eqb x y))
+  -- once an e was passed, nothing farther counts
+  since-met : (near far : List ℕ) → near has e ≡ true → since e x near far ≡ false
+  unfolding atSomeFrom _has_ non
+  since-met near [] h = refl
+  since-met near (y ∷ far) h =
+      nor _ _ (ap (λ (t : Bool). eqb x y and non t) h ∙ and-false (eqb x y))
+      (since-met (y ∷ near) far (ap (λ (t : Bool). eqb e y or t) h ∙ or-true (eqb e y)))
 
-or-none : (a b : Bool) → (a or b) ≡ false → (a ≡ false) × (b ≡ false)
-unfolding _or_
-or-none true b h = absurd (subst T h tt)
-or-none false b h = (refl, h)
+  -- the nearest place counts, and what is farther where that is no e
+  since-step : (y : ℕ) (far : List ℕ) → eqb e y ≡ false → since e x [] (y ∷ far) ≡ (eqb x y or since e x [] far)
+  unfolding atSomeFrom _has_ non
+  since-step y far h = ap₂ _or_ (and-true (eqb x y)) (since-near (y ∷ []) [] far (or-false (eqb e y) ∙ h))
 
--- without an e, all that was seen counts
-pub since-all : (e x : ℕ) (near past : List ℕ) → near has e ≡ false → past has e ≡ false → since e x near past ≡ past has x
-unfolding _has_ atSomeFrom
-since-all e x near [] h k = refl
-since-all e x near (y ∷ past) h k =
-    let apart = or-none _ _ k in
-    since-step e x y near past h ∙ ap (λ (t : Bool). eqb x y or t)
-    (since-all e x (y ∷ near) past (ap₂ _or_ (apart .0) h ∙ or-false false) (apart .1))
+  since-last : (y : ℕ) (far : List ℕ) → eqb e y ≡ true → since e x [] (y ∷ far) ≡ eqb x y
+  unfolding atSomeFrom _has_ non
+  since-last y far h = ap₂ _or_ (and-true (eqb x y)) (since-met (y ∷ []) far (or-false (eqb e y) ∙ h)) ∙ or-false (eqb x y)
 
--- it does not matter what was passed, where it was no e
-pub since-near : (e x : ℕ) (near other far : List ℕ) → near has e ≡ false → other has e ≡ false → since e x near far ≡ since e x other far
-unfolding _has_ _or_ atSomeFrom
-since-near e x near other [] h k = refl
-since-near e x near other (y ∷ far) h k =
-    since-step e x y near far h
-    ∙ ap (λ (t : Bool). eqb x y or t) (go (eqb e y) refl (since-near e x (y ∷ near) (y ∷ other) far))
-    ∙ sym (since-step e x y other far k)
-  where
-    go : (t : Bool) → eqb e y ≡ t
-        → ((y ∷ near) has e ≡ false → (y ∷ other) has e ≡ false → since e x (y ∷ near) far ≡ since e x (y ∷ other) far)
-        → since e x (y ∷ near) far ≡ since e x (y ∷ other) far
-    go true q ih =
-        since-met e x (y ∷ near) far (ap (λ (t : Bool). t or near has e) q)
-        ∙ sym (since-met e x (y ∷ other) far (ap (λ (t : Bool). t or other has e) q))
-    go false q ih = ih (ap₂ _or_ q h ∙ or-false false) (ap₂ _or_ q k ∙ or-false false)
+  -- without an e, all that was seen counts
+  pub since-all : (past : List ℕ) → past has e ≡ false → since e x [] past ≡ past has x
+  unfolding _has_ atSomeFrom
+  since-all [] h = refl
+  since-all (y ∷ past) h =
+      let apart = neither _ _ h in since-step y past (apart .0) ∙ ap (λ (t : Bool). eqb x y or t) (since-all past (apart .1))
 
--- what is still wanted of a set, i places being left of `past`
+  -- all that stands before the last e is passed
+  since-past : (near far : List ℕ) → near has e ≡ false → since e x [] (reverseAux near far) ≡ (since e x [] far or near has x)
+  unfolding _has_
+  since-past [] far h = sym (or-false (since e x [] far))
+  since-past (y ∷ near) far h =
+      let apart = neither _ _ h in
+      since-past near (y ∷ far) (apart .1)
+      ∙ ap (λ (t : Bool). t or near has x) (since-step y far (apart .0) ∙ or-comm (eqb x y) (since e x [] far))
+      ∙ or-assoc (since e x [] far) (eqb x y) (near has x)
+
+split-past : (i : ℕ) (past ys : List ℕ) → reverseAux past ys ≡ reverseAux (drop i past) (reverseAux (take i past) ys)
+split-past zero past ys = refl
+split-past (suc i) [] ys = refl
+split-past (suc i) (x ∷ past) ys = split-past i past (x ∷ ys)
+
+-- a set without its members of another is what it was, less those
+pub regroup : (a b c : Bool) → (a and non b and non c) ≡ (a and non (c or b))
+unfolding _and_ _or_ non
+regroup = by3 (λ a b c. a and non b and non c) (λ a b c. a and non (c or b)) tt
+
+-- what is still wanted of a set at the start of `past`
 abbrev pub wantedOf : ℕ → List ℕ → Set → Set
 wantedOf e past wanted = those (λ x. mem wanted x and notSince e (reverseAux past []) [] x)
 
+-- a look back has come to place i and met no e: what is left is what was wanted and does not stand there
 pub record Looked (past : List ℕ) (e : ℕ) (wanted left : Set) (i : ℕ) : Type 0 where
   pub reached : i ≤ length past
   pub unseen : drop i past has e ≡ false
-  pub whole : those (λ x. mem left x and non (since e x (drop i past) (pastAt past i))) ≡ wantedOf e past wanted
-  pub is-set : those (mem left) ≡ left
+  pub left-is : left ≡ those (λ x. mem wanted x and non (drop i past has x))
 
-pub look-start : (past : List ℕ) (e : ℕ) (wanted : Set) → those (mem wanted) ≡ wanted → Looked past e wanted wanted (length past)
-unfolding notSince _has_
-look-start past e wanted h =
-    let all : length past ≤ length past = omega arith in
+pub look-start : (past : List ℕ) (e : ℕ) (wanted : Set) (n : ℕ) → those (mem wanted) ≡ wanted → length past ≡ n → Looked past e wanted wanted n
+unfolding _has_ non
+look-start past e wanted n h q =
     record {
-      reached = all;
-      unseen = ap (λ (l : List ℕ). l has e) (rest-none past);
-      whole =
-          ap (λ (l : List ℕ). those (λ x. mem wanted x and non (since e x l (pastAt past (length past))))) (rest-none past)
-          ∙ ap (λ (l : List ℕ). those (λ x. mem wanted x and non (since e x [] (reverseAux l [])))) (take-all (length past) past all);
-      is-set = h;
+      reached = omega arith;
+      unseen = none e;
+      left-is =
+          sym h ∙ those-ext (mem wanted) (λ x. mem wanted x and non (drop n past has x))
+          (λ x l. sym (ap (λ (t : Bool). mem wanted x and non t) (none x) ∙ and-true (mem wanted x)));
     }
-
--- a set without its members of another is what it was, less those
-pub regroup : (a b c : Bool) → (a and non b and non c) ≡ (a and non (b or c))
-unfolding _and_ _or_ non
-regroup true true c = refl
-regroup true false c = refl
-regroup false b c = refl
-
-module _ (i : ℕ) {past : List ℕ} {e : ℕ} {wanted left : Set} (inv : Looked past e wanted left (i + 1)) (left′ one : Set)
-    (ho : one ≡ those (λ b. eqb b (getD past i 0))) (hl : left′ ≡ those (λ a. mem left a and non (mem one a))) where
-  here : i < length past
-  here = omega (arith, inv .reached)
-
-  less : left′ ≡ those (λ a. mem left a and non (eqb a (getD past i 0)))
-  less = hl ∙ those-of one (λ b. eqb b (getD past i 0)) (λ a t. mem left a and non t) ho
-
-  whole′ : those (λ x. mem left′ x and non (since e x (drop i past) (pastAt past i))) ≡ wantedOf e past wanted
-  whole′ =
-      those-of left′ (λ a. mem left a and non (eqb a (getD past i 0))) (λ x t. t and non (since e x (drop i past) (pastAt past i))) less
-      ∙ those-ext (λ x. mem left x and non (eqb x (getD past i 0)) and non (since e x (drop i past) (pastAt past i)))
-      (λ x. mem left x and non (since e x (drop (i + 1) past) (pastAt past (i + 1))))
-      (λ x l.
-      regroup (mem left x) (eqb x (getD past i 0)) (since e x (drop i past) (pastAt past i))
-      ∙ ap (λ (t : Bool). mem left x and non t)
-      (ap (λ (l : List ℕ). eqb x (getD past i 0) or since e x l (pastAt past i)) (rest-next past i here)
-      ∙ sym (since-step e x (getD past i 0) (drop (i + 1) past) (pastAt past i) (inv .unseen))
-      ∙ ap (λ (l : List ℕ). since e x (drop (i + 1) past) l) (sym (past-next past i here))))
-      ∙ inv .whole
-
-  set′ : those (mem left′) ≡ left′
-  set′ = those-of left′ (λ a. mem left a and non (eqb a (getD past i 0))) (λ a t. t) less ∙ sym less
-
-  -- another event: on
-  pub look-next : (getD past i 0 ≡ e → ⊥) → Looked past e wanted left′ i
-  unfolding _has_ _or_
-  look-next ne =
-      record {
-        reached = omega arith;
-        unseen = ap (λ (l : List ℕ). l has e) (rest-next past i here) ∙ ap₂ _or_ (ne-eqb e (getD past i 0) (λ q. ne (sym q))) (inv .unseen);
-        whole = whole′;
-        is-set = set′;
-      }
-
-  -- the last e: all was seen
-  pub look-stop : getD past i 0 ≡ e → left′ ≡ wantedOf e past wanted
-  unfolding _has_ _or_ non
-  look-stop q =
-      let met : drop i past has e ≡ true = ap (λ (l : List ℕ). l has e) (rest-next past i here)
-      ∙ ap (λ (t : Bool). t or drop (i + 1) past has e) (eq-eqb e (getD past i 0) (sym q)) in
-      sym set′
-      ∙ those-ext (mem left′) (λ x. mem left′ x and non (since e x (drop i past) (pastAt past i)))
-      (λ x l. sym (ap (λ (t : Bool). mem left′ x and non t) (since-met e x (drop i past) (pastAt past i) met) ∙ and-true (mem left′ x)))
-      ∙ whole′
+  where
+    none : (x : ℕ) → drop n past has x ≡ false
+    none x = ap (λ (k : ℕ). drop k past has x) (sym q) ∙ ap (λ (l : List ℕ). l has x) (drop-length past)
 
 module _ {past : List ℕ} {e i : ℕ} {wanted left : Set} (inv : Looked past e wanted left i) where
+  -- what is left is to be looked for before the place
+  pub look-whole : those (λ x. mem left x and notSince e (pastAt past i) [] x) ≡ wantedOf e past wanted
+  unfolding notSince
+  look-whole =
+      those-of left (λ x. mem wanted x and non (drop i past has x)) (λ x t. t and non (since e x [] (pastAt past i))) (inv .left-is)
+      ∙ those-ext (λ x. mem wanted x and non (drop i past has x) and non (since e x [] (pastAt past i)))
+      (λ x. mem wanted x and non (since e x [] (reverseAux past [])))
+      (λ x l.
+      regroup (mem wanted x) (drop i past has x) (since e x [] (pastAt past i))
+      ∙ ap (λ (t : Bool). mem wanted x and non t)
+      (sym (ap (since e x []) (split-past i past []) ∙ since-past e x (drop i past) (pastAt past i) (inv .unseen))))
+
+  pub look-passed : PassedTo past e wanted left i
+  look-passed = (inv .reached, look-whole)
+
+  -- nothing of it stands there: it is all
+  all-left : ((x : ℕ) → x < width → mem left x ≡ (mem left x and notSince e (pastAt past i) [] x)) → left ≡ wantedOf e past wanted
+  all-left h =
+      inv .left-is
+      ∙ sym (those-of left (λ x. mem wanted x and non (drop i past has x)) (λ x t. t) (inv .left-is))
+      ∙ those-ext (mem left) (λ x. mem left x and notSince e (pastAt past i) [] x) h
+      ∙ look-whole
+
   -- nothing is wanted any more
   pub look-empty : (r : Bool) → r ≡ isEmpty left → r ≡ true → left ≡ wantedOf e past wanted
-  unfolding _and_
   look-empty r hr ht =
-      sym (inv .is-set)
-      ∙ those-ext (mem left) (λ x. mem left x and non (since e x (drop i past) (pastAt past i)))
-      (λ x l. let gone : mem left x ≡ false = F→false _ (λ t. empty-e left (true→T (sym hr ∙ ht)) x l t) in gone
-      ∙ sym (ap (λ (t : Bool). t and non (since e x (drop i past) (pastAt past i))) gone))
-      ∙ inv .whole
+      all-left (λ x l. let gone : mem left x ≡ false = F→false _ (λ t. empty-e left (true→T (sym hr ∙ ht)) x l t) in
+      gone ∙ sym (ap (λ (t : Bool). t and notSince e (pastAt past i) [] x) gone ∙ false-and _))
 
   -- the start of the trace
   pub look-end : i ≤ 0 → left ≡ wantedOf e past wanted
-  unfolding atSomeFrom non
+  unfolding notSince atSomeFrom non
   look-end h =
       let first : i ≡ 0 = omega arith in
-      sym (inv .is-set)
-      ∙ those-ext (mem left) (λ x. mem left x and non (since e x (drop i past) (pastAt past i)))
-      (λ x l. sym (ap (λ (n : ℕ). mem left x and non (since e x (drop i past) (pastAt past n))) first ∙ and-true (mem left x)))
-      ∙ inv .whole
+      all-left (λ x l. sym (ap (λ (n : ℕ). mem left x and non (since e x [] (pastAt past n))) first ∙ and-true (mem left x)))
 
-  -- the loop counts down before it looks
-  pub look-down : 0 < i → Looked past e wanted left (i - 1 + 1)
-  look-down h = subst (λ (n : ℕ). Looked past e wanted left n) (omega arith) inv
+  -- one place further back
+  module _ (some : 0 < i) (left′ one : Set) (ho : one ≡ those (λ b. eqb b (getD past (i - 1) 0)))
+      (hl : left′ ≡ those (λ a. mem left a and non (mem one a))) where
+    abbrev y : ℕ
+    y = getD past (i - 1) 0
+
+    here : i - 1 < length past
+    here = omega (arith, inv .reached)
+
+    again : i - 1 + 1 ≡ i
+    again = omega arith
+
+    rest : drop (i - 1) past ≡ y ∷ drop i past
+    rest = rest-next past (i - 1) here ∙ ap (λ (n : ℕ). y ∷ drop n past) again
+
+    less : left′ ≡ those (λ a. mem left a and non (eqb a y))
+    less = hl ∙ those-of one (λ b. eqb b y) (λ a t. mem left a and non t) ho
+
+    -- another event: on
+    pub look-next : (y ≡ e → ⊥) → Looked past e wanted left′ (i - 1)
+    unfolding _has_
+    look-next ne =
+        record {
+          reached = omega arith;
+          unseen = ap (λ (l : List ℕ). l has e) rest ∙ nor _ _ (ne-eqb e y (λ q. ne (sym q))) (inv .unseen);
+          left-is =
+              less
+              ∙ those-of left (λ x. mem wanted x and non (drop i past has x)) (λ x t. t and non (eqb x y)) (inv .left-is)
+              ∙ those-ext (λ x. mem wanted x and non (drop i past has x) and non (eqb x y))
+              (λ x. mem wanted x and non (drop (i - 1) past has x))
+              (λ x l. regroup (mem wanted x) (drop i past has x) (eqb x y) ∙ ap (λ (l : List ℕ). mem wanted x and non (l has x)) (sym rest));
+        }
+
+    -- the last e: all was seen
+    pub look-stop : y ≡ e → left′ ≡ wantedOf e past wanted
+    unfolding notSince
+    look-stop q =
+        less
+        ∙ those-ext (λ a. mem left a and non (eqb a y)) (λ a. mem left a and non (since e a [] (pastAt past i)))
+        (λ a l. sym (ap (λ (t : Bool). mem left a and non t)
+        (ap (since e a []) (ap (pastAt past) (sym again) ∙ past-next past (i - 1) here) ∙ since-last e a y _ (eq-eqb e y (sym q)))))
+        ∙ look-whole

@@ -6,22 +6,20 @@ use Prim.Native.Nat.{ℕ, zero, suc, _<_}
 use native.Mathlib.Omega.{arith}
 use borrow.Author.Tests.{eqb-true, eqb-false}
 use lib.Dec.{eqb}
-use Rattle.sets.specs.Tests.{_or_, non, when_then_else_}
-use Rattle.sets.specs.Members.{width, mem, those}
-use Rattle.sets.specs.Rows.{Relation, noRows, rowAt, inRow, rowsOf}
-use Rattle.sets.specs.Tables.{noTables, tableAt, tablesOf}
-use Rattle.sets.proofs.RowLaws.{rowsOf-ext, empty-rowsOf, in-rowsOf}
-use Rattle.sets.proofs.TableLaws.{table-put-same, table-put-other, empty-tablesOf, table-tablesOf}
-use Rattle.rules.specs.Traces.{Traces}
+use Rattle.sets.specs.Tests.{_and_, _or_, non, when_then_else_}
+use Rattle.sets.specs.Members.{width}
+use Rattle.sets.specs.Rows.{Relation, inRow, rowsOf}
+use Rattle.sets.specs.Tables.{noTables, tableAt}
+use Rattle.sets.proofs.RowLaws.{rowsOf-ext, in-rowsOf}
+use Rattle.sets.proofs.TableLaws.{table-put-same, table-put-other, table-none}
+use Rattle.rules.specs.Traces.{Traces, _has_, _beginsWith_, atSome}
 use Rattle.rules.specs.Mining.{precedes, answers, chained, before, followed, alternates}
 use Rattle.tally.specs.Passes.{Fact, Turn, gained, gains, notedIn, forward, backward, through, isEarlier, notEarlier, notDirectly}
 use Rattle.tally.specs.Passes.{notSince, isLater, notLater, isNext, reaches, cut}
-use Rattle.tally.specs.Tallies.{tableCount, beforeTable, laterTable, unprecededTable, unansweredTable, unchainedTable}
-use Rattle.tally.specs.Tallies.{unalternatedTable, followedTable, notePastIn, noteSinceIn, noteRestIn, notedFor, talliedFor, tallied}
-use Rattle.tally.proofs.Folds.{said, heard, forward-rowsOf, backward-rowsOf, through-all}
-use Rattle.tally.proofs.Heard.{heard-before, heard-later, heard-unpreceded, heard-unanswered, heard-unchained, heard-unalternated}
-use Rattle.tally.proofs.Heard.{heard-followed}
-use Rattle.tally.proofs.WholeForm.{through-whole, heard-in}
+use Rattle.tally.specs.Tallies.{tableCount, beforeTable, laterTable, unprecededTable, unansweredTable, unchainedTable, unalternatedTable}
+use Rattle.tally.specs.Tallies.{followedTable, notePastIn, noteSinceIn, noteRestIn, notedFor, talliedFor, notePast, noteSince, noteRest, noted, tallied}
+use Rattle.tally.proofs.Folds.{said, heard, heard-in, forward-rowsOf, backward-rowsOf, through-all}
+use Rattle.tally.proofs.LogLaws.{non-every, some-ext, next-from, before-later}
 
 -- ---- a table of a pass is a pass over the table
 
@@ -96,18 +94,14 @@ module _ (wide : Bool) (k : ℕ) where
   through-table tally [] = refl
   through-table tally (σ ∷ L) = through-table (notedFor wide tally σ) L ∙ ap (λ (rows : List ℕ). through notedAt rows L) (noted-at tally σ)
 
-  none-at : k < tableCount → tableAt (noTables tableCount) k ≡ noRows
-  none-at l =
-      ap (λ (x : List ℕ). tableAt x k) (empty-tablesOf tableCount (λ j a x. false) (λ j a x lj la lx. refl))
-      ∙ table-tablesOf tableCount (λ j a x. false) k l
-      ∙ sym (empty-rowsOf (λ a x. false) (λ a x la lx. refl))
-
   -- a table that hears of one fact
   table-is : k < tableCount → (p : Fact) (L : Traces)
       → ((r : Relation) (σ : List ℕ) → notedAt (rowsOf r) σ ≡ rowsOf (λ a x. r a x or said p [] σ a x))
       → tableAt (talliedFor wide L) k ≡ rowsOf (heard p L)
   table-is l p L one =
-      through-table (noTables tableCount) L ∙ ap (λ (rows : List ℕ). through notedAt rows L) (none-at l) ∙ through-all p notedAt one L
+      through-table (noTables tableCount) L
+      ∙ ap (λ (rows : List ℕ). through notedAt rows L) (table-none tableCount k l)
+      ∙ through-all p notedAt one L
 
 -- ---- a table that a pass does not touch stays
 
@@ -136,87 +130,79 @@ module _ (p : Fact) (r : Relation) (σ : List ℕ) where
 
 -- ---- the seven, in a form
 
-module _ (wide : Bool) (L : Traces) where
-  before-heard : tableAt (talliedFor wide L) beforeTable ≡ rowsOf (heard (cut wide isEarlier) L)
-  unfolding gains
-  before-heard = table-is wide beforeTable (omega arith) (cut wide isEarlier) L (past-alone (cut wide isEarlier))
+-- what table k hears of
+abbrev factAt : ℕ → Fact
+factAt zero = isEarlier
+factAt (suc zero) = isLater
+factAt (suc (suc zero)) = notEarlier
+factAt (suc (suc (suc zero))) = notLater
+factAt (suc (suc (suc (suc zero)))) = notDirectly
+factAt (suc (suc (suc (suc (suc zero))))) = notSince
+factAt (suc (suc (suc (suc (suc (suc k)))))) = isNext
 
-  later-heard : tableAt (talliedFor wide L) laterTable ≡ rowsOf (heard (cut wide isLater) L)
-  unfolding gains
-  later-heard = table-is wide laterTable (omega arith) (cut wide isLater) L (rest-alone (cut wide isLater))
-
-  unpreceded-heard : tableAt (talliedFor wide L) unprecededTable ≡ rowsOf (heard (cut wide notEarlier) L)
-  unfolding gains
-  unpreceded-heard = table-is wide unprecededTable (omega arith) (cut wide notEarlier) L (past-alone (cut wide notEarlier))
-
-  unanswered-heard : tableAt (talliedFor wide L) unansweredTable ≡ rowsOf (heard (cut wide notLater) L)
-  unfolding gains
-  unanswered-heard = table-is wide unansweredTable (omega arith) (cut wide notLater) L (rest-alone (cut wide notLater))
-
-  unchained-heard : tableAt (talliedFor wide L) unchainedTable ≡ rowsOf (heard (cut wide notDirectly) L)
-  unfolding gains
-  unchained-heard = table-is wide unchainedTable (omega arith) (cut wide notDirectly) L (past-alone (cut wide notDirectly))
-
-  unalternated-heard : tableAt (talliedFor wide L) unalternatedTable ≡ rowsOf (heard (cut wide notSince) L)
-  unfolding gains
-  unalternated-heard = table-is wide unalternatedTable (omega arith) (cut wide notSince) L (since-alone (cut wide notSince))
-
-  followed-heard : tableAt (talliedFor wide L) followedTable ≡ rowsOf (heard (cut wide isNext) L)
-  unfolding gains
-  followed-heard = table-is wide followedTable (omega arith) (cut wide isNext) L (rest-alone (cut wide isNext))
+table-heard : (wide : Bool) (L : Traces) (k : ℕ) → k < tableCount → tableAt (talliedFor wide L) k ≡ rowsOf (heard (cut wide (factAt k)) L)
+unfolding gains
+table-heard wide L zero l = table-is wide 0 l _ L (past-alone (cut wide isEarlier))
+table-heard wide L (suc zero) l = table-is wide 1 l _ L (rest-alone (cut wide isLater))
+table-heard wide L (suc (suc zero)) l = table-is wide 2 l _ L (past-alone (cut wide notEarlier))
+table-heard wide L (suc (suc (suc zero))) l = table-is wide 3 l _ L (rest-alone (cut wide notLater))
+table-heard wide L (suc (suc (suc (suc zero)))) l = table-is wide 4 l _ L (past-alone (cut wide notDirectly))
+table-heard wide L (suc (suc (suc (suc (suc zero))))) l = table-is wide 5 l _ L (since-alone (cut wide notSince))
+table-heard wide L (suc (suc (suc (suc (suc (suc zero)))))) l = table-is wide 6 l _ L (rest-alone (cut wide isNext))
+table-heard wide L (suc (suc (suc (suc (suc (suc (suc k))))))) l = absurd (omega (arith, l))
 
 -- ---- over the whole width
 
+-- the wide form leaves nothing out
+pub through-whole : (t : List ℕ) (L : Traces) → through (notedFor true) t L ≡ through noted t L
+unfolding notedFor noted notePastIn notePast noteSinceIn noteSince noteRestIn noteRest cut reaches _and_ _or_
+through-whole t L = refl
+
 module _ (L : Traces) where
-  whole-is : (k : ℕ) (p : Fact) (R : Relation) → tableAt (talliedFor true L) k ≡ rowsOf (heard (cut true p) L)
-      → ((a x : ℕ) → heard p L a x ≡ R a x) → tableAt (tallied L) k ≡ rowsOf R
-  whole-is k p R t h =
+  whole-is : (k : ℕ) → k < tableCount → (R : Relation) → ((a x : ℕ) → heard (factAt k) L a x ≡ R a x) → tableAt (tallied L) k ≡ rowsOf R
+  whole-is k l R h =
       ap (λ (x : List ℕ). tableAt x k) (sym (through-whole (noTables tableCount) L))
-      ∙ t
-      ∙ rowsOf-ext (heard (cut true p) L) R (λ a x la lx. heard-in true p L a x (unfold reaches _or_ in refl) ∙ h a x)
+      ∙ table-heard true L k l
+      ∙ rowsOf-ext _ R (λ a x la lx. heard-in true (factAt k) L a x (unfold reaches _or_ in refl) ∙ h a x)
 
   pub before-table : tableAt (tallied L) beforeTable ≡ rowsOf (λ t s. before L s t)
-  before-table = whole-is beforeTable isEarlier (λ t s. before L s t) (before-heard true L) (heard-before L)
+  unfolding isEarlier before
+  before-table = whole-is beforeTable (omega arith) _ (λ a x. refl)
 
   pub later-table : tableAt (tallied L) laterTable ≡ rowsOf (before L)
-  later-table = whole-is laterTable isLater (before L) (later-heard true L) (heard-later L)
+  unfolding isLater
+  later-table = whole-is laterTable (omega arith) _ (before-later L)
 
   pub unpreceded-table : tableAt (tallied L) unprecededTable ≡ rowsOf (λ t s. non (precedes L s t))
-  unpreceded-table = whole-is unprecededTable notEarlier (λ t s. non (precedes L s t)) (unpreceded-heard true L) (heard-unpreceded L)
+  unfolding notEarlier precedes
+  unpreceded-table = whole-is unprecededTable (omega arith) _ (λ a x. sym (non-every a (λ q r. q has x) L))
 
   pub unanswered-table : tableAt (tallied L) unansweredTable ≡ rowsOf (λ s t. non (answers L s t))
-  unanswered-table = whole-is unansweredTable notLater (λ s t. non (answers L s t)) (unanswered-heard true L) (heard-unanswered L)
+  unfolding notLater answers
+  unanswered-table = whole-is unansweredTable (omega arith) _ (λ a x. sym (non-every a (λ q r. r has x) L))
 
   pub unchained-table : tableAt (tallied L) unchainedTable ≡ rowsOf (λ t s. non (chained L s t))
-  unchained-table = whole-is unchainedTable notDirectly (λ t s. non (chained L s t)) (unchained-heard true L) (heard-unchained L)
+  unfolding notDirectly chained
+  unchained-table = whole-is unchainedTable (omega arith) _ (λ a x. sym (non-every a (λ q r. q beginsWith x) L))
 
   pub unalternated-table : tableAt (tallied L) unalternatedTable ≡ rowsOf (λ s u. non (alternates L u s))
-  unalternated-table = whole-is unalternatedTable notSince (λ s u. non (alternates L u s)) (unalternated-heard true L) (heard-unalternated L)
+  unfolding notSince alternates
+  unalternated-table =
+      whole-is unalternatedTable (omega arith) _ (λ a x. sym (non-every a (λ q r. atSome x (λ nearer farther. non (nearer has a)) q) L))
 
   pub followed-table : tableAt (tallied L) followedTable ≡ rowsOf (followed L)
-  followed-table = whole-is followedTable isNext (followed L) (followed-heard true L) (heard-followed L)
+  unfolding isNext followed _and_ _or_ _beginsWith_
+  followed-table =
+      whole-is followedTable (omega arith) _
+      (λ a x. some-ext L (atSome a (λ q r. r beginsWith x)) (atSome x (λ q r. q beginsWith a)) (λ σ. sym (next-from a x [] σ)))
 
 -- ---- either form says the same of what it can hold
 
-module _ (wide : Bool) (L : Traces) where
-  same-at : (k : ℕ) (p : Fact) → tableAt (talliedFor wide L) k ≡ rowsOf (heard (cut wide p) L) → tableAt (talliedFor true L) k ≡ rowsOf (heard (cut true p) L)
-      → (a x : ℕ) → a < width → x < width → reaches wide x ≡ true → inRow (tableAt (talliedFor wide L) k) a x ≡ inRow (tableAt (tallied L) k) a x
-  same-at k p t u a x la lx h =
-      ap (λ (rows : List ℕ). inRow rows a x) t
-      ∙ in-rowsOf (heard (cut wide p) L) a x la lx
-      ∙ heard-in wide p L a x h
-      ∙ sym (heard-in true p L a x (unfold reaches _or_ in refl))
-      ∙ sym (in-rowsOf (heard (cut true p) L) a x la lx)
-      ∙ ap (λ (rows : List ℕ). inRow rows a x) (sym u)
-      ∙ ap (λ (y : List ℕ). inRow (tableAt y k) a x) (through-whole (noTables tableCount) L)
-
-  pub form-agrees : (k a x : ℕ) → k < tableCount → a < width → x < width → reaches wide x ≡ true
-      → inRow (tableAt (talliedFor wide L) k) a x ≡ inRow (tableAt (tallied L) k) a x
-  form-agrees zero a x lk = same-at 0 isEarlier (before-heard wide L) (before-heard true L) a x
-  form-agrees (suc zero) a x lk = same-at 1 isLater (later-heard wide L) (later-heard true L) a x
-  form-agrees (suc (suc zero)) a x lk = same-at 2 notEarlier (unpreceded-heard wide L) (unpreceded-heard true L) a x
-  form-agrees (suc (suc (suc zero))) a x lk = same-at 3 notLater (unanswered-heard wide L) (unanswered-heard true L) a x
-  form-agrees (suc (suc (suc (suc zero)))) a x lk = same-at 4 notDirectly (unchained-heard wide L) (unchained-heard true L) a x
-  form-agrees (suc (suc (suc (suc (suc zero))))) a x lk = same-at 5 notSince (unalternated-heard wide L) (unalternated-heard true L) a x
-  form-agrees (suc (suc (suc (suc (suc (suc zero)))))) a x lk = same-at 6 isNext (followed-heard wide L) (followed-heard true L) a x
-  form-agrees (suc (suc (suc (suc (suc (suc (suc k))))))) a x lk = absurd (omega (arith, lk))
+pub form-agrees : (wide : Bool) (L : Traces) (k a x : ℕ) → k < tableCount → a < width → x < width → reaches wide x ≡ true
+    → inRow (tableAt (talliedFor wide L) k) a x ≡ inRow (tableAt (tallied L) k) a x
+form-agrees wide L k a x lk la lx h =
+    ap (λ (rows : List ℕ). inRow rows a x) (table-heard wide L k lk)
+    ∙ in-rowsOf (heard (cut wide (factAt k)) L) a x la lx
+    ∙ heard-in wide (factAt k) L a x h
+    ∙ sym (in-rowsOf (heard (factAt k) L) a x la lx)
+    ∙ ap (λ (rows : List ℕ). inRow rows a x) (sym (whole-is L k lk _ (λ b y. refl)))

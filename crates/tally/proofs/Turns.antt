@@ -1,22 +1,24 @@
 -- One turn of a pass over a trace: what stands before place i, the set of it, and what the row of the event gains. Assumes nothing.
-use Rattle.sets.specs.Members.{noSet}
+use Rattle.sets.specs.Members.{noSet, width, word, mem, those}
 use mathlib.Core.Path.{_≡_, refl, sym, ap, _∙_}
 use mathlib.Core.Bool.{Bool, true, false}
 use mathlib.Core.List.{List, [], _∷_, _++_, reverseAux}
 use Prim.Native.Nat.{ℕ, _+_, _≤_, _<_}
-use native.Mathlib.Omega.{arith}
 use native.Mathlib.Numerals.{add-one}
+use borrow.Author.Tests.{ltb-true, ltb-false}
 use lib.Dec.{eqb, ltb}
 use lib.ListN.{length, getD, take, drop, drop-of-length-le}
-use lib.Seq.{take-suc, take-all, drop-cons}
+use lib.Seq.{take-suc, take-all, drop-cons, drop-length}
 use Rattle.sets.specs.Tests.{_and_, _or_, non}
-use Rattle.sets.specs.Members.{width, word, mem, those}
 use Rattle.sets.specs.Rows.{rowAt, withRow}
 use Rattle.sets.specs.Tables.{tableAt, withRowIn, gainedIn}
 use Rattle.sets.specs.declared.set.Set.{Set}
-use Rattle.sets.proofs.Tests.{and-comm, or-comm, or-false}
+use Rattle.sets.proofs.Tests.{T→true, F→false, split, either, and-false, and-comm, or-assoc, or-comm, or-false}
+use Rattle.sets.proofs.Tautologies.{by2, by3}
 use Rattle.sets.proofs.Members.{none-those, those-ext, those-of}
 use Rattle.sets.proofs.MadeSets.{Is, is-those}
+use Rattle.sets.proofs.RowLaws.{put-out}
+use Rattle.sets.proofs.TableLaws.{table-put-above}
 use Rattle.rules.specs.Traces.{_has_, _beginsWith_}
 use Rattle.tally.specs.Passes.{Fact, Turn, gained, gains, notedIn, forward, backward, reaches, cut, isEarlier, notEarlier, notDirectly}
 use Rattle.tally.specs.Passes.{isLater, notLater, isNext}
@@ -46,10 +48,18 @@ seenIn past = those (λ x. past has x)
 abbrev pub lastIn : List ℕ → Set
 lastIn past = those (λ x. past beginsWith x)
 
--- of an empty list both are the empty set
+-- the set of what stands in it that a form holds
+abbrev pub heldIn : Bool → List ℕ → Set
+heldIn wide past = those (λ x. reaches wide x and past has x)
+
+-- of an empty list each is the empty set
 pub seen-none : _≡_ {A = Set} noSet (seenIn [])
 unfolding _has_
 seen-none = none-those (λ x. [] has x) (λ x l. refl)
+
+pub held-none : (wide : Bool) → _≡_ {A = Set} noSet (heldIn wide [])
+unfolding _has_
+held-none wide = none-those (λ x. reaches wide x and [] has x) (λ x l. and-false (reaches wide x))
 
 pub last-none : _≡_ {A = Set} noSet (lastIn [])
 unfolding _beginsWith_
@@ -59,29 +69,55 @@ last-none = none-those (λ x. [] beginsWith x) (λ x l. refl)
 pub has-past : (x : ℕ) (xs ys : List ℕ) → reverseAux xs ys has x ≡ (xs has x or ys has x)
 unfolding _has_ _or_
 has-past x [] ys = refl
-has-past x (y ∷ xs) ys = has-past x xs (y ∷ ys) ∙ swap (eqb x y) (xs has x) (ys has x)
-  where
-    swap : (a b c : Bool) → (b or (a or c)) ≡ ((a or b) or c)
-    swap true true c = refl
-    swap true false c = refl
-    swap false true c = refl
-    swap false false c = refl
+has-past x (y ∷ xs) ys =
+    has-past x xs (y ∷ ys) ∙ sym (or-assoc (xs has x) (eqb x y) (ys has x)) ∙ ap (λ (t : Bool). t or ys has x) (or-comm (xs has x) (eqb x y))
 
 -- after the last turn all of the trace was seen
-pub seen-all : (σ : List ℕ) (i : ℕ) (seen : Set) → length σ ≤ i → seen ≡ seenIn (pastAt σ i) → seen ≡ those (λ x. σ has x)
-unfolding _has_
-seen-all σ i seen h e =
-    e
-    ∙ those-ext (λ x. pastAt σ i has x) (λ x. σ has x)
-    (λ x l. has-past x (take i σ) [] ∙ or-false _ ∙ ap (λ (l : List ℕ). l has x) (take-all i σ h))
+module _ (σ : List ℕ) (i : ℕ) where
+  has-all : length σ ≤ i → (x : ℕ) → pastAt σ i has x ≡ σ has x
+  unfolding _has_
+  has-all h x = has-past x (take i σ) [] ∙ or-false _ ∙ ap (λ (l : List ℕ). l has x) (take-all i σ h)
+
+  pub seen-all : (seen : Set) → length σ ≤ i → seen ≡ seenIn (pastAt σ i) → seen ≡ those (λ x. σ has x)
+  seen-all seen h e = e ∙ those-ext (λ x. pastAt σ i has x) (λ x. σ has x) (λ x l. has-all h x)
+
+  pub held-all : (wide : Bool) (seen : Set) → length σ ≤ i → seen ≡ heldIn wide (pastAt σ i) → seen ≡ heldIn wide σ
+  held-all wide seen h e =
+      e
+      ∙ those-ext (λ x. reaches wide x and pastAt σ i has x) (λ x. reaches wide x and σ has x)
+      (λ x l. ap (λ (t : Bool). reaches wide x and t) (has-all h x))
+
+-- a set with one member more
+pub with-one : (seen one r : Set) (e : ℕ) → one ≡ those (λ b. eqb b e) → r ≡ those (λ a. mem seen a or mem one a) → r
+    ≡ those (λ x. mem seen x or eqb x e)
+with-one seen one r e ho hr = hr ∙ those-of one (λ b. eqb b e) (λ a t. mem seen a or t) ho
 
 -- a set of what was seen gains an event
+pub seen-one : (past : List ℕ) (e : ℕ) (seen r : Set) → seen ≡ seenIn past → r ≡ those (λ x. mem seen x or eqb x e) → r ≡ seenIn (e ∷ past)
+unfolding _has_
+seen-one past e seen r hs hr =
+    hr ∙ those-of seen (λ x. past has x) (λ a t. t or eqb a e) hs
+    ∙ those-ext (λ a. past has a or eqb a e) (λ a. (e ∷ past) has a) (λ a l. or-comm (past has a) (eqb a e))
+
+-- what was seen, one place further
+pub seen-next : (σ : List ℕ) (i : ℕ) (h : i < length σ) (seen : Set) → seen ≡ seenIn (pastAt σ i) → (r : Set)
+    → r ≡ those (λ x. mem seen x or eqb x (getD σ i 0)) → r ≡ seenIn (pastAt σ (i + 1))
+seen-next σ i h seen hs r hr = seen-one (pastAt σ i) (getD σ i 0) seen r hs hr ∙ ap seenIn (sym (past-next σ i h))
+
 pub seen-more : (past : List ℕ) (e : ℕ) (seen one seen′ : Set) → seen ≡ seenIn past → one ≡ those (λ b. eqb b e)
     → seen′ ≡ those (λ a. mem seen a or mem one a) → seen′ ≡ seenIn (e ∷ past)
+seen-more past e seen one seen′ hs ho hu = seen-one past e seen seen′ hs (with-one seen one seen′ e ho hu)
+
+-- the same of what a form holds
+pub held-more : (wide : Bool) (past : List ℕ) (e : ℕ) (seen one both seen′ : Set) → seen ≡ heldIn wide past → one ≡ those (λ b. eqb b e)
+    → both ≡ those (λ a. mem seen a or mem one a) → seen′ ≡ those (λ x. reaches wide x and mem both x) → seen′ ≡ heldIn wide (e ∷ past)
 unfolding _has_
-seen-more past e seen one seen′ hs ho hu =
-    hu ∙ those-of one (λ b. eqb b e) (λ a t. mem seen a or t) ho ∙ those-of seen (λ x. past has x) (λ a t. t or eqb a e) hs
-    ∙ those-ext (λ a. past has a or eqb a e) (λ a. (e ∷ past) has a) (λ a l. or-comm (past has a) (eqb a e))
+held-more wide past e seen one both seen′ hs ho hb h =
+    h
+    ∙ those-of both (λ x. mem seen x or eqb x e) (λ x t. reaches wide x and t) (with-one seen one both e ho hb)
+    ∙ those-of seen (λ x. reaches wide x and past has x) (λ x t. reaches wide x and (t or eqb x e)) hs
+    ∙ those-ext (λ x. reaches wide x and (reaches wide x and past has x or eqb x e)) (λ x. reaches wide x and (e ∷ past) has x)
+    (λ x l. by3 (λ r p o. r and (r and p or o)) (λ r p o. r and (o or p)) (unfold _and_ _or_ non in tt) (reaches wide x) (past has x) (eqb x e))
 
 -- a row joined with a set that is known
 pub joined-by : (rows : List ℕ) (e : ℕ) (q : ℕ → Bool) (s : Set) (rows′ : List ℕ) → s ≡ those q
@@ -89,36 +125,33 @@ pub joined-by : (rows : List ℕ) (e : ℕ) (q : ℕ → Bool) (s : Set) (rows�
 unfolding gained
 joined-by rows e q s rows′ hs h = h ∙ ap (withRow rows e) (those-of s q (λ b t. mem (rowAt rows e) b or t) hs)
 
--- a row joined with a set, as it is
-pub joined-with : (rows : List ℕ) (e : ℕ) (s : Set) (rows′ : List ℕ)
-    → rows′ ≡ withRow rows e (those (λ b. mem (rowAt rows e) b or mem s b)) → rows′ ≡ gained rows e (mem s)
-unfolding gained
-joined-with rows e s rows′ h = h
+-- a row for e is put only where e is below the width: what it gains may be said otherwise there
+pub put-where : (e : ℕ) (row : Set) (old : List ℕ) (put : Set → List ℕ) → ((s : Set) → width ≤ e → old ≡ put s) → (p q : ℕ → Bool)
+    → (e < width → (x : ℕ) → x < width → p x ≡ q x) → put (those (λ x. mem row x or p x)) ≡ put (those (λ x. mem row x or q x))
+put-where e row old put out p q h =
+    either (split (ltb e width))
+    (λ t. ap put (those-ext _ _ (λ x l. ap (λ (b : Bool). mem row x or b) (h (ltb-true e width (T→true _ t)) x l))))
+    (λ f. let g = ltb-false e width (F→false _ f) in sym (out _ g) ∙ out _ g)
 
--- what a turn's function says: the row of the event gains f of the members of a set that is known
-pub gained-by : (p : Fact) (f : ℕ → Bool → Bool) (q : ℕ → Bool) (rows : List ℕ) (e : ℕ) (past rest : List ℕ) (s : Set) (rows′ : List ℕ) → s
-    ≡ those q
-    → ((x : ℕ) → f x (q x) ≡ p e past rest x) → rows′ ≡ gained rows e (λ x. f x (mem s x)) → rows′ ≡ gains p rows e past rest
+-- the row of the event gains what passes, and below the width that is the fact; a number past it has no row
+pub gains-below : (p : Fact) (rows : List ℕ) (e : ℕ) (past rest : List ℕ) (q : ℕ → Bool) (rows′ : List ℕ)
+    → (e < width → (x : ℕ) → x < width → q x ≡ p e past rest x) → rows′ ≡ gained rows e q → rows′ ≡ gains p rows e past rest
 unfolding gains gained
-gained-by p f q rows e past rest s rows′ hs hp h =
-    h
-    ∙ ap (withRow rows e)
-    (those-of s q (λ x t. mem (rowAt rows e) x or f x t) hs
-    ∙ those-ext (λ x. mem (rowAt rows e) x or f x (q x)) (λ x. mem (rowAt rows e) x or p e past rest x)
-    (λ x l. ap (λ (t : Bool). mem (rowAt rows e) x or t) (hp x)))
+gains-below p rows e past rest q rows′ f h =
+    h ∙ put-where e (rowAt rows e) rows (withRow rows e) (put-out rows e) q (p e past rest) f
 
 -- ---- the same of tables
 
 module _ (tables : List ℕ) (k e : ℕ) where
-  noted-as : (p q : ℕ → Bool) → ((x : ℕ) → x < width → p x ≡ q x) → notedIn tables k e p ≡ notedIn tables k e q
+  pub noted-where : (p q : ℕ → Bool) → (e < width → (x : ℕ) → x < width → p x ≡ q x) → notedIn tables k e p ≡ notedIn tables k e q
   unfolding notedIn
-  noted-as p q h =
-      ap (withRowIn tables k e)
-      (those-ext (λ x. mem (rowAt (tableAt tables k) e) x or p x) (λ x. mem (rowAt (tableAt tables k) e) x or q x)
-      (λ x l. ap (λ (t : Bool). mem (rowAt (tableAt tables k) e) x or t) (h x l)))
+  noted-where = put-where e (rowAt (tableAt tables k) e) tables (withRowIn tables k e) (table-put-above tables k e)
+
+  noted-as : (p q : ℕ → Bool) → ((x : ℕ) → x < width → p x ≡ q x) → notedIn tables k e p ≡ notedIn tables k e q
+  noted-as p q h = noted-where p q (λ l. h)
 
   -- a join with a set whose members are known
-  noted-by : (s : Set) (p : ℕ → Bool) (out : List ℕ) → Is s p → out ≡ gainedIn tables k e s → out ≡ notedIn tables k e p
+  pub noted-by : (s : Set) (p : ℕ → Bool) (out : List ℕ) → Is s p → out ≡ gainedIn tables k e s → out ≡ notedIn tables k e p
   unfolding notedIn
   noted-by s p out hs h = h ∙ noted-as (mem s) p hs
 
@@ -127,7 +160,7 @@ module _ (tables : List ℕ) (j k l e : ℕ) where
   abbrev thrice : (ℕ → Bool) → (ℕ → Bool) → (ℕ → Bool) → List ℕ
   thrice p q r = notedIn (notedIn (notedIn tables j e p) k e q) l e r
 
-  joined-thrice : (s u v : Set) (p q r : ℕ → Bool) (one two out : List ℕ) → Is s p → Is u q → Is v r
+  pub joined-thrice : (s u v : Set) (p q r : ℕ → Bool) (one two out : List ℕ) → Is s p → Is u q → Is v r
       → one ≡ gainedIn tables j e s → two ≡ gainedIn one k e u → out ≡ gainedIn two l e v → out ≡ thrice p q r
   joined-thrice s u v p q r one two out hs hu hv h1 h2 h3 =
       noted-by two l e v r out hv h3
@@ -161,6 +194,10 @@ low-held wide s low r t hl hr =
 formed : (wide : Bool) (s c : Set) (p : ℕ → Bool) → Is s p → c ≡ those (λ x. reaches wide x and mem s x) → Is c (λ x. reaches wide x and p x)
 formed wide s c p hs hc x l = is-those c _ hc x l ∙ ap (λ (t : Bool). reaches wide x and t) (hs x l)
 
+-- in the form, what it does not hold of a list does not stand there
+pub not-held : (r p : Bool) → (r and non (r and p)) ≡ (r and non p)
+not-held = by2 (λ r p. r and non (r and p)) (λ r p. r and non p) (unfold _and_ _or_ non in tt)
+
 -- a place of either pass, as its function puts it down: a set, what is not in it, and another or what is not in that
 module _ (wide : Bool) (tables : List ℕ) (e : ℕ) where
   pub past-put : (seen last s c c′ d d′ : Set) (one two out : List ℕ) → s ≡ those (λ x. reaches wide x and mem seen x)
@@ -183,13 +220,16 @@ module _ (wide : Bool) (tables : List ℕ) (e : ℕ) where
 
   -- by sets of what stands there, it is what the place says
   module _ (past rest : List ℕ) where
-    pub past-is : (seen last : Set) → seen ≡ seenIn past → last ≡ lastIn past → pastBy wide tables e seen last ≡ notePastIn wide tables e past rest
+    pub past-is : (seen last : Set) → seen ≡ heldIn wide past → last ≡ lastIn past → pastBy wide tables e seen last ≡ notePastIn wide tables e past rest
     unfolding pastBy notePastIn cut isEarlier notEarlier notDirectly
     past-is seen last hs hl =
         let seen-in = is-those seen _ hs in
         let last-in = is-those last _ hl in
-        thrice-as tables beforeTable unprecededTable unchainedTable e _ _ _ _ _ _ (λ x l. ap (λ (t : Bool). reaches wide x and t) (seen-in x l))
-        (λ x l. ap (λ (t : Bool). reaches wide x and non t) (seen-in x l)) (λ x l. ap (λ (t : Bool). reaches wide x and non t) (last-in x l))
+        thrice-as tables beforeTable unprecededTable unchainedTable e _ _ _ _ _ _
+        (λ x l.
+        ap (λ (t : Bool). reaches wide x and t) (seen-in x l)
+        ∙ by2 (λ r p. r and (r and p)) (λ r p. r and p) (unfold _and_ _or_ non in tt) (reaches wide x) (past has x))
+        (λ x l. ap (λ (t : Bool). reaches wide x and non t) (seen-in x l) ∙ not-held (reaches wide x) (past has x)) (λ x l. ap (λ (t : Bool). reaches wide x and non t) (last-in x l))
 
     pub rest-is : (after next : Set) → after ≡ seenIn rest → next ≡ lastIn rest → restBy wide tables e after next ≡ noteRestIn wide tables e past rest
     unfolding restBy noteRestIn cut isLater notLater isNext
@@ -198,6 +238,11 @@ module _ (wide : Bool) (tables : List ℕ) (e : ℕ) where
         let next-in = is-those next _ hn in
         thrice-as tables laterTable unansweredTable followedTable e _ _ _ _ _ _ (λ x l. ap (λ (t : Bool). reaches wide x and t) (after-in x l))
         (λ x l. ap (λ (t : Bool). reaches wide x and non t) (after-in x l)) (λ x l. ap (λ (t : Bool). reaches wide x and t) (next-in x l))
+
+-- the pass in the form that was asked for
+pub as-asked : (wide form : Bool) (p : Fact) (rows rows′ σ : List ℕ) → wide ≡ form → rows′ ≡ forward (gains (cut form p)) rows [] σ
+    → rows′ ≡ forward (gains (cut wide p)) rows [] σ
+as-asked wide form p rows rows′ σ h e = e ∙ ap (λ (b : Bool). forward (gains (cut b p)) rows [] σ) (sym h)
 
 -- the forward loop: before the first turn, one turn further, after the last
 module _ (turn : Turn) (σ all : List ℕ) where
@@ -214,14 +259,11 @@ module _ (turn : Turn) (σ all : List ℕ) where
   unfolding forward
   forward-end i rows h inv = ap (forward turn rows (pastAt σ i)) (sym (drop-of-length-le σ h)) ∙ inv
 
-pub rest-none : (σ : List ℕ) → drop (length σ) σ ≡ []
-rest-none σ = let all : length σ ≤ length σ = omega arith in drop-of-length-le σ all
-
 -- the backward loop: before the first turn, one turn further
 module _ (turn : Turn) (σ rows₀ : List ℕ) where
   pub backward-start : rows₀ ≡ backward turn rows₀ (pastAt σ (length σ)) (drop (length σ) σ)
   unfolding backward
-  backward-start = ap (backward turn rows₀ (pastAt σ (length σ))) (sym (rest-none σ))
+  backward-start = ap (backward turn rows₀ (pastAt σ (length σ))) (sym (drop-length σ))
 
   pub backward-next : (i : ℕ) (rows rows′ : List ℕ) → i < length σ → rows′ ≡ turn rows (getD σ i 0) (pastAt σ i) (drop (i + 1) σ)
       → rows ≡ backward turn rows₀ (pastAt σ (i + 1)) (drop (i + 1) σ) → rows′ ≡ backward turn rows₀ (pastAt σ i) (drop i σ)

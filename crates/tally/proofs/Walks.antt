@@ -1,20 +1,19 @@
 -- A walk over the parts of a log's bytes: one part further, and the end. Assumes nothing.
-use Rattle.sets.specs.Members.{noSet}
-use mathlib.Core.Path.{_≡_, refl, sym, ap, _∙_}
-use mathlib.Core.Bool.{Bool, true, false}
+use Rattle.sets.specs.Members.{noSet, mem, those}
+use mathlib.Core.Path.{_≡_, sym, ap, _∙_}
+use mathlib.Core.Bool.{Bool}
 use mathlib.Core.List.{List, [], _∷_}
 use Prim.Native.Nat.{ℕ, suc, _+_, _-_, _≤_, _<_}
 use native.Mathlib.Omega.{arith}
 use native.Mathlib.Numerals.{add-one}
-use Rattle.sets.specs.Tests.{_or_}
-use Rattle.sets.specs.Members.{mem, those}
+use Rattle.sets.specs.Tests.{_and_, _or_, non}
 use Rattle.sets.specs.declared.set.Set.{Set}
-use Rattle.sets.proofs.Members.{those-ext, those-of}
-use Rattle.sets.proofs.Tests.{or-assoc, or-false, false-or}
-use Rattle.sets.proofs.Members.{mem-none}
+use Rattle.sets.proofs.Members.{those-ext, those-of, mem-none}
+use Rattle.sets.proofs.Tests.{and-false, or-false, false-or}
+use Rattle.sets.proofs.Tautologies.{by4}
 use Rattle.calllog.specs.Logs.{partAt}
 use Rattle.rules.specs.Traces.{Traces, _has_, someTrace}
-use Rattle.tally.specs.Passes.{through, walked}
+use Rattle.tally.specs.Passes.{through, walked, reaches, eventIn}
 
 module _ (log : List ℕ) (n k : ℕ) where
   pub walked-next : k < n → walked log (n - k) k ≡ partAt log k ∷ walked log (n - (k + 1)) (k + 1)
@@ -52,42 +51,46 @@ abbrev pub Left : (List ℕ → List ℕ → List ℕ) → List ℕ → ℕ → 
 Left pass log n k rows₀ rows = through pass rows (walked log (n - k) k) ≡ through pass rows₀ (walked log n 0)
 
 -- the events of a walk: those so far, and those to come
-abbrev pub eventsFrom : Set → Traces → Set
-eventsFrom events L = those (λ x. mem events x or someTrace L (λ σ. σ has x))
+abbrev pub eventsFrom : Bool → Set → Traces → Set
+eventsFrom wide events L = those (λ x. mem events x or eventIn wide L x)
 
-pub union-seen : (σ : List ℕ) (events seen r : Set) → seen ≡ those (λ x. σ has x) → r ≡ those (λ a. mem events a or mem seen a)
-    → r ≡ those (λ x. mem events x or σ has x)
-union-seen σ events seen r hs h = h ∙ those-of seen (λ x. σ has x) (λ a t. mem events a or t) hs
+pub union-seen : (wide form : Bool) (σ : List ℕ) (events seen r : Set) → wide ≡ form → seen ≡ those (λ x. reaches form x and σ has x)
+    → r ≡ those (λ a. mem events a or mem seen a) → r ≡ those (λ x. mem events x or reaches wide x and σ has x)
+union-seen wide form σ events seen r hw hs h =
+    h
+    ∙ those-of seen (λ x. reaches form x and σ has x) (λ a t. mem events a or t) hs
+    ∙ ap (λ (b : Bool). those (λ x. mem events x or reaches b x and σ has x)) (sym hw)
 
-module _ (log : List ℕ) (n k : ℕ) (all : Set) where
-  pub events-next : (σ : List ℕ) (events events′ : Set) → k < n → σ ≡ partAt log k → events′ ≡ those (λ x. mem events x or σ has x)
-      → eventsFrom events (walked log (n - k) k) ≡ all → eventsFrom events′ (walked log (n - (k + 1)) (k + 1)) ≡ all
-  unfolding someTrace
+module _ (wide : Bool) (log : List ℕ) (n k : ℕ) (all : Set) where
+  pub events-next : (σ : List ℕ) (events events′ : Set) → k < n → σ ≡ partAt log k → events′ ≡ those (λ x. mem events x or reaches wide x and σ has x)
+      → eventsFrom wide events (walked log (n - k) k) ≡ all → eventsFrom wide events′ (walked log (n - (k + 1)) (k + 1)) ≡ all
+  unfolding someTrace eventIn
   events-next σ events events′ h e hv inv =
       let L = walked log (n - (k + 1)) (k + 1) in
-      those-of events′ (λ x. mem events x or partAt log k has x) (λ x t. t or someTrace L (λ σ. σ has x))
-      (hv ∙ ap (λ (l : List ℕ). those (λ x. mem events x or l has x)) e)
-      ∙ those-ext (λ x. mem events x or partAt log k has x or someTrace L (λ σ. σ has x))
-      (λ x. mem events x or someTrace (partAt log k ∷ L) (λ σ. σ has x))
-      (λ x l. or-assoc (mem events x) (partAt log k has x) (someTrace L (λ σ. σ has x)))
-      ∙ ap (eventsFrom events) (sym (walked-next log n k h))
+      those-of events′ (λ x. mem events x or reaches wide x and partAt log k has x) (λ x t. t or eventIn wide L x)
+      (hv ∙ ap (λ (l : List ℕ). those (λ x. mem events x or reaches wide x and l has x)) e)
+      ∙ those-ext (λ x. mem events x or reaches wide x and partAt log k has x or eventIn wide L x)
+      (λ x. mem events x or eventIn wide (partAt log k ∷ L) x)
+      (λ x l.
+      by4 (λ m r p q. m or r and p or r and q) (λ m r p q. m or r and (p or q)) (unfold _and_ _or_ non in tt) (mem events x) (reaches wide x)
+      (partAt log k has x) (someTrace L (λ σ. σ has x)))
+      ∙ ap (eventsFrom wide events) (sym (walked-next log n k h))
       ∙ inv
 
-  pub events-set : (σ : List ℕ) (events events′ : Set) → events′ ≡ those (λ x. mem events x or σ has x) → those (mem events′) ≡ events′
-  events-set σ events events′ h = those-of events′ (λ x. mem events x or σ has x) (λ a t. t) h ∙ sym h
+  pub events-set : (σ : List ℕ) (events events′ : Set) → events′ ≡ those (λ x. mem events x or reaches wide x and σ has x) → those (mem events′) ≡ events′
+  events-set σ events events′ h = those-of events′ (λ x. mem events x or reaches wide x and σ has x) (λ a t. t) h ∙ sym h
 
-  pub events-end : (events : Set) → those (mem events) ≡ events → n ≤ k → eventsFrom events (walked log (n - k) k) ≡ all → events ≡ all
-  unfolding someTrace
+  pub events-end : (events : Set) → those (mem events) ≡ events → n ≤ k → eventsFrom wide events (walked log (n - k) k) ≡ all → events ≡ all
+  unfolding someTrace eventIn
   events-end events is h inv =
       sym is
-      ∙ those-ext (mem events) (λ x. mem events x or someTrace [] (λ σ. σ has x)) (λ x l. sym (or-false (mem events x)))
-      ∙ ap (eventsFrom events) (sym (walked-end log n k h))
+      ∙ those-ext (mem events) (λ x. mem events x or eventIn wide [] x)
+      (λ x l. sym (ap (λ (t : Bool). mem events x or t) (and-false (reaches wide x)) ∙ or-false (mem events x)))
+      ∙ ap (eventsFrom wide events) (sym (walked-end log n k h))
       ∙ inv
 
-pub events-start : (log : List ℕ) (n : ℕ) (events : Set) → events ≡ noSet → eventsFrom events (walked log (n - 0) 0)
-    ≡ those (λ x. someTrace (walked log n 0) (λ σ. σ has x))
-events-start log n events e =
-    ap (λ (s : Set). eventsFrom s (walked log (n - 0) 0)) e
-    ∙ ap (eventsFrom noSet) (walked-start log n)
-    ∙ those-ext (λ x. mem noSet x or someTrace (walked log n 0) (λ σ. σ has x)) (λ x. someTrace (walked log n 0) (λ σ. σ has x))
-    (λ x l. ap (λ (t : Bool). t or someTrace (walked log n 0) (λ σ. σ has x)) (mem-none x) ∙ false-or _)
+pub events-start : (wide : Bool) (log : List ℕ) (n : ℕ) → eventsFrom wide noSet (walked log (n - 0) 0) ≡ those (eventIn wide (walked log n 0))
+events-start wide log n =
+    ap (eventsFrom wide noSet) (walked-start log n)
+    ∙ those-ext (λ x. mem noSet x or eventIn wide (walked log n 0) x) (eventIn wide (walked log n 0))
+    (λ x l. ap (λ (t : Bool). t or eventIn wide (walked log n 0) x) (mem-none x) ∙ false-or _)

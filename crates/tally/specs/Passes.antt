@@ -12,7 +12,7 @@ use Rattle.sets.specs.Rows.{Relation, rowAt, withRow}
 use Rattle.sets.specs.Tables.{tableAt, withRowIn}
 use Rattle.sets.specs.declared.set.Set.{Set}
 use Rattle.calllog.specs.Logs.{partAt}
-use Rattle.rules.specs.Traces.{Traces, _has_, _beginsWith_, atSome}
+use Rattle.rules.specs.Traces.{Traces, _has_, _beginsWith_, atSome, someTrace}
 
 -- whether a place, by its activity, past and rest, puts x into the row of its activity
 abbrev pub Fact : Type 0
@@ -89,6 +89,10 @@ isNext e past rest x = rest beginsWith x
 -- a set of this form can hold x
 unfoldable pub reaches : Bool → ℕ → Bool
 reaches wide x = wide or ltb x word
+
+-- x is an event of the traces that the form can hold
+unfoldable pub eventIn : Bool → Traces → ℕ → Bool
+eventIn wide L x = reaches wide x and someTrace L (λ σ. σ has x)
 
 -- the fact, of what the form can hold
 unfoldable pub cut : Bool → Fact → Fact

@@ -4,8 +4,9 @@
 use mathlib.Core.Bool.{Bool}
 use mathlib.Core.List.{List, [], reverseAux}
 use Prim.Native.Nat.{ℕ}
-use Rattle.sets.specs.Tests.{_and_, non, when_then_else_}
-use Rattle.sets.specs.Members.{mem}
+use lib.Dec.{ltb}
+use Rattle.sets.specs.Tests.{_and_, _or_, non, when_then_else_}
+use Rattle.sets.specs.Members.{width, mem}
 use Rattle.sets.specs.Tables.{noTables}
 use Rattle.sets.specs.declared.set.Set.{Set}
 use Rattle.rules.specs.Traces.{Traces}
@@ -89,17 +90,21 @@ notedFor wide tally σ = backward (noteRestIn wide) (forward (noteSinceIn wide) 
 abbrev pub talliedFor : Bool → Traces → List ℕ
 talliedFor wide L = through (notedFor wide) (noTables tableCount) L
 
--- ---- the same by sets: `seen` stands before the place, `last` directly before it
+-- ---- the same by sets: `seen` stands before the place, as far as the form holds it, `last` directly before it
 
 unfoldable pub pastBy : Bool → List ℕ → ℕ → Set → Set → List ℕ
 pastBy wide tally e seen last =
     notedIn (notedIn (notedIn tally beforeTable e (λ x. reaches wide x and mem seen x)) unprecededTable e (λ x. reaches wide x and non (mem seen x)))
     unchainedTable e (λ x. reaches wide x and non (mem last x))
 
+-- a place of e looks back: an e was seen, or the form cannot tell
+unfoldable pub looksBack : Bool → Set → ℕ → Bool
+looksBack wide seen e = mem seen e or non (reaches wide e) and ltb e width
+
 unfoldable pub sinceBy : Bool → List ℕ → ℕ → List ℕ → Set → List ℕ
 sinceBy wide tally e past seen =
     notedIn tally unalternatedTable e
-    (λ x. reaches wide x and (when mem seen e then notSince e (reverseAux past []) [] x else non (mem seen x)))
+    (λ x. reaches wide x and (when looksBack wide seen e then notSince e (reverseAux past []) [] x else non (mem seen x)))
 
 -- `after` stands after the place, `next` directly after it
 unfoldable pub restBy : Bool → List ℕ → ℕ → Set → Set → List ℕ

@@ -1,12 +1,12 @@
 // The tally of a log: what steps 1 to 7 ask of it. It keeps what was seen, or what breaks a rule, over all activities of the width: all of
 // it only grows, so the facts of two logs join by union.
 ghost use mathlib.Core.Path.{_≡_};
-ghost use Rattle.sets.specs.Tests.{_or_};
+ghost use Rattle.sets.specs.Tests.{_and_, _or_};
 ghost use Rattle.sets.specs.Members.{mem, those};
 ghost use Rattle.sets.specs.Tables.{noTables};
-ghost use Rattle.rules.specs.Traces.{_has_, someTrace};
-ghost use Rattle.tally.specs.Passes.{through, walked};
-ghost use Rattle.tally.specs.Tallies.{tableCount, noted, notedFor};
+ghost use Rattle.rules.specs.Traces.{_has_};
+ghost use Rattle.tally.specs.Passes.{through, walked, reaches, eventIn};
+ghost use Rattle.tally.specs.Tallies.{tableCount, notedFor};
 use crate::passes;
 use sets::Set;
 use sets::rows::WORDS;
@@ -36,9 +36,9 @@ pub fn empty() -> Tally
     [0; 7 * WORDS]
 }
 
-// The facts of one trace. It gives the events so far with those of the trace.
+// The facts of one trace. It gives the events so far with those of the trace that the form holds.
 fn note_trace(trace: &[u8], events: Set, wide: bool, tally: &mut Tally) -> Set
-    ensures { λ r. ⌜ r ≡ those (λ x. mem events x or now (trace .entry) has x) ⌝ }
+    ensures { λ r. ⌜ r ≡ those (λ x. mem events x or reaches wide x and now (trace .entry) has x) ⌝ }
     ensures { λ _. ⌜ now (tally .exit) ≡ notedFor wide (now (tally .entry)) (now (trace .entry)) ⌝ }
 {
     if wide {
@@ -51,9 +51,9 @@ fn note_trace(trace: &[u8], events: Set, wide: bool, tally: &mut Tally) -> Set
     events.union(seen)
 }
 
-// The facts of a log's first traces, in a form. It gives their events.
+// The facts of a log's first traces, in a form. It gives their events, as far as the form holds them.
 pub fn note_traces_in(log: &[u8], traces: usize, wide: bool, tally: &mut Tally) -> Set
-    ensures { λ r. ⌜ r ≡ those (λ x. someTrace (walked (now (log .entry)) traces 0) (λ σ. σ has x)) ⌝ }
+    ensures { λ r. ⌜ r ≡ those (eventIn wide (walked (now (log .entry)) traces 0)) ⌝ }
     ensures { λ _. ⌜ now (tally .exit) ≡ through (notedFor wide) (now (tally .entry)) (walked (now (log .entry)) traces 0) ⌝ }
 {
     let mut events = Set::EMPTY;
@@ -64,12 +64,4 @@ pub fn note_traces_in(log: &[u8], traces: usize, wide: bool, tally: &mut Tally) 
         k += 1;
     }
     events
-}
-
-// The same over the whole width.
-pub fn note_traces(log: &[u8], traces: usize, tally: &mut Tally) -> Set
-    ensures { λ r. ⌜ r ≡ those (λ x. someTrace (walked (now (log .entry)) traces 0) (λ σ. σ has x)) ⌝ }
-    ensures { λ _. ⌜ now (tally .exit) ≡ through noted (now (tally .entry)) (walked (now (log .entry)) traces 0) ⌝ }
-{
-    note_traces_in(log, traces, true, tally)
 }

@@ -10,7 +10,7 @@ ghost use Rattle.sets.specs.Members.{width, mem, those, isEmpty};
 ghost use Rattle.sets.specs.Rows.{Relation, rowsOf};
 ghost use Rattle.sets.specs.Sizes.{longestTrace};
 ghost use Rattle.tally.specs.Passes.{notSince, inBlock, PassedTo};
-ghost use Rattle.tally.specs.Tallies.{sinceBy};
+ghost use Rattle.tally.specs.Tallies.{looksBack, sinceBy};
 use crate::form::in_form;
 use crate::log::Tally;
 use crate::log::UNALTERNATED;
@@ -19,6 +19,7 @@ use sets::Place;
 use sets::Rows;
 use sets::Set;
 use sets::activity::WIDTH;
+use sets::activity::WORD;
 use sets::rows;
 use sets::tables;
 
@@ -100,6 +101,20 @@ fn unmet_by<'a>(past: &'a [u8], blocks: &'a Rows, e: Activity, wanted: Set) -> S
     unmet(&past[0..end], e, at.left)
 }
 
+// Whether a place of e looks back: an e was seen, or the form cannot tell. What was seen is kept in the form, and the narrow one holds nothing
+// from 64 on.
+fn looks_back(seen: Set, e: Activity, wide: bool) -> bool
+    ensures { λ r. ⌜ r ≡ looksBack wide seen (e .0) ⌝ }
+{
+    if wide {
+        return seen.has(e);
+    }
+    if e.0 < WORD {
+        return seen.has(e);
+    }
+    e.0 < Activity::LIMIT
+}
+
 // One place: what does not stand since the last e. At the first e of a trace that is what was not seen. A row that has all can gain
 // nothing, and that is the first question, since the answer is mostly the same.
 pub(crate) fn note_since<'a>(
@@ -117,7 +132,7 @@ pub(crate) fn note_since<'a>(
     if wanted.is_empty() {
         return;
     }
-    if seen.has(e) {
+    if looks_back(seen, e, wide) {
         let left = unmet_by(past, blocks, e, wanted);
         tables::join(tally, UNALTERNATED, e, left);
     } else {

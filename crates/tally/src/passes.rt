@@ -11,7 +11,7 @@ ghost use Rattle.sets.specs.Members.{those};
 ghost use Rattle.sets.specs.Tests.{_and_, _or_};
 ghost use Rattle.sets.specs.Rows.{rowsOf};
 ghost use Rattle.rules.specs.Traces.{_has_};
-ghost use Rattle.tally.specs.Passes.{forward, backward, inBlock};
+ghost use Rattle.tally.specs.Passes.{forward, backward, reaches, inBlock};
 ghost use Rattle.tally.specs.Tallies.{notePastIn, noteSinceIn, noteRestIn, pastBy, sinceBy, restBy};
 use crate::form::in_form;
 use crate::log::BEFORE;
@@ -73,9 +73,9 @@ fn note_place_narrow<'a>(
     look_back::put_down(blocks, e, past.len());
 }
 
-// From the first place to the last, looking back from a repeat. It gives the set of what stands in the trace.
+// From the first place to the last, looking back from a repeat. It gives the set of what stands in the trace, as far as the form holds it.
 pub fn forward(trace: &[u8], tally: &mut Tally) -> Set
-    ensures { λ r. ⌜ r ≡ those (λ x. now (trace .entry) has x) ⌝ }
+    ensures { λ r. ⌜ r ≡ those (λ x. reaches true x and now (trace .entry) has x) ⌝ }
     ensures { λ _. ⌜ now (tally .exit) ≡ forward (noteSinceIn true) (forward (notePastIn true) (now (tally .entry)) [] (now (trace .entry))) []
         (now (trace .entry)) ⌝ }
 {
@@ -87,7 +87,7 @@ pub fn forward(trace: &[u8], tally: &mut Tally) -> Set
         let e = Activity(trace[i]);
         note_place(&trace[0..i], e, seen, last, &mut blocks, tally);
         last = Set::one(e);
-        seen = seen.union(last);
+        seen = in_form(seen.union(last), true);
         i += 1;
     }
     seen
@@ -95,7 +95,7 @@ pub fn forward(trace: &[u8], tally: &mut Tally) -> Set
 
 // The same in the narrow form.
 pub fn forward_narrow(trace: &[u8], tally: &mut Tally) -> Set
-    ensures { λ r. ⌜ r ≡ those (λ x. now (trace .entry) has x) ⌝ }
+    ensures { λ r. ⌜ r ≡ those (λ x. reaches false x and now (trace .entry) has x) ⌝ }
     ensures { λ _. ⌜ now (tally .exit) ≡ forward (noteSinceIn false) (forward (notePastIn false) (now (tally .entry)) [] (now (trace .entry))) []
         (now (trace .entry)) ⌝ }
 {
@@ -107,7 +107,7 @@ pub fn forward_narrow(trace: &[u8], tally: &mut Tally) -> Set
         let e = Activity(trace[i]);
         note_place_narrow(&trace[0..i], e, seen, last, &mut blocks, tally);
         last = Set::one(e);
-        seen = seen.union(last);
+        seen = in_form(seen.union(last), false);
         i += 1;
     }
     seen

@@ -8,7 +8,7 @@ read-requires c κs = search needs
 
 put-requires : tie.Need-put-requires
 put-requires c κs =
-    let read = c .before .before in read-ok _ _ (λ k. read .before .before .shared-slice-known .given k .fits) (read .read .ensures)
+    let read = c .before .before .before .before in read-ok _ _ (λ k. read .before .before .shared-slice-known .given k .fits) (read .read .ensures)
 
 same-length : tie.Need-same-length
 same-length c = search needs

@@ -1,41 +1,17 @@
-use Prim.Native.Nat.{_-_, _≤_}
-use mathlib.Core.Path.{_≡_}
 use borrow.Author.Needs.{needs}
-use lib.ListN.{length, drop}
-use Rattle.engine.specs.Relations.{inTables}
-use Rattle.engine.specs.Replay.{replayFrom}
-use Rattle.engine.proofs.Running.{run-next, walk-stop, walk-end}
+use Rattle.sets.proofs.Members.{Fits}
+use Rattle.engine.proofs.Narrow.{walk-cut}
 use Rattle.engine.proofs.replay.walk.Statement.{statement}
 use Rattle.engine.proofs.replay.walk.Tie as tie
 
-abbrev Inv-loop : tie.InvT-loop
-Inv-loop events relations trace s₀ i₀ s i =
-    (i ≤ length trace)
-    × (replayFrom events (inTables relations) s i (drop i trace) ≡ replayFrom events (inTables relations) s₀ 0 trace)
+-- as every state of the code has it
+fits : (c : tie.Start) → Fits (c .args .opening .executed) × (Fits (c .args .opening .pending) × Fits (c .args .opening .included))
+fits c = search needs
 
-abbrev μ-loop : tie.MeasureT-loop
-μ-loop events relations trace s₀ i₀ s i = length trace - i
-
-loop-holds : tie.Need-loop-holds Inv-loop μ-loop
-loop-holds c = search needs
-
-returns : tie.Need-returns Inv-loop μ-loop
-returns c = search (walk-stop, needs)
+returns : tie.Need-returns
+returns c = let f = fits (c .before .before .before .before .before) in search (walk-cut, f, needs)
 
 pub walk-spec : {M : Type 1} → statement M
 walk-spec =
     tie.close
-    (tie.spec
-    Inv-loop
-    μ-loop
-    loop-holds
-    (λ c. search needs)
-    (λ c κs. search needs)
-    (λ c κs. search needs)
-    returns
-    (λ c κs. search needs)
-    (λ c. search needs)
-    (λ c. search needs)
-    (λ c. search (run-next, needs))
-    (λ c κs. search needs)
-    (λ c. search (walk-end, needs)))
+    (tie.spec (λ c κs. search needs) (λ c κs. search needs) (λ c κs. search needs) returns (λ c κs. search needs) (λ c. search needs))

@@ -16,7 +16,7 @@ use Rattle.graphfile.proofs.writer.put_entries.Tie as tie
 
 abbrev Inv-loop : tie.InvT-loop
 Inv-loop out₀ relations wide entries earlier₀ r₀ out earlier r =
-    (r ≤ relationCount) × (length out ≡ length out₀) × (earlier ≡ rowsBefore relations r) × (earlier ≤ width * r)
+    (r ≤ relationCount) × (length out ≡ length out₀) × (earlier ≡ rowsBefore wide relations r) × (earlier ≤ width * r)
     × (out ≡ sets out₀ (entriesPlace wide) (entriesBytes wide relations r)) × (entries ≡ entriesPlace wide) × (entries ≤ 68)
 
 abbrev μ-loop : tie.MeasureT-loop

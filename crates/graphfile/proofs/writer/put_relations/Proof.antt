@@ -13,7 +13,7 @@ use Rattle.graphfile.proofs.writer.put_relations.Tie as tie
 
 abbrev Inv-loop : tie.InvT-loop
 Inv-loop out₀ relations wide next₀ r₀ out next r =
-    (r ≤ relationCount) × (length out ≡ length out₀) × (next ≡ headLength wide + rowsLength wide (rowsBefore relations r))
+    (r ≤ relationCount) × (length out ≡ length out₀) × (next ≡ headLength wide + rowsLength wide (rowsBefore wide relations r))
     × (out ≡ sets out₀ (headLength wide) (relationsBytes wide relations r))
 
 abbrev μ-loop : tie.MeasureT-loop

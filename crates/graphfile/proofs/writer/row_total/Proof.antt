@@ -9,10 +9,10 @@ use Rattle.graphfile.proofs.writer.row_total.Statement.{statement}
 use Rattle.graphfile.proofs.writer.row_total.Tie as tie
 
 abbrev Inv-loop : tie.InvT-loop
-Inv-loop relations rows₀ r₀ rows r = (r ≤ relationCount) × (rows ≡ rowsBefore relations r) × (rows ≤ width * r)
+Inv-loop relations wide rows₀ r₀ rows r = (r ≤ relationCount) × (rows ≡ rowsBefore wide relations r) × (rows ≤ width * r)
 
 abbrev μ-loop : tie.MeasureT-loop
-μ-loop relations rows₀ r₀ rows r = relationCount - r
+μ-loop relations wide rows₀ r₀ rows r = relationCount - r
 
 pub row-total-spec : {M : Type 1} → statement M
 row-total-spec =

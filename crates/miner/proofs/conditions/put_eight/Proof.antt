@@ -2,9 +2,5 @@ use borrow.Author.Needs.{needs}
 use Rattle.miner.proofs.conditions.put_eight.Statement.{statement}
 use Rattle.miner.proofs.conditions.put_eight.Tie as tie
 
-returns : tie.Need-returns
-returns c = cc
-
 pub put-eight-spec : {M : Type 1} → statement M
-put-eight-spec =
-    tie.close (tie.spec (λ c κs. search needs) (λ c κs. search needs) returns)
+put-eight-spec = tie.close (tie.spec (λ c κs. search needs) (λ c κs. search needs) (λ c. cc))

@@ -24,20 +24,13 @@ Inv-loop log traces events held wide first₀ unmet₀ k₀ first unmet k =
 abbrev μ-loop : tie.MeasureT-loop
 μ-loop log traces events held wide first₀ unmet₀ k₀ first unmet k = traces - k
 
-loop-holds : tie.Need-loop-holds Inv-loop μ-loop
-loop-holds c = (search needs, through-start (ahead _) _ _ _ _ refl, through-start (waiting _ _ _) _ _ _ _ refl)
-
-loop-again : tie.Need-loop-again Inv-loop μ-loop
-loop-again c = (search needs, search (through-next, needs), search (through-next, needs))
-
-returns : tie.Need-returns Inv-loop μ-loop
-returns c = (
-  through-end (ahead _) _ _ _ _ _ (c .loop-test .left) (c .before .loop .inv .1),
-  through-end (waiting _ _ _) _ _ _ _ _
-      (c .loop-test .left) (c .before .loop .inv .2),
-)
-
 pub replay-log-spec : {M : Type 1} → statement M
 replay-log-spec =
     tie.close
-    (tie.spec Inv-loop μ-loop loop-holds (λ c κs. search needs) (λ c κs. search needs) (λ c. search needs) (λ c. search needs) loop-again returns)
+    (tie.spec Inv-loop μ-loop (λ c. (search needs, through-start (ahead _) _ _ _ _ refl, through-start (waiting _ _ _) _ _ _ _ refl))
+    (λ c κs. search needs) (λ c κs. search needs) (λ c. search needs) (λ c. search needs)
+    (λ c. (search needs, search (through-next, needs), search (through-next, needs)))
+    (λ c. (
+      through-end (ahead _) _ _ _ _ _ (c .loop-test .left) (c .before .loop .inv .1),
+      through-end (waiting _ _ _) _ _ _ _ _ (c .loop-test .left) (c .before .loop .inv .2),
+    )))

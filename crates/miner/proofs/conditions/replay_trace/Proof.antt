@@ -1,6 +1,6 @@
 use mathlib.Core.Bool.{true}
 use mathlib.Core.Path.{_≡_}
-use Prim.Native.Nat.{ℕ, _-_}
+use Prim.Native.Nat.{_-_}
 use borrow.Author.Needs.{needs}
 use lib.ListN.{length}
 use Rattle.sets.specs.Tests.{_and_}
@@ -19,9 +19,6 @@ Inv-loop trace held first₀ unmet₀ seen₀ included₀ i₀ first unmet seen 
 abbrev μ-loop : tie.MeasureT-loop
 μ-loop trace held first₀ unmet₀ seen₀ included₀ i₀ first unmet seen included i = length trace - i
 
-loop-holds : tie.Need-loop-holds Inv-loop μ-loop
-loop-holds c = λ events h. replay-start _ _ _ _ _ _ _ _ h
-
 loop-again : tie.Need-loop-again Inv-loop μ-loop
 loop-again c =
     let t = c .before .before .before .before .before .before .loop-test .taken in
@@ -29,11 +26,9 @@ loop-again c =
     let turn = c .before .note-waiting .ensures in
     λ events h. replay-turn (v events h) t _ _ _ _ (c .before .before .before .before .included-after .ensures) (turn .0) (turn .1) (c .and-then .ensures)
 
-returns : tie.Need-returns Inv-loop μ-loop
-returns c = replay-end (c .before .loop .inv _ (c .before .before .in-form .ensures)) (c .loop-test .left)
-
 pub replay-trace-spec : {M : Type 1} → statement M
 replay-trace-spec =
     tie.close
-    (tie.spec Inv-loop μ-loop (λ c κs. search needs) loop-holds (λ c. search needs) (λ c κs. search needs) (λ c κs. search needs) (λ c κs. search needs)
-    (λ c. search needs) (λ c. search needs) loop-again returns)
+    (tie.spec Inv-loop μ-loop (λ c κs. search needs) (λ c events h. replay-start _ _ _ _ _ _ _ _ h) (λ c. search needs) (λ c κs. search needs)
+    (λ c κs. search needs) (λ c κs. search needs) (λ c. search needs) (λ c. search needs) loop-again
+    (λ c. replay-end (c .before .loop .inv _ (c .before .before .in-form .ensures)) (c .loop-test .left)))

@@ -2,9 +2,6 @@ use borrow.Author.Needs.{needs}
 use Rattle.miner.proofs.excludes.put_six.Statement.{statement}
 use Rattle.miner.proofs.excludes.put_six.Tie as tie
 
-returns : tie.Need-returns
-returns c = cc
-
 pub put-six-spec : {M : Type 1} → statement M
 put-six-spec =
-    tie.close (tie.spec (λ c κs. search needs) (λ c κs. search needs) (λ c κs. search needs) (λ c κs. search needs) returns)
+    tie.close (tie.spec (λ c κs. search needs) (λ c κs. search needs) (λ c κs. search needs) (λ c κs. search needs) (λ c. cc))

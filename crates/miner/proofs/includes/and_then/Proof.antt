@@ -1,11 +1,8 @@
 use borrow.Author.Needs.{needs}
-use Rattle.miner.proofs.Gains.{with-one}
+use Rattle.tally.proofs.Turns.{with-one}
 use Rattle.miner.proofs.includes.and_then.Statement.{statement}
 use Rattle.miner.proofs.includes.and_then.Tie as tie
 
-returns : tie.Need-returns
-returns c = with-one _ _ _ _ (c .before .one .ensures) (c .union .ensures)
-
 pub and-then-spec : {M : Type 1} → statement M
 and-then-spec =
-    tie.close (tie.spec (λ c κs. search needs) (λ c κs. search needs) returns)
+    tie.close (tie.spec (λ c κs. search needs) (λ c κs. search needs) (λ c. with-one _ _ _ _ (c .before .one .ensures) (c .union .ensures)))

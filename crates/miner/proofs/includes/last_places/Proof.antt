@@ -2,9 +2,8 @@ use mathlib.Core.Path.{_≡_, refl}
 use Prim.Native.Nat.{_≤_, _-_}
 use borrow.Author.Needs.{needs}
 use lib.ListN.{length, drop}
-use Rattle.tally.proofs.Turns.{pastAt, seenIn, seen-none, seen-all}
+use Rattle.tally.proofs.Turns.{pastAt, seenIn, seen-none, seen-next, seen-all}
 use Rattle.miner.specs.Facts.{placesFrom}
-use Rattle.miner.proofs.Gains.{seen-next}
 use Rattle.miner.proofs.After.{places-next, places-end}
 use Rattle.miner.proofs.includes.last_places.Statement.{statement}
 use Rattle.miner.proofs.includes.last_places.Tie as tie
@@ -16,22 +15,15 @@ Inv-loop trace last₀ all₀ i₀ last all i =
 abbrev μ-loop : tie.MeasureT-loop
 μ-loop trace last₀ all₀ i₀ last all i = length trace - i
 
-loop-holds : tie.Need-loop-holds Inv-loop μ-loop
-loop-holds c = (search needs, seen-none, refl)
-
 loop-again : tie.Need-loop-again Inv-loop μ-loop
 loop-again c =
     let t = c .before .before .before .before .loop-test .taken in
     let v = c .before .before .before .before .before .loop .inv in
     (search needs, seen-next _ _ t _ (v .1) _ (c .and-then .ensures), places-next _ _ _ _ (v .2) _ t (c .before .put-place .ensures))
 
-returns : tie.Need-returns Inv-loop μ-loop
-returns c =
-    let v = c .before .loop .inv in
-    (seen-all _ _ _ (c .loop-test .left) (v .1), places-end _ _ _ _ (v .2) (c .loop-test .left))
-
 pub last-places-spec : {M : Type 1} → statement M
 last-places-spec =
     tie.close
-    (tie.spec Inv-loop μ-loop loop-holds (λ c. search needs) (λ c κs. search needs) (λ c κs. search needs) (λ c. search needs)
-    (λ c. search needs) loop-again returns)
+    (tie.spec Inv-loop μ-loop (λ c. (search needs, seen-none, refl)) (λ c. search needs) (λ c κs. search needs) (λ c κs. search needs)
+    (λ c. search needs) (λ c. search needs) loop-again
+    (λ c. let v = c .before .loop .inv in (seen-all _ _ _ (c .loop-test .left) (v .1), places-end _ _ _ _ (v .2) (c .loop-test .left))))

@@ -8,11 +8,8 @@ returns c =
     let a = c .before .before .before .before .before .before .args in
     left-last (a .after) (a .last .now) (a .e .0) (a .at .0) _ _ (c .before .one-if .ensures) (c .difference .ensures)
 
-returns-2 : tie.Need-returns-2
-returns-2 c =
-    let a = c .before .before .args in
-    left-out (a .after) (a .last .now) (a .e .0) (a .at .0) (search needs) (search needs)
-
 pub left-after-spec : {M : Type 1} → statement M
 left-after-spec =
-    tie.close (tie.spec (λ c. search needs) (λ c. search needs) (λ c. search needs) (λ c κs. search needs) (λ c κs. search needs) returns returns-2)
+    tie.close
+    (tie.spec (λ c. search needs) (λ c. search needs) (λ c. search needs) (λ c κs. search needs) (λ c κs. search needs) returns
+    (λ c. let a = c .before .before .args in left-out (a .after) (a .last .now) (a .e .0) (a .at .0) (search needs) (search needs)))

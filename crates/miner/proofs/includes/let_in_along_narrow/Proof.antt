@@ -12,9 +12,6 @@ Inv-loop trace unfollowed last out₀ after₀ barred₀ i₀ out after barred i
 abbrev μ-loop : tie.MeasureT-loop
 μ-loop trace unfollowed last out₀ after₀ barred₀ i₀ out after barred i = length trace - i
 
-loop-holds : tie.Need-loop-holds Inv-loop μ-loop
-loop-holds c = let-in-start _ _ _ _ _ (c .before .pre .0)
-
 loop-again : tie.Need-loop-again Inv-loop μ-loop
 loop-again c =
     let t = c .before .before .before .before .loop-test .taken in
@@ -23,11 +20,8 @@ loop-again c =
     let turn = c .let-in-here .ensures in
     let-in-turn v t (start .args .last .now) (start .pre .1) _ _ _ (c .before .before .left-after .ensures) (turn .0) (turn .1)
 
-returns : tie.Need-returns Inv-loop μ-loop
-returns c = let-in-end (c .before .loop .inv) (c .loop-test .left)
-
 pub let-in-along-narrow-spec : {M : Type 1} → statement M
 let-in-along-narrow-spec =
     tie.close
-    (tie.spec Inv-loop μ-loop loop-holds (λ c. search needs) (λ c κs. search needs) (λ c κs. search needs) (λ c. search needs)
-    (λ c. search needs) loop-again returns)
+    (tie.spec Inv-loop μ-loop (λ c. let-in-start _ _ _ _ _ (c .before .pre .0)) (λ c. search needs) (λ c κs. search needs) (λ c κs. search needs)
+    (λ c. search needs) (λ c. search needs) loop-again (λ c. let-in-end (c .before .loop .inv) (c .loop-test .left)))

@@ -18,16 +18,9 @@ Inv-loop log traces unfollowed wide out₀ k₀ out k = (k ≤ traces) × Left (
 abbrev μ-loop : tie.MeasureT-loop
 μ-loop log traces unfollowed wide out₀ k₀ out k = traces - k
 
-loop-holds : tie.Need-loop-holds Inv-loop μ-loop
-loop-holds c = (search needs, through-start (pass _ _) _ _ _ _ refl)
-
-loop-again : tie.Need-loop-again Inv-loop μ-loop
-loop-again c = (search needs, search (through-next, needs))
-
-returns : tie.Need-returns Inv-loop μ-loop
-returns c = through-end (pass _ _) _ _ _ _ _ (c .loop-test .left) (c .before .loop .inv .1)
-
 pub let-in-log-spec : {M : Type 1} → statement M
 let-in-log-spec =
     tie.close
-    (tie.spec Inv-loop μ-loop loop-holds (λ c κs. search needs) (λ c κs. search needs) (λ c. search needs) (λ c. search needs) loop-again returns)
+    (tie.spec Inv-loop μ-loop (λ c. (search needs, through-start (pass _ _) _ _ _ _ refl)) (λ c κs. search needs) (λ c κs. search needs)
+    (λ c. search needs) (λ c. search needs) (λ c. (search needs, search (through-next, needs)))
+    (λ c. through-end (pass _ _) _ _ _ _ _ (c .loop-test .left) (c .before .loop .inv .1)))

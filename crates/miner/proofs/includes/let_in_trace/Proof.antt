@@ -1,22 +1,14 @@
 use mathlib.Core.Bool.{true, false}
 use borrow.Author.Needs.{needs}
 use Rattle.miner.proofs.After.{last-known}
-use Rattle.miner.proofs.Gains.{as-asked}
+use Rattle.tally.proofs.Turns.{as-asked}
 use Rattle.miner.proofs.includes.let_in_trace.Statement.{statement}
 use Rattle.miner.proofs.includes.let_in_trace.Tie as tie
 
-let-in-along-requires : tie.Need-let-in-along-requires
-let-in-along-requires c κs = let got = c .before .before .before .last-places .ensures in (got .0, last-known _ _ (got .1))
-
-let-in-along-narrow-requires : tie.Need-let-in-along-narrow-requires
-let-in-along-narrow-requires c κs = let got = c .before .before .before .last-places .ensures in (got .0, last-known _ _ (got .1))
-
-returns : tie.Need-returns
-returns c = as-asked _ true _ _ _ _ (c .before .before .before .if1 .taken) (c .let-in-along .ensures)
-
-returns-2 : tie.Need-returns-2
-returns-2 c = as-asked _ false _ _ _ _ (c .before .before .before .if1 .left) (c .let-in-along-narrow .ensures)
-
 pub let-in-trace-spec : {M : Type 1} → statement M
 let-in-trace-spec =
-    tie.close (tie.spec (λ c κs. search needs) let-in-along-requires let-in-along-narrow-requires returns returns-2)
+    tie.close
+    (tie.spec (λ c κs. search needs) (λ c κs. let got = c .before .before .before .last-places .ensures in (got .0, last-known _ _ (got .1)))
+    (λ c κs. let got = c .before .before .before .last-places .ensures in (got .0, last-known _ _ (got .1)))
+    (λ c. as-asked _ true _ _ _ _ (c .before .before .before .if1 .taken) (c .let-in-along .ensures))
+    (λ c. as-asked _ false _ _ _ _ (c .before .before .before .if1 .left) (c .let-in-along-narrow .ensures)))

@@ -2,9 +2,6 @@ use borrow.Author.Needs.{needs}
 use Rattle.miner.proofs.mining.responses_eight.Statement.{statement}
 use Rattle.miner.proofs.mining.responses_eight.Tie as tie
 
-returns : tie.Need-returns
-returns c = cc
-
 pub responses-eight-spec : {M : Type 1} → statement M
 responses-eight-spec =
-    tie.close (tie.spec (λ c κs. search needs) (λ c κs. search needs) returns)
+    tie.close (tie.spec (λ c κs. search needs) (λ c κs. search needs) (λ c. cc))

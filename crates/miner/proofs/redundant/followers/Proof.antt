@@ -2,8 +2,6 @@ use borrow.Author.Needs.{needs}
 use Rattle.miner.proofs.redundant.followers.Statement.{statement}
 use Rattle.miner.proofs.redundant.followers.Tie as tie
 
-returns : tie.Need-returns
-returns c = cc
-
 pub followers-spec : {M : Type 1} → statement M
-followers-spec = tie.close (tie.spec (λ c κs. search needs) (λ c κs. search needs) returns)
+followers-spec =
+    tie.close (tie.spec (λ c κs. search needs) (λ c κs. search needs) (λ c. cc))

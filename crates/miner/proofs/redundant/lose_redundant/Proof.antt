@@ -18,9 +18,6 @@ Inv-loop log traces tally held left₀ followers rest₀ left rest =
 abbrev μ-loop : tie.MeasureT-loop
 μ-loop log traces tally held left₀ followers rest₀ left rest = countBelow width (mem rest)
 
-loop-holds : tie.Need-loop-holds Inv-loop μ-loop
-loop-holds c = each-start _ _ _
-
 loop-again : tie.Need-loop-again Inv-loop μ-loop
 loop-again c =
     let turn = c .before .before .before .before .before .before .before .loop .inv in
@@ -35,5 +32,5 @@ returns c = redundant-end _ _ _ _ _ _ _ _ _ _ (c .before .before .before .follow
 pub lose-redundant-spec : {M : Type 1} → statement M
 lose-redundant-spec =
     tie.close
-    (tie.spec Inv-loop μ-loop (λ c κs. search needs) loop-holds (λ c κs. search needs) (λ c κs. search needs)
+    (tie.spec Inv-loop μ-loop (λ c κs. search needs) (λ c. each-start _ _ _) (λ c κs. search needs) (λ c κs. search needs)
     (λ c κs. search needs) (λ c κs. search needs) (λ c. search (members, needs)) loop-again returns)

@@ -12,9 +12,6 @@ Inv-loop rows₀ gone rest₀ rows rest = (Part rest₀ rest) × Less rows₀ (b
 abbrev μ-loop : tie.MeasureT-loop
 μ-loop rows₀ gone rest₀ rows rest = countBelow width (mem rest)
 
-loop-holds : tie.Need-loop-holds Inv-loop μ-loop
-loop-holds c = each-start (ownRow _) _ _
-
 loop-again : tie.Need-loop-again Inv-loop μ-loop
 loop-again c =
     let turn = c .before .before .before .before .before .before .before .loop .inv in
@@ -23,11 +20,9 @@ loop-again c =
     (c .before .before .before .before .least .ensures)
     (own-turn _ _ _ _ _ (c .before .before .row .ensures) (c .before .lose .ensures)) (c .without-least .ensures)
 
-returns : tie.Need-returns Inv-loop μ-loop
-returns c = own-end _ _ _ _ _ _ (c .before .before .loop .inv .1) (c .before .is-empty .ensures) (c .if1 .left)
-
 pub lose-rows-spec : {M : Type 1} → statement M
 lose-rows-spec =
     tie.close
-    (tie.spec Inv-loop μ-loop loop-holds (λ c κs. search needs) (λ c κs. search needs) (λ c κs. search needs)
-    (λ c κs. search needs) (λ c κs. search needs) (λ c. search (members, needs)) loop-again returns)
+    (tie.spec Inv-loop μ-loop (λ c. each-start (ownRow _) _ _) (λ c κs. search needs) (λ c κs. search needs) (λ c κs. search needs)
+    (λ c κs. search needs) (λ c κs. search needs) (λ c. search (members, needs)) loop-again
+    (λ c. own-end _ _ _ _ _ _ (c .before .before .loop .inv .1) (c .before .is-empty .ensures) (c .if1 .left)))

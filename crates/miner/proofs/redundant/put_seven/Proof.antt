@@ -3,10 +3,6 @@ use Rattle.miner.proofs.Composed.{seven-by}
 use Rattle.miner.proofs.redundant.put_seven.Statement.{statement}
 use Rattle.miner.proofs.redundant.put_seven.Tie as tie
 
-returns : tie.Need-returns
-returns c =
-    let lost = c .before .before .before in
-    seven-by _ _ _ _ _ _ _ (lost .before .before .before .taken .ensures) (lost .lose-redundant .ensures) (c .put-rows .ensures)
-
 pub put-seven-spec : {M : Type 1} → statement M
-put-seven-spec = tie.close (tie.spec (λ c κs. search needs) (λ c κs. search needs) (λ c κs. search needs) returns)
+put-seven-spec =
+    tie.close (tie.spec (λ c κs. search needs) (λ c κs. search needs) (λ c κs. search needs) (λ c. search (seven-by, needs)))

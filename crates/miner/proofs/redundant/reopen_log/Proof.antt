@@ -11,23 +11,16 @@ Inv-loop log traces u held members doubts₀ k₀ doubts k = (k ≤ traces) × W
 abbrev μ-loop : tie.MeasureT-loop
 μ-loop log traces u held members doubts₀ k₀ doubts k = traces - k
 
-loop-holds : tie.Need-loop-holds Inv-loop μ-loop
-loop-holds c = (search needs, walk-start _ _ _ _ _)
-
-returns : tie.Need-returns Inv-loop μ-loop
-returns c = walk-short _ _ _ _ _ _ _ _ (c .before .before .before .before .loop .inv .1) _ _ (c .before .none-doubted .ensures) (c .if1 .taken)
-
 loop-again : tie.Need-loop-again Inv-loop μ-loop
 loop-again c =
     let cut = c .before .before in
     let left = cut .before .before .before .before in
     (search needs, walk-next _ _ _ _ _ _ _ _ _ (left .loop-test .taken) (cut .trace-at .ensures) (left .before .loop .inv .1) (c .reopen-trace .ensures))
 
-returns-2 : tie.Need-returns-2 Inv-loop μ-loop
-returns-2 c = walk-end _ _ _ _ _ _ _ _ (c .before .loop .inv .1) (c .loop-test .left)
-
 pub reopen-log-spec : {M : Type 1} → statement M
 reopen-log-spec =
     tie.close
-    (tie.spec Inv-loop μ-loop loop-holds (λ c κs. search needs) returns (λ c κs. search needs) (λ c κs. search needs) (λ c. search needs)
-    (λ c. search needs) loop-again returns-2)
+    (tie.spec Inv-loop μ-loop (λ c. (search needs, walk-start _ _ _ _ _)) (λ c κs. search needs)
+    (λ c. walk-short _ _ _ _ _ _ _ _ (c .before .before .before .before .loop .inv .1) _ _ (c .before .none-doubted .ensures) (c .if1 .taken))
+    (λ c κs. search needs) (λ c κs. search needs) (λ c. search needs) (λ c. search needs) loop-again
+    (λ c. walk-end _ _ _ _ _ _ _ _ (c .before .loop .inv .1) (c .loop-test .left)))

@@ -43,11 +43,8 @@ loop-again c =
     ))
     (c .if1 .came)
 
-returns : tie.Need-returns Inv-loop μ-loop
-returns c = trace-end _ _ _ _ _ _ (c .loop-test .left) (c .before .loop .inv .3)
-
 pub reopen-trace-spec : {M : Type 1} → statement M
 reopen-trace-spec =
     tie.close
-    (tie.spec Inv-loop μ-loop loop-holds (λ c. search needs) (λ c κs. search needs) (λ c κs. search needs) (λ c κs. search needs)
-    (λ c. search needs) (λ c. search needs) loop-again returns)
+    (tie.spec Inv-loop μ-loop loop-holds (λ c. search needs) (λ c κs. search needs) (λ c κs. search needs) (λ c κs. search needs) (λ c. search needs)
+    (λ c. search needs) loop-again (λ c. trace-end _ _ _ _ _ _ (c .loop-test .left) (c .before .loop .inv .3)))

@@ -4,9 +4,6 @@ use Rattle.sets.specs.Rows.{rowAt}
 use Rattle.steps.proofs.relations.least_row.Statement.{statement}
 use Rattle.steps.proofs.relations.least_row.Tie as tie
 
-returns : tie.Need-returns
-returns c = c .row .ensures ∙ ap (rowAt _) (c .before .least .ensures)
-
 pub least-row-spec : {M : Type 1} → statement M
 least-row-spec =
-    tie.close (tie.spec (λ c κs. search needs) (λ c κs. search needs) returns)
+    tie.close (tie.spec (λ c κs. search needs) (λ c κs. search needs) (λ c. c .row .ensures ∙ ap (rowAt _) (c .before .least .ensures)))

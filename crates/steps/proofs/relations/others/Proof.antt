@@ -4,9 +4,8 @@ use Rattle.sets.proofs.MadeSets.{less, is-those}
 use Rattle.steps.proofs.relations.others.Statement.{statement}
 use Rattle.steps.proofs.relations.others.Tie as tie
 
-returns : tie.Need-returns
-returns c = less _ _ _ _ _ (λ b l. refl) (is-those _ _ (c .before .one .ensures)) (c .difference .ensures)
-
 pub others-spec : {M : Type 1} → statement M
 others-spec =
-    tie.close (tie.spec (λ c κs. search needs) (λ c κs. search needs) returns)
+    tie.close
+    (tie.spec (λ c κs. search needs) (λ c κs. search needs)
+    (λ c. less _ _ _ _ _ (λ b l. refl) (is-those _ _ (c .before .one .ensures)) (c .difference .ensures)))

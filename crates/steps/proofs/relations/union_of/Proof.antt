@@ -19,11 +19,9 @@ loop-again c =
     (c .before .before .before .if1 .taken)
     (c .before .before .least-row .ensures) (c .before .union .ensures) (c .without-least .ensures)
 
-returns : tie.Need-returns Inv-loop μ-loop
-returns c = union-end _ _ _ _ _ (c .before .before .loop .inv .1) (c .before .is-empty .ensures) (c .if1 .left)
-
 pub union-of-spec : {M : Type 1} → statement M
 union-of-spec =
     tie.close
     (tie.spec Inv-loop μ-loop (λ c. search (members, needs)) (λ c κs. search (members, needs)) (λ c κs. search (members, needs))
-    (λ c κs. search (members, needs)) (λ c κs. search (members, needs)) (λ c. search (members, needs)) loop-again returns)
+    (λ c κs. search (members, needs)) (λ c κs. search (members, needs)) (λ c. search (members, needs)) loop-again
+    (λ c. union-end _ _ _ _ _ (c .before .before .loop .inv .1) (c .before .is-empty .ensures) (c .if1 .left)))

@@ -18,12 +18,14 @@ passed wide form σ t one out hw h1 h2 = h2 ∙ ap (λ (x : List ℕ). backward 
 returns : tie.Need-returns
 returns c =
     let past = c .before .before .before .forward .ensures in
-    (union-seen _ _ _ _ (past .0) (c .union .ensures), passed _ true _ _ _ _ (c .before .before .before .before .before .if1 .taken) (past .1) (c .before .backward .ensures))
+    let form = c .before .before .before .before .before .if1 .taken in
+    (union-seen _ true _ _ _ _ form (past .0) (c .union .ensures), passed _ true _ _ _ _ form (past .1) (c .before .backward .ensures))
 
 returns-2 : tie.Need-returns-2
 returns-2 c =
     let past = c .before .before .before .forward-narrow .ensures in
-    (union-seen _ _ _ _ (past .0) (c .union2 .ensures), passed _ false _ _ _ _ (c .before .before .before .before .before .if1 .left) (past .1) (c .before .backward-narrow .ensures))
+    let form = c .before .before .before .before .before .if1 .left in
+    (union-seen _ false _ _ _ _ form (past .0) (c .union2 .ensures), passed _ false _ _ _ _ form (past .1) (c .before .backward-narrow .ensures))
 
 pub note-trace-spec : {M : Type 1} → statement M
 note-trace-spec =

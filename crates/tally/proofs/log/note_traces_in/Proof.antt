@@ -4,13 +4,13 @@ use mathlib.Core.List.{List}
 use Prim.Native.Nat.{ℕ, _+_, _-_, _≤_, _<_}
 use native.Mathlib.Omega.{arith}
 use borrow.Author.Needs.{needs}
-use Rattle.sets.specs.Tests.{_or_}
+use Rattle.sets.specs.Tests.{_and_, _or_}
 use Rattle.sets.specs.Members.{mem, those, noSet}
 use Rattle.sets.specs.declared.set.Set.{Set}
 use Rattle.sets.proofs.Members.{those-mem}
 use Rattle.calllog.specs.Logs.{partAt}
-use Rattle.rules.specs.Traces.{_has_, someTrace}
-use Rattle.tally.specs.Passes.{walked}
+use Rattle.rules.specs.Traces.{_has_}
+use Rattle.tally.specs.Passes.{walked, reaches, eventIn}
 use Rattle.tally.specs.Tallies.{notedFor}
 use Rattle.tally.proofs.Walks.{Left, eventsFrom, events-start, events-next, events-end, events-set, through-start, through-next}
 use Rattle.tally.proofs.Walks.{through-end}
@@ -21,7 +21,7 @@ use Rattle.tally.proofs.log.note_traces_in.Tie as tie
 record Walked (wide : Bool) (log : List ℕ) (n : ℕ) (t₀ t : List ℕ) (events : Set) (k : ℕ) : Type 0 where
   reached : k ≤ n
   a-set : those (mem events) ≡ events
-  events-are : eventsFrom events (walked log (n - k) k) ≡ those (λ x. someTrace (walked log n 0) (λ σ. σ has x))
+  events-are : eventsFrom wide events (walked log (n - k) k) ≡ those (eventIn wide (walked log n 0))
   left : Left (notedFor wide) log n k t₀ t
 
 start : (wide : Bool) (log : List ℕ) (n : ℕ) (t : List ℕ) → Walked wide log n t t noSet 0
@@ -29,19 +29,19 @@ start wide log n t =
     record {
       reached = omega arith;
       a-set = those-mem noSet (omega arith, omega arith);
-      events-are = events-start log n noSet refl;
+      events-are = events-start wide log n;
       left = through-start (notedFor wide) log n _ t refl;
     }
 
 module _ {wide : Bool} {log : List ℕ} {n : ℕ} {t₀ t : List ℕ} {events : Set} {k : ℕ} (inv : Walked wide log n t₀ t events k) (h : k < n) (σ : List ℕ)
     (e : σ ≡ partAt log k) where
-  turn : (t′ : List ℕ) (events′ : Set) → events′ ≡ those (λ x. mem events x or σ has x) → t′ ≡ notedFor wide t σ
+  turn : (t′ : List ℕ) (events′ : Set) → events′ ≡ those (λ x. mem events x or reaches wide x and σ has x) → t′ ≡ notedFor wide t σ
       → Walked wide log n t₀ t′ events′ (k + 1)
   turn t′ events′ hv ht =
       record {
         reached = omega arith;
-        a-set = events-set log n k events σ events events′ hv;
-        events-are = events-next log n k _ σ events events′ h e hv (inv .events-are);
+        a-set = events-set wide log n k events σ events events′ hv;
+        events-are = events-next wide log n k _ σ events events′ h e hv (inv .events-are);
         left = through-next (notedFor wide) log n _ k σ t t′ h e ht (inv .left);
       }
 
@@ -55,18 +55,16 @@ loop-holds : tie.Need-loop-holds Inv-loop μ-loop
 loop-holds c = start _ _ _ _
 
 loop-again : tie.Need-loop-again Inv-loop μ-loop
-loop-again c =
-    let got = c .note-trace .ensures in
-    let cut = c .before .before in
-    turn (cut .before .before .loop .inv) (cut .before .loop-test .taken) _ (cut .trace-at .ensures) _ _ (got .0) (got .1)
+loop-again c = search (turn, needs)
 
 returns : tie.Need-returns Inv-loop μ-loop
 returns c =
     let inv = c .before .loop .inv in
     let over = c .loop-test .left in
-    (events-end _ _ _ _ _ (inv .a-set) over (inv .events-are), through-end (notedFor _) _ _ _ _ _ over (inv .left))
+    (events-end _ _ _ _ _ _ (inv .a-set) over (inv .events-are), through-end (notedFor _) _ _ _ _ _ over (inv .left))
 
 pub note-traces-in-spec : {M : Type 1} → statement M
 note-traces-in-spec =
     tie.close
-    (tie.spec Inv-loop μ-loop loop-holds (λ c κs. search needs) (λ c κs. search needs) (λ c. search needs) (λ c. search needs) loop-again returns)
+    (tie.spec Inv-loop μ-loop loop-holds (λ c κs. search needs) (λ c κs. search needs) (λ c. search needs) (λ c. search needs)
+    loop-again returns)

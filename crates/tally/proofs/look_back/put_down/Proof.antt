@@ -6,8 +6,6 @@ use Rattle.tally.proofs.look_back.put_down.Tie as tie
 returns : tie.Need-returns
 returns c = put-in-block _ _ _ _ _ (c .before .one .ensures) (c .join .ensures)
 
-returns-2 : tie.Need-returns-2
-returns-2 c = put-nowhere _ _ _ (c .if1 .left)
-
 pub put-down-spec : {M : Type 1} → statement M
-put-down-spec = tie.close (tie.spec (λ c. search needs) (λ c κs. search needs) (λ c κs. search needs) returns returns-2)
+put-down-spec =
+    tie.close (tie.spec (λ c. search needs) (λ c κs. search needs) (λ c κs. search needs) returns (λ c. put-nowhere _ _ _ (c .if1 .left)))

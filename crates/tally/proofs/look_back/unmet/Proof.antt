@@ -1,6 +1,7 @@
+use mathlib.Core.Path.{refl}
 use borrow.Author.Needs.{needs}
 use Rattle.sets.proofs.Members.{those-mem}
-use Rattle.tally.proofs.Since.{Looked, look-start, look-next, look-stop, look-empty, look-end, look-down}
+use Rattle.tally.proofs.Since.{Looked, look-start, look-next, look-stop, look-empty, look-end}
 use Rattle.tally.proofs.look_back.unmet.Statement.{statement}
 use Rattle.tally.proofs.look_back.unmet.Tie as tie
 
@@ -10,29 +11,16 @@ Inv-loop past e left₀ i₀ left i = Looked past (e .0) left₀ left i
 abbrev μ-loop : tie.MeasureT-loop
 μ-loop past e left₀ i₀ left i = i
 
-loop-holds : tie.Need-loop-holds Inv-loop μ-loop
-loop-holds c = look-start _ _ _ (those-mem _ (search needs))
-
-returns : tie.Need-returns Inv-loop μ-loop
-returns c = look-empty (c .before .before .before .loop .inv) _ (c .before .is-empty .ensures) (c .if1 .taken)
-
 returns-2 : tie.Need-returns-2 Inv-loop μ-loop
 returns-2 c =
     let in-loop = c .before .before .before .before .before .before .before in
-    look-stop _ (look-down (in-loop .before .loop .inv) (in-loop .loop-test .taken)) _ _ (c .before .before .before .one .ensures)
+    look-stop (in-loop .before .loop .inv) (in-loop .loop-test .taken) _ _ (c .before .before .before .one .ensures)
     (c .before .before .difference .ensures) (c .if2 .taken)
-
-loop-again : tie.Need-loop-again Inv-loop μ-loop
-loop-again c =
-    let in-loop = c .before .before .before .before .before .before .before in
-    look-next _ (look-down (in-loop .before .loop .inv) (in-loop .loop-test .taken)) _ _ (c .before .before .before .one .ensures)
-    (c .before .before .difference .ensures) (c .if2 .left)
-
-returns-3 : tie.Need-returns-3 Inv-loop μ-loop
-returns-3 c = look-end (c .before .loop .inv) (c .loop-test .left)
 
 pub unmet-spec : {M : Type 1} → statement M
 unmet-spec =
     tie.close
-    (tie.spec Inv-loop μ-loop loop-holds (λ c κs. search needs) returns (λ c. search needs) (λ c. search needs) (λ c κs. search needs)
-    (λ c κs. search needs) returns-2 (λ c. search needs) loop-again returns-3)
+    (tie.spec Inv-loop μ-loop (λ c. look-start _ _ _ _ (those-mem _ (search needs)) refl) (λ c κs. search needs)
+    (λ c. look-empty (c .before .before .before .loop .inv) _ (c .before .is-empty .ensures) (c .if1 .taken)) (λ c. search needs)
+    (λ c. search needs) (λ c κs. search needs) (λ c κs. search needs) returns-2 (λ c. search needs) (λ c. search (look-next, needs))
+    (λ c. look-end (c .before .loop .inv) (c .loop-test .left)))

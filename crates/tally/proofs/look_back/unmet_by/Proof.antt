@@ -1,4 +1,4 @@
-use mathlib.Core.Path.{_≡_, refl, ap, _∙_}
+use mathlib.Core.Path.{_≡_, refl, _∙_}
 use mathlib.Core.List.{List, [], reverseAux}
 use Prim.Native.Nat.{ℕ, _-_}
 use native.Mathlib.Omega.{arith}
@@ -17,11 +17,7 @@ rest-of : (past : List ℕ) (e : ℕ) (wanted left r : Set) (n : ℕ) → Passed
     → r ≡ those (λ x. mem left x and notSince e (reverseAux (take (n - 0) (drop 0 past)) []) [] x)
     → r ≡ those (λ x. mem wanted x and notSince e (reverseAux past []) [] x)
 rest-of past e wanted left r n h q =
-    let same : n - 0 ≡ n = omega arith in
-    q ∙ ap (λ (k : ℕ). those (λ x. mem left x and notSince e (reverseAux (take k past) []) [] x)) same ∙ h .1
-
-part-unmet-end : tie.Need-part-unmet-end
-part-unmet-end c = let a = c .before .before .before .args in c .pass-blocks .ensures (now (a .past)) (search needs) refl .0
+    let same : n - 0 ≡ n = omega arith in (rw same at q) ∙ h .1
 
 returns-2 : tie.Need-returns-2
 returns-2 c =
@@ -31,5 +27,5 @@ returns-2 c =
 pub unmet-by-spec : {M : Type 1} → statement M
 unmet-by-spec =
     tie.close
-    (tie.spec (λ c κs. search needs) (λ c. search needs) (λ c κs. search needs) (λ c. search needs) (λ c. search needs) part-unmet-end
-    (λ c κs. search needs) returns-2)
+    (tie.spec (λ c κs. search needs) (λ c. search needs) (λ c κs. search needs) (λ c. search needs) (λ c. search needs)
+    (λ c. let a = c .before .before .before .args in c .pass-blocks .ensures (now (a .past)) (search needs) refl .0) (λ c κs. search needs) returns-2)

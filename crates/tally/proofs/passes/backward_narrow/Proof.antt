@@ -10,20 +10,14 @@ Inv-loop trace tally₀ after₀ next₀ i₀ tally after next i = Passed false 
 abbrev μ-loop : tie.MeasureT-loop
 μ-loop trace tally₀ after₀ next₀ i₀ tally after next i = i
 
-loop-holds : tie.Need-loop-holds Inv-loop μ-loop
-loop-holds c = start _ _ _
-
 loop-again : tie.Need-loop-again Inv-loop μ-loop
 loop-again c =
     let in-loop = c .before .before .before .before .before in
     turn _ _ _ _ (down (in-loop .before .loop .inv) (in-loop .loop-test .taken)) (c .before .before .note-rest .ensures)
     (c .before .one .ensures) (c .union .ensures)
 
-returns : tie.Need-returns Inv-loop μ-loop
-returns c = ended (c .before .loop .inv) (c .loop-test .left) .so-far
-
 pub backward-narrow-spec : {M : Type 1} → statement M
 backward-narrow-spec =
     tie.close
-    (tie.spec Inv-loop μ-loop loop-holds (λ c. search needs) (λ c. search needs) (λ c κs. search needs) (λ c κs. search needs)
-    (λ c κs. search needs) (λ c. search needs) loop-again returns)
+    (tie.spec Inv-loop μ-loop (λ c. start _ _ _) (λ c. search needs) (λ c. search needs) (λ c κs. search needs) (λ c κs. search needs)
+    (λ c κs. search needs) (λ c. search needs) loop-again (λ c. ended (c .before .loop .inv) (c .loop-test .left) .so-far))

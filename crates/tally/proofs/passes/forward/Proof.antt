@@ -12,21 +12,13 @@ Inv-loop trace tally₀ blocks₀ seen₀ last₀ i₀ tally blocks seen last i 
 abbrev μ-loop : tie.MeasureT-loop
 μ-loop trace tally₀ blocks₀ seen₀ last₀ i₀ tally blocks seen last i = length trace - i
 
-loop-holds : tie.Need-loop-holds Inv-loop μ-loop
-loop-holds c = start _ _ _ _ (c .empty .ensures)
-
-returns : tie.Need-returns Inv-loop μ-loop
-returns c = over (c .before .loop .inv) (c .loop-test .left)
-
-note-place-requires : tie.Need-note-place-requires Inv-loop μ-loop
-note-place-requires c κs = search (known, needs)
-
 loop-again : tie.Need-loop-again Inv-loop μ-loop
 loop-again c = search (turn, needs)
 
 pub forward-spec : {M : Type 1} → statement M
 forward-spec =
     tie.close
-    (tie.spec Inv-loop μ-loop (λ c κs. search needs) loop-holds (λ c. search needs) (λ c. search needs) (λ c. search needs)
-    (λ c. search needs) note-place-requires (λ c κs. search needs) (λ c κs. search needs) (λ c. search needs) (λ c. search needs) loop-again
-    returns)
+    (tie.spec Inv-loop μ-loop (λ c κs. search needs) (λ c. start _ _ _ _ (c .empty .ensures)) (λ c. search needs) (λ c. search needs)
+    (λ c. search needs) (λ c. search needs) (λ c κs. search (known, needs)) (λ c κs. search needs) (λ c κs. search needs) (λ c κs. search needs)
+    (λ c. search needs)
+    (λ c. search needs) loop-again (λ c. over (c .before .loop .inv) (c .loop-test .left)))

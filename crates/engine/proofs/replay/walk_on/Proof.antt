@@ -1,0 +1,43 @@
+use Prim.Native.Nat.{_-_}
+use mathlib.Core.Path.{_≡_}
+use borrow.Author.Needs.{needs}
+use lib.ListN.{length, drop}
+use Rattle.engine.specs.Relations.{inTables}
+use Rattle.engine.specs.Replay.{replayFrom}
+use Rattle.engine.proofs.Running.{run-next, walk-stop, walk-end}
+use Rattle.engine.proofs.replay.walk_on.Statement.{statement}
+use Rattle.engine.proofs.replay.walk_on.Tie as tie
+
+abbrev Inv-loop : tie.InvT-loop
+Inv-loop events relations start trace s₀ i₀ s i =
+    replayFrom events (inTables relations) s i (drop i trace) ≡ replayFrom events (inTables relations) s₀ start (drop start trace)
+
+abbrev μ-loop : tie.MeasureT-loop
+μ-loop events relations start trace s₀ i₀ s i = length trace - i
+
+loop-holds : tie.Need-loop-holds Inv-loop μ-loop
+loop-holds c = search needs
+
+returns : tie.Need-returns Inv-loop μ-loop
+returns c = search (walk-stop, needs)
+
+loop-again : tie.Need-loop-again Inv-loop μ-loop
+loop-again c = search (run-next, needs)
+
+pub walk-on-spec : {M : Type 1} → statement M
+walk-on-spec =
+    tie.close
+    (tie.spec
+    Inv-loop
+    μ-loop
+    loop-holds
+    (λ c. search needs)
+    (λ c κs. search needs)
+    (λ c κs. search needs)
+    returns
+    (λ c κs. search needs)
+    (λ c. search needs)
+    (λ c. search needs)
+    loop-again
+    (λ c κs. search needs)
+    (λ c. search (walk-end, needs)))
