@@ -17,7 +17,8 @@ use Rattle.sets.proofs.Members.{Whole, those-ext, those-of, within-i, within-e,
 use Rattle.sets.proofs.MadeSets.{joined, is-those}
 use Rattle.engine.specs.declared.marking.State.{State}
 use Rattle.engine.specs.declared.marking.Marking.{Marking}
-use Rattle.engine.specs.Markings.{stateOf, markingOf, fewOf}
+use Rattle.engine.specs.Markings.{stateOf, markingOf}
+use Rattle.engine.specs.Few.{fewOf}
 use Rattle.engine.specs.Relations.{Relations}
 use Rattle.engine.specs.Steps.{blocking, waits, blocker, enabled}
 use Rattle.engine.proofs.Stepping.{none-pass}

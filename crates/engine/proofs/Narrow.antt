@@ -19,9 +19,10 @@ use Rattle.sets.proofs.Ways.{held}
 use Rattle.engine.specs.declared.marking.State.{State}
 use Rattle.engine.specs.declared.replay.Replayed.{Replayed}
 use Rattle.engine.specs.declared.replay.Walked.{Walked}
-use Rattle.engine.specs.Markings.{stateOf, fewOf, fewIn}
+use Rattle.engine.specs.Markings.{stateOf}
+use Rattle.engine.specs.Few.{fewIn, fewOf, gainsFew}
 use Rattle.engine.specs.Relations.{Relations, inTables}
-use Rattle.engine.specs.Steps.{enabled, after, gainsFew}
+use Rattle.engine.specs.Steps.{enabled, after}
 use Rattle.engine.specs.Judged.{stateWithin}
 use Rattle.engine.specs.Replay.{walkedOf, replayFrom}
 use Rattle.engine.proofs.Enabling.{done-parts}

@@ -4,3 +4,4 @@ pub mod Steps
 pub mod Enabled
 pub mod Judged
 pub mod Replay
+pub mod Few

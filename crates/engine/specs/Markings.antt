@@ -1,9 +1,7 @@
 -- Markings (01, "Sizes": each kind has its own fixed values; "Mining": the opening marking; 02, 6/12: the set of enabled activities is kept
 -- with what was executed, is pending and is included). What that set must be is said in Enabled.
-use lib.Dec.{ltb}
 use Rattle.sets.specs.declared.set.Set.{Set}
-use Rattle.sets.specs.Tests.{_and_}
-use Rattle.sets.specs.Members.{word, mem, those, noSet}
+use Rattle.sets.specs.Members.{noSet}
 use Rattle.engine.specs.declared.marking.State.{State}
 use Rattle.engine.specs.declared.marking.Marking.{Marking}
 
@@ -22,10 +20,3 @@ markingOf state enabled = record { state = state; enabled = enabled }
 
 abbrev pub emptyMarking : Marking
 emptyMarking = markingOf emptyState noSet
-
--- what of a set lies below a word, and what of a state does
-abbrev pub fewOf : Set → Set
-fewOf s = those (λ a. mem s a and ltb a word)
-
-abbrev pub fewIn : State → State
-fewIn s = stateOf (fewOf (s .executed)) (fewOf (s .pending)) (fewOf (s .included))

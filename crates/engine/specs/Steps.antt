@@ -1,9 +1,9 @@
 -- 01, "A step", by set rules.
 use mathlib.Core.Bool.{Bool}
 use Prim.Native.Nat.{ℕ}
-use lib.Dec.{eqb, ltb}
+use lib.Dec.{eqb}
 use Rattle.sets.specs.Tests.{_and_, _or_, non, when_then_else_}
-use Rattle.sets.specs.Members.{width, word, mem, those, someBelow, everyBelow, leastBelow}
+use Rattle.sets.specs.Members.{width, mem, those, someBelow, leastBelow}
 use Rattle.sets.specs.declared.activity.Activity.{Activity}
 use Rattle.sets.specs.declared.set.Set.{Set}
 use Rattle.sets.specs.declared.answer.Answer.{Answer}
@@ -39,10 +39,6 @@ after r m e =
     (those (λ a. mem (m .executed) a or eqb a e))
     (those (λ a. mem (m .pending) a and non (eqb a e) or r .responses e a))
     (those (λ a. mem (m .included) a and non (r .excludes e a) or r .includes e a))
-
--- what pending and included gain by e lies below a word
-unfoldable pub gainsFew : Relations → ℕ → Bool
-gainsFew r e = everyBelow width (λ a. non (r .responses e a or r .includes e a) or ltb a word)
 
 -- no step is both pending and included
 unfoldable pub accepting : State → Bool

@@ -1,9 +1,9 @@
 // The replay of a trace (01, "A step").
 ghost use mathlib.Core.Path.{_≡_};
 ghost use lib.ListN.{drop};
-ghost use Rattle.engine.specs.Markings.{fewIn};
+ghost use Rattle.engine.specs.Few.{fewIn, gainsFew};
 ghost use Rattle.engine.specs.Relations.{inTables};
-ghost use Rattle.engine.specs.Steps.{after, gainsFew};
+ghost use Rattle.engine.specs.Steps.{after};
 ghost use Rattle.engine.specs.Replay.{walkedOf, replayFrom, replayOf};
 use crate::enabled;
 use crate::graph::Graph;
