@@ -4,30 +4,29 @@ use mathlib.Core.Path.{_≡_, refl, sym, ap, _∙_}
 use mathlib.Core.Bool.{Bool, true, false}
 use mathlib.Core.List.{List, [], reverseAux}
 use Prim.Native.Nat.{ℕ, _<_}
-use borrow.Author.Tests.{lt-ltb}
-use lib.Dec.{T, ltb}
+use lib.Dec.{T}
 use Rattle.sets.specs.Tests.{_and_, _or_, non, when_then_else_}
 use Rattle.sets.specs.Members.{width, mem, those, isEmpty}
 use Rattle.sets.specs.Rows.{rowAt}
 use Rattle.sets.specs.Tables.{tableAt, withRowIn, gainedIn}
 use Rattle.sets.specs.declared.set.Set.{Set}
-use Rattle.sets.proofs.Tests.{true→T, false→F, T-eq, either, neither, and-true}
+use Rattle.sets.proofs.Tests.{true→T, T-eq, true-and}
 use Rattle.sets.proofs.Tautologies.{by3}
 use Rattle.sets.proofs.Members.{those-ext, those-of, empty-e}
 use Rattle.sets.proofs.MadeSets.{is-those}
 use Rattle.sets.proofs.TableLaws.{put-back}
 use Rattle.rules.specs.Traces.{_has_}
-use Rattle.tally.specs.Passes.{notedIn, notSince, reaches, cut}
-use Rattle.tally.specs.Tallies.{unalternatedTable, noteSinceIn, looksBack, sinceBy}
-use Rattle.tally.proofs.Turns.{heldIn, not-held, noted-where}
+use Rattle.tally.specs.Passes.{notedIn, isEarlier, notEarlier, notDirectly, notSince, reaches, cut}
+use Rattle.tally.specs.Tallies.{beforeTable, unprecededTable, unchainedTable, unalternatedTable, notePastIn, pastBy, sinceBy, placeBy}
+use Rattle.tally.proofs.Turns.{heldIn, lastIn, not-held, noted-where, held, unheld, where-held, past-is}
 use Rattle.tally.proofs.Since.{since, since-all}
 
-module _ (wide : Bool) (tables : List ℕ) (k e : ℕ) (past : List ℕ) (seen : Set) (r : Bool) (hr : r ≡ looksBack wide seen e) (out : List ℕ) where
+module _ (wide : Bool) (tables : List ℕ) (k e : ℕ) (past : List ℕ) (seen : Set) (r : Bool) (hr : r ≡ mem seen e) (out : List ℕ) where
   abbrev old : ℕ → Bool
   old x = mem (rowAt (tableAt tables k) e) x
 
   abbrev choice : ℕ → Bool
-  choice x = when looksBack wide seen e then notSince e past [] x else non (mem seen x)
+  choice x = when mem seen e then notSince e past [] x else non (mem seen x)
 
   pub note-repeat : (row lacked wanted left : Set) → r ≡ true → row ≡ rowAt (tableAt tables k) e → lacked ≡ those (λ x. non (mem row x))
       → wanted ≡ those (λ x. reaches wide x and mem lacked x) → left ≡ those (λ x. mem wanted x and notSince e past [] x)
@@ -78,11 +77,6 @@ note-full wide tables k e p row lacked wanted r whole hrow hk hw hr ht =
         empty-e wanted (true→T (sym hr ∙ ht)) x l
         (T-eq (sym (is-those wanted _ hw x l ∙ ap (λ (b : Bool). reaches wide x and b) (is-those lacked _ hk x l))) t)
 
-unheld : (r p : Bool) → (r and p) ≡ false → non r ≡ false → p ≡ false
-unfolding _and_ non
-unheld true p h n = h
-unheld false p h n = absurd (false→F n tt)
-
 -- either way the row gains the fact of the place
 module _ (wide : Bool) (tables : List ℕ) (e : ℕ) (σ rest : List ℕ) (seen : Set) (hs : seen ≡ heldIn wide (reverseAux σ [])) where
   abbrev past : List ℕ
@@ -91,22 +85,34 @@ module _ (wide : Bool) (tables : List ℕ) (e : ℕ) (σ rest : List ℕ) (seen 
   member : (x : ℕ) → x < width → mem seen x ≡ (reaches wide x and past has x)
   member = is-those seen (λ y. reaches wide y and past has y) hs
 
-  -- where it does not look back there is no e before
-  first : e < width → looksBack wide seen e ≡ false → past has e ≡ false
-  unfolding looksBack
-  first l q =
-      let two = neither (mem seen e) (non (reaches wide e) and ltb e width) q in
-      unheld (reaches wide e) (past has e) (sym (member e l) ∙ two .0)
-      (sym (and-true _) ∙ ap (λ (t : Bool). non (reaches wide e) and t) (sym (lt-ltb e width l)) ∙ two .1)
+  module _ (he : reaches wide e ≡ true) where
+    pick : (x : ℕ) → x < width → e < width → (t : Bool) → mem seen e ≡ t
+        → (reaches wide x and (when t then non (since e x [] past) else non (mem seen x))) ≡ (reaches wide x and non (since e x [] past))
+    pick x lx l true q = refl
+    pick x lx l false q =
+        let first : past has e ≡ false = sym (true-and _) ∙ ap (λ (t : Bool). t and past has e) (sym he) ∙ sym (member e l) ∙ q in
+        ap (λ (t : Bool). reaches wide x and non t) (member x lx)
+        ∙ not-held (reaches wide x) (past has x)
+        ∙ ap (λ (t : Bool). reaches wide x and non t) (sym (since-all e x past first))
 
-  pick : (x : ℕ) → x < width → e < width → (t : Bool) → looksBack wide seen e ≡ t
-      → (reaches wide x and (when t then non (since e x [] past) else non (mem seen x))) ≡ (reaches wide x and non (since e x [] past))
-  pick x lx l true q = refl
-  pick x lx l false q =
-      ap (λ (t : Bool). reaches wide x and non t) (member x lx)
-      ∙ not-held (reaches wide x) (past has x)
-      ∙ ap (λ (t : Bool). reaches wide x and non t) (sym (since-all e x past (first l q)))
+    since-is : (t : List ℕ) → sinceBy wide t e σ seen ≡ notedIn t unalternatedTable e (cut wide notSince e past rest)
+    unfolding sinceBy cut notSince
+    since-is t = noted-where t unalternatedTable e _ _ (λ l x lx. pick x lx l (mem seen e) refl)
 
-  pub since-is : sinceBy wide tables e σ seen ≡ noteSinceIn wide tables e past rest
-  unfolding sinceBy noteSinceIn cut notSince
-  since-is = noted-where tables unalternatedTable e _ _ (λ l x lx. pick x lx l (looksBack wide seen e) refl)
+  pub place-is : (last : Set) → last ≡ lastIn past → placeBy wide tables e σ seen last ≡ notePastIn wide tables e past rest
+  unfolding placeBy notePastIn
+  place-is last hl =
+      where-held _ _ tables (reaches wide e)
+      (λ he. since-is he (pastBy wide tables e seen last)
+      ∙ ap (λ (t : List ℕ). notedIn t unalternatedTable e (cut wide notSince e past rest)) (past-is wide tables e past rest seen last hs hl))
+
+-- what a place puts down, one after the other; nothing where the form does not hold it
+module _ (wide : Bool) (t : List ℕ) (e : ℕ) (past : List ℕ) (seen last : Set) where
+  pub place-put : (one out : List ℕ) → reaches wide e ≡ true → one ≡ pastBy wide t e seen last → out ≡ sinceBy wide one e past seen
+      → out ≡ placeBy wide t e past seen last
+  unfolding placeBy
+  place-put one out h h1 h2 = h2 ∙ ap (λ (x : List ℕ). sinceBy wide x e past seen) h1 ∙ held _ t (reaches wide e) h
+
+  pub place-left : reaches wide e ≡ false → t ≡ placeBy wide t e past seen last
+  unfolding placeBy
+  place-left h = unheld _ t (reaches wide e) h

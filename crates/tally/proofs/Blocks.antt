@@ -6,20 +6,20 @@ use mathlib.Core.List.{List, [], _∷_}
 use Prim.Native.Nat.{ℕ, _+_, _*_, _/_, _-_, _≤_, _<_}
 use native.Mathlib.Numerals.{add-one}
 use native.Mathlib.Omega.{arith}
-use borrow.Author.Tests.{ne-eqb, ltb-true, ltb-false}
-use lib.Dec.{T, eqb, eqb→eq, ltb}
+use borrow.Author.Tests.{ne-eqb, lt-ltb, le-ltb, ltb-true, ltb-false, eqb-true, eqb-false}
+use lib.Dec.{T, eqb, eqb→eq, ltb, lt→ltb, ltb→lt}
 use lib.ListN.{length, length-drop, getD, take, drop}
 use lib.Seq.{getD-take, getD-drop, length-take-le}
-use Rattle.sets.specs.Tests.{_and_, _or_, non}
-use Rattle.sets.specs.Members.{width, mem, those, isEmpty, someBelow}
+use Rattle.sets.specs.Tests.{_and_, _or_, non, when_then_else_}
+use Rattle.sets.specs.Members.{width, mem, those, noSet, isEmpty, someBelow}
 use Rattle.sets.specs.Rows.{Relation, rowAt, withRow, noRows, rowsOf}
 use Rattle.sets.specs.declared.set.Set.{Set}
 use Rattle.sets.proofs.Tests.{and-i, and-l, and-r, or-e, or-l, or-r, or-false, non-e, nor, not-non, T-ext, T-eq, T→true, true→T, F→false, eqb-of}
 use Rattle.sets.proofs.Tests.{split, either}
 use Rattle.sets.proofs.Below.{some-i, some-e, some-ext}
-use Rattle.sets.proofs.Members.{those-ext, those-of}
+use Rattle.sets.proofs.Members.{none-those, those-ext, those-of}
 use Rattle.sets.proofs.MadeSets.{Is, is-those, less}
-use Rattle.sets.proofs.RowLaws.{row-rowsOf, gain-rowsOf, rowsOf-ext, empty-rowsOf}
+use Rattle.sets.proofs.RowLaws.{row-rowsOf, put-rowsOf, gain-rowsOf, rowsOf-ext, empty-rowsOf}
 use Rattle.rules.specs.Traces.{_has_}
 use Rattle.tally.specs.Passes.{inBlock}
 use Rattle.tally.proofs.Since.{regroup, Looked}
@@ -141,3 +141,39 @@ blocks-next σ i h =
     ∙ sym (block-taken σ (i + 1) j x (omega arith)
     ∙ ap (λ (n : ℕ). someBelow n (λ p. eqb (p / 8) j and eqb x (getD σ p 0))) (add-one i)
     ∙ some-last i (λ p. eqb (p / 8) j and eqb x (getD σ p 0))))
+
+-- ---- the blocks of a trace are taken up: those before j are empty again
+
+abbrev pub leftFrom : List ℕ → ℕ → List ℕ
+leftFrom past j = rowsOf (λ i x. non (ltb i j) and inBlock past i x)
+
+pub take-start : (past : List ℕ) → rowsOf (inBlock past) ≡ leftFrom past 0
+unfolding _and_ non
+take-start past = rowsOf-ext _ _ (λ i x li lx. sym (ap (λ (t : Bool). non t and inBlock past i x) (le-ltb i 0 (omega arith))))
+
+pub take-next : (past : List ℕ) (j : ℕ) (blocks blocks′ : List ℕ) → blocks ≡ leftFrom past j → blocks′ ≡ withRow blocks j noSet
+    → blocks′ ≡ leftFrom past (j + 1)
+unfolding _and_ non
+take-next past j blocks blocks′ hb h =
+    h
+    ∙ ap (λ (l : List ℕ). withRow l j noSet) hb
+    ∙ ap (withRow (leftFrom past j) j) (none-those (λ x. false) (λ x l. refl))
+    ∙ put-rowsOf (λ i x. non (ltb i j) and inBlock past i x) j (λ x. false)
+    ∙ rowsOf-ext _ _ (λ i x li lx. by i x (eqb i j) refl)
+  where
+    by : (i x : ℕ) (t : Bool) → eqb i j ≡ t → (when t then false else (non (ltb i j) and inBlock past i x)) ≡ (non (ltb i (j + 1)) and inBlock past i x)
+    by i x true q = let same = eqb-true i j q in sym (ap (λ (t : Bool). non t and inBlock past i x) (lt-ltb i (j + 1) (omega arith)))
+    by i x false q =
+        let other = eqb-false i j q in
+        ap (λ (t : Bool). non t and inBlock past i x)
+        (T-ext (ltb i j) (ltb i (j + 1)) (λ t. lt→ltb i (j + 1) (omega (arith, ltb→lt i j t))) (λ t. lt→ltb i j (omega (arith, ltb→lt i (j + 1) t))))
+
+pub take-end : (past : List ℕ) (j : ℕ) → ((i : ℕ) → i < width → j ≤ i → length past ≤ i * 8) → leftFrom past j ≡ noRows
+unfolding inBlock
+take-end past j h =
+    sym (empty-rowsOf _ (λ i x li lx. F→false _
+    (λ t.
+    let p = some-e (length past) _ (and-r _ _ t) in
+    let at : p .0 / 8 ≡ i = eqb→eq (p .0 / 8) i (and-l _ _ (p .2)) in
+    let far : j ≤ i = ltb-false i j (F→false _ (non-e _ (and-l _ _ t))) in
+    omega (arith, h i li far, at, p .1))))

@@ -7,20 +7,20 @@ use native.Mathlib.Omega.{arith}
 use lib.Dec.{eqb}
 use lib.ListN.{length, getD, drop}
 use lib.Seq.{drop-length}
-use Rattle.sets.specs.Tests.{_or_}
+use Rattle.sets.specs.Tests.{_and_, _or_}
 use Rattle.sets.specs.Members.{mem, those, noSet}
 use Rattle.sets.specs.declared.set.Set.{Set}
 use Rattle.rules.specs.Traces.{_beginsWith_}
-use Rattle.tally.specs.Passes.{backward}
+use Rattle.tally.specs.Passes.{backward, reaches}
 use Rattle.tally.specs.Tallies.{noteRestIn, restBy}
-use Rattle.tally.proofs.Turns.{pastAt, rest-next, seenIn, lastIn, seen-more, seen-none, last-none, rest-is}
+use Rattle.tally.proofs.Turns.{pastAt, rest-next, heldIn, lastIn, held-more, held-none, last-none, rest-is}
 use Rattle.tally.proofs.Turns.{backward-start, backward-next}
 
--- the tally is that of the pass over what was passed of the trace; `after` and `next` are the sets of what stands after the place and
--- directly after it
+-- the tally is that of the pass over what was passed of the trace; `after` and `next` are the sets of what stands after the place, as far as the form
+-- holds it, and directly after it
 pub record Passed (wide : Bool) (σ t₀ t : List ℕ) (after next : Set) (i : ℕ) : Type 0 where
   pub reached : i ≤ length σ
-  pub after-is : after ≡ seenIn (drop i σ)
+  pub after-is : after ≡ heldIn wide (drop i σ)
   pub next-is : next ≡ lastIn (drop i σ)
   pub so-far : t ≡ backward (noteRestIn wide) t₀ (pastAt σ i) (drop i σ)
 
@@ -28,7 +28,7 @@ pub start : (wide : Bool) (σ t : List ℕ) → Passed wide σ t t noSet noSet (
 start wide σ t =
     record {
       reached = omega arith;
-      after-is = seen-none ∙ ap seenIn (sym (drop-length σ));
+      after-is = held-none wide ∙ ap (heldIn wide) (sym (drop-length σ));
       next-is = last-none ∙ ap lastIn (sym (drop-length σ));
       so-far = backward-start (noteRestIn wide) σ t;
     }
@@ -41,14 +41,15 @@ module _ {wide : Bool} {σ t₀ t : List ℕ} {after next : Set} where
   pub ended : {i : ℕ} → Passed wide σ t₀ t after next i → i ≤ 0 → Passed wide σ t₀ t after next 0
   ended inv h = subst (λ (n : ℕ). Passed wide σ t₀ t after next n) (omega arith) inv
 
-  pub turn : (i : ℕ) (t′ : List ℕ) (one after′ : Set) → Passed wide σ t₀ t after next (i + 1) → t′ ≡ restBy wide t (getD σ i 0) after next
-      → one ≡ those (λ b. eqb b (getD σ i 0)) → after′ ≡ those (λ a. mem after a or mem one a) → Passed wide σ t₀ t′ after′ one i
+  pub turn : (i : ℕ) (t′ : List ℕ) (one both after′ : Set) → Passed wide σ t₀ t after next (i + 1) → t′ ≡ restBy wide t (getD σ i 0) after next
+      → one ≡ those (λ b. eqb b (getD σ i 0)) → both ≡ those (λ a. mem after a or mem one a)
+      → after′ ≡ those (λ x. reaches wide x and mem both x) → Passed wide σ t₀ t′ after′ one i
   unfolding _beginsWith_
-  turn i t′ one after′ inv ht ho ha =
+  turn i t′ one both after′ inv ht ho hb ha =
       let h : i < length σ = omega (arith, inv .reached) in
       record {
         reached = omega arith;
-        after-is = seen-more _ _ after one after′ (inv .after-is) ho ha ∙ ap seenIn (sym (rest-next σ i h));
+        after-is = held-more wide _ _ after one both after′ (inv .after-is) ho hb ha ∙ ap (heldIn wide) (sym (rest-next σ i h));
         next-is = ho ∙ ap lastIn (sym (rest-next σ i h));
         so-far =
             backward-next (noteRestIn wide) σ t₀ i t t′ h

@@ -4,7 +4,6 @@ pub mod Somes
 pub mod Folds
 pub mod Since
 pub mod Blocks
-pub mod Fused
 pub mod Alternate
 pub mod Onward
 pub mod Homeward

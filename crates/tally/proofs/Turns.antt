@@ -1,15 +1,15 @@
 -- One turn of a pass over a trace: what stands before place i, the set of it, and what the row of the event gains. Assumes nothing.
 use Rattle.sets.specs.Members.{noSet, width, word, mem, those}
 use mathlib.Core.Path.{_≡_, refl, sym, ap, _∙_}
-use mathlib.Core.Bool.{Bool, true, false}
+use mathlib.Core.Bool.{Bool, true, false, not}
 use mathlib.Core.List.{List, [], _∷_, _++_, reverseAux}
 use Prim.Native.Nat.{ℕ, _+_, _≤_, _<_}
 use native.Mathlib.Numerals.{add-one}
-use borrow.Author.Tests.{ltb-true, ltb-false}
+use borrow.Author.Tests.{lt-ltb, le-ltb, ltb-true, ltb-false, not-true, not-false}
 use lib.Dec.{eqb, ltb}
 use lib.ListN.{length, getD, take, drop, drop-of-length-le}
 use lib.Seq.{take-suc, take-all, drop-cons, drop-length}
-use Rattle.sets.specs.Tests.{_and_, _or_, non}
+use Rattle.sets.specs.Tests.{_and_, _or_, non, when_then_else_}
 use Rattle.sets.specs.Rows.{rowAt, withRow}
 use Rattle.sets.specs.Tables.{tableAt, withRowIn, gainedIn}
 use Rattle.sets.specs.declared.set.Set.{Set}
@@ -20,10 +20,10 @@ use Rattle.sets.proofs.MadeSets.{Is, is-those}
 use Rattle.sets.proofs.RowLaws.{put-out}
 use Rattle.sets.proofs.TableLaws.{table-put-above}
 use Rattle.rules.specs.Traces.{_has_, _beginsWith_}
-use Rattle.tally.specs.Passes.{Fact, Turn, gained, gains, notedIn, forward, backward, reaches, cut, isEarlier, notEarlier, notDirectly}
+use Rattle.tally.specs.Passes.{Fact, Turn, gained, gains, gainsIn, notedIn, forward, backward, reaches, cut, isEarlier, notEarlier, notDirectly}
 use Rattle.tally.specs.Passes.{isLater, notLater, isNext}
-use Rattle.tally.specs.Tallies.{beforeTable, laterTable, unprecededTable, unansweredTable, unchainedTable, followedTable, notePastIn}
-use Rattle.tally.specs.Tallies.{noteRestIn, pastBy, restBy}
+use Rattle.tally.specs.Tallies.{beforeTable, laterTable, unprecededTable, unansweredTable, unchainedTable, followedTable, noteRestIn}
+use Rattle.tally.specs.Tallies.{pastBy, restBy}
 
 -- what stands before place i, the nearest first
 abbrev pub pastAt : List ℕ → ℕ → List ℕ
@@ -157,7 +157,7 @@ module _ (tables : List ℕ) (k e : ℕ) where
 
 -- three of them, one after another
 module _ (tables : List ℕ) (j k l e : ℕ) where
-  abbrev thrice : (ℕ → Bool) → (ℕ → Bool) → (ℕ → Bool) → List ℕ
+  abbrev pub thrice : (ℕ → Bool) → (ℕ → Bool) → (ℕ → Bool) → List ℕ
   thrice p q r = notedIn (notedIn (notedIn tables j e p) k e q) l e r
 
   pub joined-thrice : (s u v : Set) (p q r : ℕ → Bool) (one two out : List ℕ) → Is s p → Is u q → Is v r
@@ -194,6 +194,32 @@ low-held wide s low r t hl hr =
 formed : (wide : Bool) (s c : Set) (p : ℕ → Bool) → Is s p → c ≡ those (λ x. reaches wide x and mem s x) → Is c (λ x. reaches wide x and p x)
 formed wide s c p hs hc x l = is-those c _ hc x l ∙ ap (λ (t : Bool). reaches wide x and t) (hs x l)
 
+-- a place that the form holds, and one that it does not
+pub held : (x y : List ℕ) (b : Bool) → b ≡ true → x ≡ (when b then x else y)
+held x y b h = ap (λ (t : Bool). when t then x else y) (sym h)
+
+pub unheld : (x y : List ℕ) (b : Bool) → b ≡ false → y ≡ (when b then x else y)
+unheld x y b h = ap (λ (t : Bool). when t then x else y) (sym h)
+
+pub where-held : (x z y : List ℕ) (b : Bool) → (b ≡ true → x ≡ z) → (when b then x else y) ≡ (when b then z else y)
+where-held x z y true h = h refl
+where-held x z y false h = refl
+
+pub all-reached : (e : ℕ) → reaches true e ≡ true
+unfolding reaches _or_
+all-reached e = refl
+
+pub low-reached : (e : ℕ) → e < word → reaches false e ≡ true
+unfolding reaches _or_
+low-reached e l = lt-ltb e word l
+
+pub high-unreached : (e : ℕ) → word ≤ e → reaches false e ≡ false
+unfolding reaches _or_
+high-unreached e l = le-ltb e word l
+
+twice-held : (r p : Bool) → (r and (r and p)) ≡ (r and p)
+twice-held = by2 (λ r p. r and (r and p)) (λ r p. r and p) (unfold _and_ _or_ non in tt)
+
 -- in the form, what it does not hold of a list does not stand there
 pub not-held : (r p : Bool) → (r and non (r and p)) ≡ (r and non p)
 not-held = by2 (λ r p. r and non (r and p)) (λ r p. r and non p) (unfold _and_ _or_ non in tt)
@@ -209,40 +235,46 @@ module _ (wide : Bool) (tables : List ℕ) (e : ℕ) where
       joined-thrice tables beforeTable unprecededTable unchainedTable e s c′ d′ _ _ _ one two out (is-those s _ hs)
       (formed wide c c′ _ (is-those c _ hc) hc′) (formed wide d d′ _ (is-those d _ hd) hd′) h1 h2 h3
 
-  pub rest-put : (after next s c c′ n : Set) (one two out : List ℕ) → s ≡ those (λ x. reaches wide x and mem after x)
-      → one ≡ gainedIn tables laterTable e s → c ≡ those (λ a. non (mem after a)) → c′ ≡ those (λ x. reaches wide x and mem c x)
-      → two ≡ gainedIn one unansweredTable e c′ → n ≡ those (λ x. reaches wide x and mem next x)
+  pub rest-put : (after next : Set) (h : Bool) → h ≡ reaches wide e → not h ≡ false → (s c c′ n : Set) (one two out : List ℕ)
+      → s ≡ those (λ x. reaches wide x and mem after x) → one ≡ gainedIn tables laterTable e s → c ≡ those (λ a. non (mem after a))
+      → c′ ≡ those (λ x. reaches wide x and mem c x) → two ≡ gainedIn one unansweredTable e c′ → n ≡ those (λ x. reaches wide x and mem next x)
       → out ≡ gainedIn two followedTable e n → out ≡ restBy wide tables e after next
   unfolding restBy
-  rest-put after next s c c′ n one two out hs h1 hc hc′ h2 hn h3 =
+  rest-put after next h hh hn s c c′ n one two out hs h1 hc hc′ h2 hx h3 =
       joined-thrice tables laterTable unansweredTable followedTable e s c′ n _ _ _ one two out (is-those s _ hs)
-      (formed wide c c′ _ (is-those c _ hc) hc′) (is-those n _ hn) h1 h2 h3
+      (formed wide c c′ _ (is-those c _ hc) hc′) (is-those n _ hx) h1 h2 h3
+      ∙ held _ tables (reaches wide e) (sym hh ∙ not-false h hn)
+
+  pub rest-left : (after next : Set) (h : Bool) → h ≡ reaches wide e → not h ≡ true → tables ≡ restBy wide tables e after next
+  unfolding restBy
+  rest-left after next h hh hn = unheld _ tables (reaches wide e) (sym hh ∙ not-true h hn)
 
   -- by sets of what stands there, it is what the place says
   module _ (past rest : List ℕ) where
-    pub past-is : (seen last : Set) → seen ≡ heldIn wide past → last ≡ lastIn past → pastBy wide tables e seen last ≡ notePastIn wide tables e past rest
-    unfolding pastBy notePastIn cut isEarlier notEarlier notDirectly
+    pub past-is : (seen last : Set) → seen ≡ heldIn wide past → last ≡ lastIn past → pastBy wide tables e seen last
+        ≡ thrice tables beforeTable unprecededTable unchainedTable e (cut wide isEarlier e past rest) (cut wide notEarlier e past rest)
+        (cut wide notDirectly e past rest)
+    unfolding pastBy cut isEarlier notEarlier notDirectly
     past-is seen last hs hl =
         let seen-in = is-those seen _ hs in
         let last-in = is-those last _ hl in
         thrice-as tables beforeTable unprecededTable unchainedTable e _ _ _ _ _ _
-        (λ x l.
-        ap (λ (t : Bool). reaches wide x and t) (seen-in x l)
-        ∙ by2 (λ r p. r and (r and p)) (λ r p. r and p) (unfold _and_ _or_ non in tt) (reaches wide x) (past has x))
+        (λ x l. ap (λ (t : Bool). reaches wide x and t) (seen-in x l) ∙ twice-held (reaches wide x) (past has x))
         (λ x l. ap (λ (t : Bool). reaches wide x and non t) (seen-in x l) ∙ not-held (reaches wide x) (past has x)) (λ x l. ap (λ (t : Bool). reaches wide x and non t) (last-in x l))
 
-    pub rest-is : (after next : Set) → after ≡ seenIn rest → next ≡ lastIn rest → restBy wide tables e after next ≡ noteRestIn wide tables e past rest
+    pub rest-is : (after next : Set) → after ≡ heldIn wide rest → next ≡ lastIn rest → restBy wide tables e after next ≡ noteRestIn wide tables e past rest
     unfolding restBy noteRestIn cut isLater notLater isNext
     rest-is after next ha hn =
         let after-in = is-those after _ ha in
         let next-in = is-those next _ hn in
-        thrice-as tables laterTable unansweredTable followedTable e _ _ _ _ _ _ (λ x l. ap (λ (t : Bool). reaches wide x and t) (after-in x l))
-        (λ x l. ap (λ (t : Bool). reaches wide x and non t) (after-in x l)) (λ x l. ap (λ (t : Bool). reaches wide x and t) (next-in x l))
+        ap (λ (l : List ℕ). when reaches wide e then l else tables) (thrice-as tables laterTable unansweredTable followedTable e _ _ _ _ _ _
+        (λ x l. ap (λ (t : Bool). reaches wide x and t) (after-in x l) ∙ twice-held (reaches wide x) (rest has x))
+        (λ x l. ap (λ (t : Bool). reaches wide x and non t) (after-in x l) ∙ not-held (reaches wide x) (rest has x)) (λ x l. ap (λ (t : Bool). reaches wide x and t) (next-in x l)))
 
 -- the pass in the form that was asked for
-pub as-asked : (wide form : Bool) (p : Fact) (rows rows′ σ : List ℕ) → wide ≡ form → rows′ ≡ forward (gains (cut form p)) rows [] σ
-    → rows′ ≡ forward (gains (cut wide p)) rows [] σ
-as-asked wide form p rows rows′ σ h e = e ∙ ap (λ (b : Bool). forward (gains (cut b p)) rows [] σ) (sym h)
+pub as-asked : (wide form : Bool) (p : Fact) (rows rows′ σ : List ℕ) → wide ≡ form → rows′ ≡ forward (gainsIn form p) rows [] σ
+    → rows′ ≡ forward (gainsIn wide p) rows [] σ
+as-asked wide form p rows rows′ σ h e = e ∙ ap (λ (b : Bool). forward (gainsIn b p) rows [] σ) (sym h)
 
 -- the forward loop: before the first turn, one turn further, after the last
 module _ (turn : Turn) (σ all : List ℕ) where

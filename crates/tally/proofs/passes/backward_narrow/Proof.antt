@@ -12,12 +12,12 @@ abbrev μ-loop : tie.MeasureT-loop
 
 loop-again : tie.Need-loop-again Inv-loop μ-loop
 loop-again c =
-    let in-loop = c .before .before .before .before .before in
-    turn _ _ _ _ (down (in-loop .before .loop .inv) (in-loop .loop-test .taken)) (c .before .before .note-rest .ensures)
-    (c .before .one .ensures) (c .union .ensures)
+    let in-loop = c .before .before .before .before .before .before in
+    turn _ _ _ _ _ (down (in-loop .before .loop .inv) (in-loop .loop-test .taken)) (c .before .before .before .note-rest .ensures)
+    (c .before .before .one .ensures) (c .before .union .ensures) (c .in-form .ensures)
 
 pub backward-narrow-spec : {M : Type 1} → statement M
 backward-narrow-spec =
     tie.close
     (tie.spec Inv-loop μ-loop (λ c. start _ _ _) (λ c. search needs) (λ c. search needs) (λ c κs. search needs) (λ c κs. search needs)
-    (λ c κs. search needs) (λ c. search needs) loop-again (λ c. ended (c .before .loop .inv) (c .loop-test .left) .so-far))
+    (λ c κs. search needs) (λ c κs. search needs) (λ c. search needs) loop-again (λ c. ended (c .before .loop .inv) (c .loop-test .left) .so-far))
