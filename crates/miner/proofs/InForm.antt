@@ -7,7 +7,7 @@ use native.Mathlib.Omega.{arith}
 use borrow.Author.Tests.{lt-ltb, ltb-false}
 use lib.Dec.{T, eqb, ltb}
 use Rattle.sets.specs.Tests.{_and_, _or_, non}
-use Rattle.sets.specs.Members.{word, mem, those}
+use Rattle.sets.specs.Members.{width, word, mem, those}
 use Rattle.sets.specs.Rows.{Relation, noRows, inRow, rowsOf, rowsFor, turned}
 use Rattle.sets.specs.declared.set.Set.{Set}
 use Rattle.sets.proofs.Tests.{T-eq, T-ext, T→true, true→T, and-l, and-r, and-i, split, either}
@@ -22,14 +22,14 @@ use Rattle.rules.specs.Mining.{event}
 use Rattle.rules.specs.Replays.{Accepted}
 use Rattle.rules.proofs.Places.{some-trace}
 use Rattle.steps.specs.Rowwise.{reducedOf, waited}
-use Rattle.tally.specs.Passes.{Fact, gains, forward, through, reaches, eventIn, cut}
+use Rattle.tally.specs.Passes.{Fact, gains, gainsIn, forward, through, reaches, eventIn, cut}
 use Rattle.tally.specs.Tallies.{tallied, talliedFor}
-use Rattle.tally.proofs.Folds.{heard, heard-in, forward-rowsOf, through-rowsOf, through-all}
+use Rattle.tally.proofs.Folds.{heard, heard-in, formed, forward-rowsOf, forward-in, through-rowsOf, through-all}
 use Rattle.tally.proofs.Tallying.{form-agrees}
 use Rattle.miner.specs.Facts.{letIn, beforeFirst, missed}
 use Rattle.miner.specs.Stages.{conditionsOf, chainsOf, responsesOf, neverOf, includesIn, includesSix, excludesSix, sevenFrom, waitedOf, waitedIn, fourTables, tablesIn, graphFound, graphFoundIn}
 use Rattle.miner.proofs.Losing.{where-so}
-use Rattle.miner.proofs.OverLog.{some-place, rest-event}
+use Rattle.miner.proofs.OverLog.{some-place, place-event, rest-event}
 use Rattle.miner.proofs.EarlySteps.{events}
 use Rattle.miner.proofs.AtEvents.{AgreeIn, AgreeAt, tables-at}
 
@@ -49,8 +49,11 @@ module _ (A : ℕ) (L : Traces) (ok : Accepted A L) where
       by true q = unfold reaches _or_ in refl
       by false q = unfold reaches _or_ in lt-ltb x word (low q)
 
+  reached : (x : ℕ) → x < width → T (mem (events L) x) → reaches (ltb word A) x ≡ true
+  reached x l t = all-reached x (T-eq (mem-those (event L) x l) t)
+
   agree : AgreeAt (events L) (talliedFor (ltb word A) L) (tallied L)
-  agree k lk a x la lx ta tx = form-agrees (ltb word A) L k a x lk la lx (all-reached x (T-eq (mem-those (event L) x lx) tx))
+  agree k lk a x la lx ta tx = form-agrees (ltb word A) L k a x lk la lx (reached a la ta) (reached x lx tx)
 
   -- ---- step 9
 
@@ -58,11 +61,12 @@ module _ (A : ℕ) (L : Traces) (ok : Accepted A L) where
   E = events L
 
   -- a walk that puts a fact into rows says the same in the form
-  walk-at : (p : Fact) → AgreeIn E (through (λ r σ. forward (gains (cut (ltb word A) p)) r [] σ) noRows L) (through (λ r σ. forward (gains p) r [] σ) noRows L)
+  walk-at : (p : Fact) → AgreeIn E (through (λ r σ. forward (gainsIn (ltb word A) p) r [] σ) noRows L) (through (λ r σ. forward (gains p) r [] σ) noRows L)
   walk-at p a x la lx ta tx =
-      let said : (q : Fact) → inRow (through (λ r σ. forward (gains q) r [] σ) noRows L) a x ≡ heard q L a x = λ q. ap (λ (rows : List ℕ). inRow rows a x) (through-all q (λ r σ. forward (gains q) r [] σ) (λ r σ. forward-rowsOf q r [] σ) L)
-      ∙ in-rowsOf (heard q L) a x la lx in
-      said (cut (ltb word A) p) ∙ heard-in (ltb word A) p L a x (all-reached x (T-eq (mem-those (event L) x lx) tx)) ∙ sym (said p)
+      ap (λ (rows : List ℕ). inRow rows a x) (through-all (formed (ltb word A) p) _ (λ r σ. forward-in (ltb word A) p r [] σ) L)
+      ∙ in-rowsOf (heard (formed (ltb word A) p) L) a x la lx
+      ∙ heard-in (ltb word A) p L a x (reached a la ta) (reached x lx tx)
+      ∙ sym (ap (λ (rows : List ℕ). inRow rows a x) (through-all p _ (λ r σ. forward-rowsOf p r [] σ) L) ∙ in-rowsOf (heard p L) a x la lx)
 
   waited-form : (eight includes excludes : List ℕ) → waitedIn (ltb word A) E eight includes excludes L ≡ waitedOf E eight includes excludes L
   unfolding rowsFor waited
@@ -74,25 +78,24 @@ module _ (A : ℕ) (L : Traces) (ok : Accepted A L) where
 
   -- ---- step 6
 
-  -- what is let in comes later, so it is an event
-  let-in-same : (never : List ℕ) (a x : ℕ) → heard (cut (ltb word A) (letIn never)) L a x ≡ heard (letIn never) L a x
+  -- what is let in comes later, so it is an event, and so is what it comes after
+  let-in-same : (never : List ℕ) (a x : ℕ) → heard (formed (ltb word A) (letIn never)) L a x ≡ heard (letIn never) L a x
   unfolding cut letIn
   let-in-same never a x =
-      either (split (reaches (ltb word A) x)) (λ t. heard-in (ltb word A) (letIn never) L a x (T→true _ t))
-      (λ f. T-ext _ _
-      (λ h. let k = some-place a (λ past rest. cut (ltb word A) (letIn never) a past rest x) L h in absurd (f (and-l _ _ (k .3))))
-      (λ h. absurd (f (true→T (all-reached x (rest-event a _ x (λ past rest k. and-l _ _ k) L h))))))
+      T-ext _ _
+      (λ h. let k = some-place a (λ past rest. formed (ltb word A) (letIn never) a past rest x) L h in
+      T-eq (heard-in (ltb word A) (letIn never) L a x (T→true _ (and-l _ _ (k .3))) (T→true _ (and-l _ _ (and-r _ _ (k .3))))) h)
+      (λ h. T-eq (sym (heard-in (ltb word A) (letIn never) L a x (all-reached a (place-event a _ L h))
+      (all-reached x (rest-event a _ x (λ past rest k. and-l _ _ k) L h)))) h)
 
   includes-form : (p : Profile) (t : List ℕ) → includesIn (ltb word A) p E t L ≡ includesSix p E t L
   includes-form Light t = refl
   includes-form Full t =
       let never : List ℕ = neverOf E t in
       let start : Relation = turned (chainsOf E t) in
-      let walk : (q : Fact) → through (λ r σ. forward (gains q) r [] σ) (rowsOf start) L ≡ rowsOf (λ a x. start a x or heard q L a x) =
-      λ q. through-rowsOf q (λ r σ. forward (gains q) r [] σ) (λ r σ. forward-rowsOf q r [] σ) start L in
-      walk (cut (ltb word A) (letIn never))
+      through-rowsOf (formed (ltb word A) (letIn never)) _ (λ r σ. forward-in (ltb word A) (letIn never) r [] σ) start L
       ∙ rowsOf-ext _ _ (λ a x la lx. ap (λ (b : Bool). start a x or b) (let-in-same never a x))
-      ∙ sym (walk (letIn never))
+      ∙ sym (through-rowsOf (letIn never) _ (λ r σ. forward-rowsOf (letIn never) r [] σ) start L)
 
   -- the events, which are all held
   events-form : those (eventIn (ltb word A) L) ≡ E

@@ -8,10 +8,11 @@ ghost use Rattle.sets.specs.Members.{mem, those};
 ghost use Rattle.sets.specs.Rows.{inRow, noRows, rowsFor};
 ghost use Rattle.sets.specs.Tables.{tableAt, withTable};
 ghost use Rattle.steps.specs.Rowwise.{reducedOf, waited};
-ghost use Rattle.tally.specs.Passes.{gained, gains, forward, walked, reaches, cut};
+ghost use Rattle.tally.specs.Passes.{gainedFor, gainsIn, forward, walked, reaches};
 ghost use Rattle.miner.specs.Facts.{beforeFirst, missed};
 ghost use Rattle.miner.specs.Stages.{conditionsOf, aheadOf, missedOf};
 use crate::includes::and_then;
+use crate::includes::gain;
 use engine::Relations;
 use engine::graph::CONDITIONS;
 use engine::graph::EXCLUDES;
@@ -61,13 +62,13 @@ fn note_waiting(
     first: &mut Rows,
     unmet: &mut Rows,
 )
-    ensures before { λ _. ⌜ now (first .exit) ≡ gained (now (first .entry)) (e .0) (λ x. reaches wide x and (mem seen x and non (mem seen (e .0)))) ⌝ }
-    ensures left { λ _. ⌜ now (unmet .exit) ≡ gained (now (unmet .entry)) (e .0) (λ x. mem included x and non (mem seen x)) ⌝ }
+    ensures before { λ _. ⌜ now (first .exit) ≡ gainedFor wide (now (first .entry)) (e .0) (λ x. reaches wide x and (mem seen x and non (mem seen (e .0)))) ⌝ }
+    ensures left { λ _. ⌜ now (unmet .exit) ≡ gainedFor wide (now (unmet .entry)) (e .0) (λ x. mem included x and non (mem seen x)) ⌝ }
 {
     let early = in_form(at_first(seen, e), wide);
-    rows::join(first, e, early);
+    gain(first, e, early, wide);
     let waiting = included.difference(seen);
-    rows::join(unmet, e, waiting);
+    gain(unmet, e, waiting, wide);
 }
 
 // What is included after e, by the includes and excludes of the tables alone: e's excludes go, then its includes come, as far as the form
@@ -89,9 +90,9 @@ fn replay_trace<'a>(
     first: &mut Rows,
     unmet: &mut Rows,
 )
-    ensures before { λ _. ⌜ now (first .exit) ≡ forward (gains (cut true beforeFirst)) (now (first .entry)) [] (now (trace .entry)) ⌝ }
+    ensures before { λ _. ⌜ now (first .exit) ≡ forward (gainsIn true beforeFirst) (now (first .entry)) [] (now (trace .entry)) ⌝ }
     ensures left { λ _. ⌜ now (unmet .exit) ≡ forward
-        (gains (cut true (missed events (tableAt (now (held .entry)) 2) (tableAt (now (held .entry)) 3))))
+        (gainsIn true (missed events (tableAt (now (held .entry)) 2) (tableAt (now (held .entry)) 3)))
         (now (unmet .entry)) [] (now (trace .entry)) ⌝ }
 {
     let mut seen = Set::EMPTY;
@@ -115,9 +116,9 @@ fn replay_trace_narrow<'a>(
     first: &mut Rows,
     unmet: &mut Rows,
 )
-    ensures before { λ _. ⌜ now (first .exit) ≡ forward (gains (cut false beforeFirst)) (now (first .entry)) [] (now (trace .entry)) ⌝ }
+    ensures before { λ _. ⌜ now (first .exit) ≡ forward (gainsIn false beforeFirst) (now (first .entry)) [] (now (trace .entry)) ⌝ }
     ensures left { λ _. ⌜ now (unmet .exit) ≡ forward
-        (gains (cut false (missed events (tableAt (now (held .entry)) 2) (tableAt (now (held .entry)) 3))))
+        (gainsIn false (missed events (tableAt (now (held .entry)) 2) (tableAt (now (held .entry)) 3)))
         (now (unmet .entry)) [] (now (trace .entry)) ⌝ }
 {
     let mut seen = Set::EMPTY;
@@ -142,9 +143,9 @@ fn replay_in<'a>(
     first: &mut Rows,
     unmet: &mut Rows,
 )
-    ensures before { λ _. ⌜ now (first .exit) ≡ forward (gains (cut wide beforeFirst)) (now (first .entry)) [] (now (trace .entry)) ⌝ }
+    ensures before { λ _. ⌜ now (first .exit) ≡ forward (gainsIn wide beforeFirst) (now (first .entry)) [] (now (trace .entry)) ⌝ }
     ensures left { λ _. ⌜ now (unmet .exit) ≡ forward
-        (gains (cut wide (missed events (tableAt (now (held .entry)) 2) (tableAt (now (held .entry)) 3))))
+        (gainsIn wide (missed events (tableAt (now (held .entry)) 2) (tableAt (now (held .entry)) 3)))
         (now (unmet .entry)) [] (now (trace .entry)) ⌝ }
 {
     if wide {

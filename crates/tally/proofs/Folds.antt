@@ -9,7 +9,7 @@ use Rattle.sets.specs.Rows.{Relation, noRows, rowsOf}
 use Rattle.sets.proofs.Tests.{and-i, and-l, and-r, or-assoc, or-comm, or-false, false-or, and-false, T-ext}
 use Rattle.sets.proofs.RowLaws.{rowsOf-ext, gain-rowsOf, empty-rowsOf}
 use Rattle.rules.specs.Traces.{Traces, atSomeFrom, atSome, someTrace}
-use Rattle.tally.specs.Passes.{Fact, Turn, gained, gains, gainsIn, forward, backward, through, reaches, cut}
+use Rattle.tally.specs.Passes.{Fact, Turn, gained, gains, gainedFor, gainsIn, forward, backward, through, reaches, cut}
 
 -- of two that are the same it may be said of either
 pub at-same : (a e : ℕ) (f : ℕ → Bool) → (eqb a e and f e) ≡ (eqb a e and f a)
@@ -58,7 +58,7 @@ formed wide p e past rest x = reaches wide e and cut wide p e past rest x
 
 pub gains-in : (wide : Bool) (p : Fact) (r : Relation) (e : ℕ) (past rest : List ℕ) → gainsIn wide p (rowsOf r) e past rest
     ≡ rowsOf (λ a x. r a x or eqb a e and formed wide p e past rest x)
-unfolding gainsIn gained _and_
+unfolding gainsIn gainedFor gained _and_
 gains-in wide p r e past rest = by (reaches wide e)
   where
     by : (b : Bool) → (when b then gained (rowsOf r) e (cut wide p e past rest) else rowsOf r) ≡ rowsOf (λ a x. r a x or eqb a e and (b and cut wide p e past rest x))

@@ -14,7 +14,7 @@ use Rattle.sets.proofs.RowLaws.{rowsOf-ext, in-rowsOf}
 use Rattle.sets.proofs.TableLaws.{table-put-same, table-put-other, table-none}
 use Rattle.rules.specs.Traces.{Traces, _has_, _beginsWith_, atSome}
 use Rattle.rules.specs.Mining.{precedes, answers, chained, before, followed, alternates}
-use Rattle.tally.specs.Passes.{Fact, Turn, gained, gainsIn, notedIn, forward, backward, through, isEarlier, notEarlier, notDirectly}
+use Rattle.tally.specs.Passes.{Fact, Turn, gained, gainedFor, gainsIn, notedIn, forward, backward, through, isEarlier, notEarlier, notDirectly}
 use Rattle.tally.specs.Passes.{notSince, isLater, notLater, isNext, reaches, cut}
 use Rattle.tally.specs.Tallies.{tableCount, beforeTable, laterTable, unprecededTable, unansweredTable, unchainedTable, unalternatedTable}
 use Rattle.tally.specs.Tallies.{followedTable, notePastIn, noteRestIn, notedFor, talliedFor, notePast, noteRest, noted, tallied}
@@ -159,7 +159,7 @@ factAt (suc (suc (suc (suc (suc zero))))) = notSince
 factAt (suc (suc (suc (suc (suc (suc k)))))) = isNext
 
 table-heard : (wide : Bool) (L : Traces) (k : ℕ) → k < tableCount → tableAt (talliedFor wide L) k ≡ rowsOf (heard (formed wide (factAt k)) L)
-unfolding gainsIn
+unfolding gainsIn gainedFor
 table-heard wide L zero l = table-is wide 0 l _ L (past-alone wide isEarlier)
 table-heard wide L (suc zero) l = table-is wide 1 l _ L (rest-alone wide isLater)
 table-heard wide L (suc (suc zero)) l = table-is wide 2 l _ L (past-alone wide notEarlier)

@@ -20,7 +20,7 @@ use Rattle.sets.proofs.MadeSets.{Is, is-those}
 use Rattle.sets.proofs.RowLaws.{put-out}
 use Rattle.sets.proofs.TableLaws.{table-put-above}
 use Rattle.rules.specs.Traces.{_has_, _beginsWith_}
-use Rattle.tally.specs.Passes.{Fact, Turn, gained, gains, gainsIn, notedIn, forward, backward, reaches, cut, isEarlier, notEarlier, notDirectly}
+use Rattle.tally.specs.Passes.{Fact, Turn, gained, gainedFor, gainsIn, notedIn, forward, backward, reaches, cut, isEarlier, notEarlier, notDirectly}
 use Rattle.tally.specs.Passes.{isLater, notLater, isNext}
 use Rattle.tally.specs.Tallies.{beforeTable, laterTable, unprecededTable, unansweredTable, unchainedTable, followedTable, noteRestIn}
 use Rattle.tally.specs.Tallies.{pastBy, restBy}
@@ -119,11 +119,12 @@ held-more wide past e seen one both seen′ hs ho hb h =
     ∙ those-ext (λ x. reaches wide x and (reaches wide x and past has x or eqb x e)) (λ x. reaches wide x and (e ∷ past) has x)
     (λ x l. by3 (λ r p o. r and (r and p or o)) (λ r p o. r and (o or p)) (unfold _and_ _or_ non in tt) (reaches wide x) (past has x) (eqb x e))
 
--- a row joined with a set that is known
-pub joined-by : (rows : List ℕ) (e : ℕ) (q : ℕ → Bool) (s : Set) (rows′ : List ℕ) → s ≡ those q
-    → rows′ ≡ withRow rows e (those (λ b. mem (rowAt rows e) b or mem s b)) → rows′ ≡ gained rows e q
-unfolding gained
-joined-by rows e q s rows′ hs h = h ∙ ap (withRow rows e) (those-of s q (λ b t. mem (rowAt rows e) b or t) hs)
+-- a row that gained a set that is known
+pub joined-by : (wide : Bool) (rows : List ℕ) (e : ℕ) (q : ℕ → Bool) (s : Set) (rows′ : List ℕ) → s ≡ those q → rows′ ≡ gainedFor wide rows e (mem s)
+    → rows′ ≡ gainedFor wide rows e q
+unfolding gainedFor gained
+joined-by wide rows e q s rows′ hs h =
+    h ∙ ap (λ (row : Set). when reaches wide e then withRow rows e row else rows) (those-of s q (λ b t. mem (rowAt rows e) b or t) hs)
 
 -- a row for e is put only where e is below the width: what it gains may be said otherwise there
 pub put-where : (e : ℕ) (row : Set) (old : List ℕ) (put : Set → List ℕ) → ((s : Set) → width ≤ e → old ≡ put s) → (p q : ℕ → Bool)
@@ -134,11 +135,13 @@ put-where e row old put out p q h =
     (λ f. let g = ltb-false e width (F→false _ f) in sym (out _ g) ∙ out _ g)
 
 -- the row of the event gains what passes, and below the width that is the fact; a number past it has no row
-pub gains-below : (p : Fact) (rows : List ℕ) (e : ℕ) (past rest : List ℕ) (q : ℕ → Bool) (rows′ : List ℕ)
-    → (e < width → (x : ℕ) → x < width → q x ≡ p e past rest x) → rows′ ≡ gained rows e q → rows′ ≡ gains p rows e past rest
-unfolding gains gained
-gains-below p rows e past rest q rows′ f h =
-    h ∙ put-where e (rowAt rows e) rows (withRow rows e) (put-out rows e) q (p e past rest) f
+pub gains-below : (wide : Bool) (p : Fact) (rows : List ℕ) (e : ℕ) (past rest : List ℕ) (q : ℕ → Bool) (rows′ : List ℕ)
+    → (e < width → (x : ℕ) → x < width → q x ≡ cut wide p e past rest x) → rows′ ≡ gainedFor wide rows e q → rows′ ≡ gainsIn wide p rows e past rest
+unfolding gainsIn gainedFor gained
+gains-below wide p rows e past rest q rows′ f h =
+    h
+    ∙ ap (λ (l : List ℕ). when reaches wide e then l else rows)
+    (put-where e (rowAt rows e) rows (withRow rows e) (put-out rows e) q (cut wide p e past rest) f)
 
 -- ---- the same of tables
 

@@ -98,9 +98,13 @@ eventIn wide L x = reaches wide x and someTrace L (λ σ. σ has x)
 unfoldable pub cut : Bool → Fact → Fact
 cut wide p e past rest x = reaches wide x and p e past rest x
 
--- the row of e gains it, where the form can hold e
+-- row e gains what passes, where the form can hold e
+unfoldable pub gainedFor : Bool → List ℕ → ℕ → (ℕ → Bool) → List ℕ
+gainedFor wide rows e p = when reaches wide e then gained rows e p else rows
+
+-- the row of e gains what the place puts into it, as far as the form can hold either
 unfoldable pub gainsIn : Bool → Fact → Turn
-gainsIn wide p rows e past rest = when reaches wide e then gained rows e (cut wide p e past rest) else rows
+gainsIn wide p rows e past rest = gainedFor wide rows e (cut wide p e past rest)
 
 -- ---- a look back
 

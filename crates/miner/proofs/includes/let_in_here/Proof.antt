@@ -6,7 +6,7 @@ use Rattle.miner.proofs.includes.let_in_here.Tie as tie
 
 returns : tie.Need-returns
 returns c = (
-  joined-by _ _ _ _ _ (c .before .before .before .before .before .intersection .ensures) (c .before .before .before .join .ensures),
+  joined-by _ _ _ _ _ _ (c .before .before .before .before .before .intersection .ensures) (c .before .before .before .gain .ensures),
   barred-by _ _ _ _ _ _ _ (c .before .before .row .ensures) (c .before .in-form .ensures) (c .union .ensures),
 )
 

@@ -19,9 +19,10 @@ abbrev μ-loop : tie.MeasureT-loop
 
 loop-again : tie.Need-loop-again Inv-loop μ-loop
 loop-again c =
-    let turn = c .before .before .before in
-    (omega (arith, turn .loop-test .taken),
-      λ past hb hl. take-next past _ _ _ (turn .before .loop .inv .1 past hb hl) (c .put .ensures))
+    let turn = c .before .before .before in (
+      omega (arith, turn .loop-test .taken),
+      λ past hb hl. take-next past _ _ _ (turn .before .loop .inv .1 past hb hl) (c .put .ensures),
+    )
 
 pub take-up-spec : {M : Type 1} → statement M
 take-up-spec =
