@@ -122,6 +122,7 @@ use Rattle.steps.proofs.relations.waited.Reads as waited
 use Rattle.steps.proofs.reduce.reduced.Reads as reduced
 use Rattle.tally.proofs.log.empty.Reads as log-empty
 use Rattle.tally.proofs.in_form.Reads as in-form
+use Rattle.tally.proofs.holds.Reads as holds
 use Rattle.tally.proofs.log.note_traces_in.Reads as log-note-traces-in
 use Rattle.miner.proofs.conditions_eight.Reads as conditions-eight
 use Rattle.miner.proofs.excluded_five.Reads as excluded-five
@@ -591,6 +592,9 @@ log-empty-once κ a r r′ s s′ h h′ = h ∙ sym h′
 
 pub in-form-once : Once in-form.Post
 in-form-once κ a r r′ s s′ h h′ = h ∙ sym h′
+
+pub holds-once : Once holds.Post
+holds-once κ a r r′ s s′ h h′ = h ∙ sym h′
 
 pub log-note-traces-in-once : OnceLent log-note-traces-in.Post (λ κ s. now (s .1 .1 .1 .0))
 log-note-traces-in-once κ a r r′ s s′ h h′ = (h .0 ∙ sym (h′ .0), h .1 ∙ sym (h′ .1))
