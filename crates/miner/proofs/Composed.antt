@@ -20,9 +20,9 @@ use Rattle.rules.specs.declared.Profile.{Profile}
 use Rattle.rules.specs.declared.Profile.the-variants.{Full, Light}
 use Rattle.rules.specs.Traces.{Traces}
 use Rattle.steps.specs.Rowwise.{excluders, inEither, reducedOf, waited}
-use Rattle.tally.specs.Passes.{through, eventIn}
+use Rattle.tally.specs.Passes.{through, eventIn, cut}
 use Rattle.tally.specs.Tallies.{tableCount, notedFor, talliedFor, beforeTable, laterTable}
-use Rattle.tally.proofs.Folds.{formed, forward-in, through-rowsOf}
+use Rattle.tally.proofs.Folds.{forward-rowsOf, through-rowsOf}
 use Rattle.miner.specs.Facts.{Less, letIn}
 use Rattle.miner.specs.Stages.{conditionsOf, chainsOf, responsesOf, neverOf, fiveOf, followersOf, redundantBy, sevenFrom, includesIn, excludesSix}
 use Rattle.miner.specs.Stages.{letInOf, waitedIn, aheadOf, missedOf, fourTables, tablesIn, graphFoundIn}
@@ -65,7 +65,7 @@ length-for events r = length-rowsOf _
 module _ (wide : Bool) (L : Traces) (events : Set) (tally : List ℕ) where
   length-includes : (p : Profile) → length (includesIn wide p events tally L) ≡ rowWords
   length-includes Full =
-      ap length (through-rowsOf (formed wide (letIn (neverOf events tally))) _ (λ r σ. forward-in wide (letIn (neverOf events tally)) r [] σ)
+      ap length (through-rowsOf (cut wide (letIn (neverOf events tally))) _ (λ r σ. forward-rowsOf (cut wide (letIn (neverOf events tally))) r [] σ)
       (turned (chainsOf events tally)) L) ∙ length-rowsOf _
   length-includes Light = length-rowsOf _
 

@@ -24,12 +24,12 @@ use Rattle.rules.proofs.Places.{some-trace}
 use Rattle.steps.specs.Rowwise.{reducedOf, waited}
 use Rattle.tally.specs.Passes.{Fact, gains, gainsIn, forward, through, reaches, eventIn, cut}
 use Rattle.tally.specs.Tallies.{tallied, talliedFor}
-use Rattle.tally.proofs.Folds.{heard, heard-in, formed, forward-rowsOf, forward-in, through-rowsOf, through-all}
+use Rattle.tally.proofs.Folds.{heard, heard-in, heard-cut, formed, forward-rowsOf, forward-in, through-rowsOf, through-all}
 use Rattle.tally.proofs.Tallying.{form-agrees}
 use Rattle.miner.specs.Facts.{letIn, beforeFirst, missed}
 use Rattle.miner.specs.Stages.{conditionsOf, chainsOf, responsesOf, neverOf, includesIn, includesSix, excludesSix, sevenFrom, waitedOf, waitedIn, fourTables, tablesIn, graphFound, graphFoundIn}
 use Rattle.miner.proofs.Losing.{where-so}
-use Rattle.miner.proofs.OverLog.{some-place, place-event, rest-event}
+use Rattle.miner.proofs.OverLog.{some-place, rest-event}
 use Rattle.miner.proofs.EarlySteps.{events}
 use Rattle.miner.proofs.AtEvents.{AgreeIn, AgreeAt, tables-at}
 
@@ -78,24 +78,25 @@ module _ (A : ℕ) (L : Traces) (ok : Accepted A L) where
 
   -- ---- step 6
 
-  -- what is let in comes later, so it is an event, and so is what it comes after
-  let-in-same : (never : List ℕ) (a x : ℕ) → heard (formed (ltb word A) (letIn never)) L a x ≡ heard (letIn never) L a x
+  -- what is let in comes later, so it is an event
+  let-in-same : (never : List ℕ) (a x : ℕ) → heard (cut (ltb word A) (letIn never)) L a x ≡ heard (letIn never) L a x
   unfolding cut letIn
   let-in-same never a x =
-      T-ext _ _
-      (λ h. let k = some-place a (λ past rest. formed (ltb word A) (letIn never) a past rest x) L h in
-      T-eq (heard-in (ltb word A) (letIn never) L a x (T→true _ (and-l _ _ (k .3))) (T→true _ (and-l _ _ (and-r _ _ (k .3))))) h)
-      (λ h. T-eq (sym (heard-in (ltb word A) (letIn never) L a x (all-reached a (place-event a _ L h))
-      (all-reached x (rest-event a _ x (λ past rest k. and-l _ _ k) L h)))) h)
+      either (split (reaches (ltb word A) x)) (λ t. heard-cut (ltb word A) (letIn never) L a x (T→true _ t))
+      (λ f. T-ext _ _
+      (λ h. let k = some-place a (λ past rest. cut (ltb word A) (letIn never) a past rest x) L h in absurd (f (and-l _ _ (k .3))))
+      (λ h. absurd (f (true→T (all-reached x (rest-event a _ x (λ past rest k. and-l _ _ k) L h))))))
 
   includes-form : (p : Profile) (t : List ℕ) → includesIn (ltb word A) p E t L ≡ includesSix p E t L
   includes-form Light t = refl
   includes-form Full t =
       let never : List ℕ = neverOf E t in
       let start : Relation = turned (chainsOf E t) in
-      through-rowsOf (formed (ltb word A) (letIn never)) _ (λ r σ. forward-in (ltb word A) (letIn never) r [] σ) start L
+      let walk : (q : Fact) → through (λ r σ. forward (gains q) r [] σ) (rowsOf start) L ≡ rowsOf (λ a x. start a x or heard q L a x) =
+      λ q. through-rowsOf q (λ r σ. forward (gains q) r [] σ) (λ r σ. forward-rowsOf q r [] σ) start L in
+      walk (cut (ltb word A) (letIn never))
       ∙ rowsOf-ext _ _ (λ a x la lx. ap (λ (b : Bool). start a x or b) (let-in-same never a x))
-      ∙ sym (through-rowsOf (letIn never) _ (λ r σ. forward-rowsOf (letIn never) r [] σ) start L)
+      ∙ sym (walk (letIn never))
 
   -- the events, which are all held
   events-form : those (eventIn (ltb word A) L) ≡ E

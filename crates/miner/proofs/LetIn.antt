@@ -16,10 +16,10 @@ use Rattle.sets.proofs.Members.{mem-none, those-ext, those-of}
 use Rattle.sets.proofs.Below.{some-e, some-ext}
 use Rattle.sets.proofs.RowLaws.{row-out}
 use Rattle.rules.specs.Traces.{_has_}
-use Rattle.tally.specs.Passes.{gainedFor, gainsIn, forward, reaches, cut}
+use Rattle.tally.specs.Passes.{gained, gains, forward, reaches, cut}
 use Rattle.miner.specs.Facts.{letIn}
 use Rattle.tally.proofs.Somes.{some-more}
-use Rattle.tally.proofs.Turns.{pastAt, past-next, seenIn, gains-below, forward-next, forward-end}
+use Rattle.tally.proofs.Turns.{pastAt, past-next, seenIn, gains-row, forward-next, forward-end}
 use Rattle.sets.proofs.MadeSets.{is-those, none}
 use Rattle.sets.proofs.Tautologies.{by3}
 use Rattle.miner.proofs.After.{LastOf, after-next}
@@ -65,7 +65,7 @@ pub record LetIn (wide : Bool) (σ unfollowed rows₀ rows : List ℕ) (after ba
   pub reached : i ≤ length σ
   pub after-is : after ≡ seenIn (drop i σ)
   pub barred-is : barred ≡ barredIn unfollowed wide (pastAt σ i)
-  pub whole : forward (gainsIn wide (letIn unfollowed)) rows (pastAt σ i) (drop i σ) ≡ forward (gainsIn wide (letIn unfollowed)) rows₀ [] σ
+  pub whole : forward (gains (cut wide (letIn unfollowed))) rows (pastAt σ i) (drop i σ) ≡ forward (gains (cut wide (letIn unfollowed))) rows₀ [] σ
 
 pub let-in-start : (wide : Bool) (σ unfollowed rows : List ℕ) (after : Set) → after ≡ those (λ x. σ has x)
     → LetIn wide σ unfollowed rows rows after noSet 0
@@ -73,12 +73,12 @@ let-in-start wide σ unfollowed rows after h =
     record { reached = omega arith; after-is = h; barred-is = barred-none unfollowed wide; whole = refl }
 
 module _ {wide : Bool} {σ unfollowed rows₀ rows : List ℕ} {after barred : Set} {i : ℕ} (inv : LetIn wide σ unfollowed rows₀ rows after barred i) where
-  pub let-in-end : length σ ≤ i → rows ≡ forward (gainsIn wide (letIn unfollowed)) rows₀ [] σ
+  pub let-in-end : length σ ≤ i → rows ≡ forward (gains (cut wide (letIn unfollowed))) rows₀ [] σ
   let-in-end h = forward-end _ _ _ _ _ h (inv .whole)
 
   pub let-in-turn : i < length σ → (last : List ℕ) → LastOf last σ → (later barred′ : Set) (rows′ : List ℕ)
       → later ≡ those (λ x. mem after x and non (eqb x (getD σ i 0) and eqb (getD last (getD σ i 0) 0) i))
-      → rows′ ≡ gainedFor wide rows (getD σ i 0) (λ x. mem later x and mem barred x)
+      → rows′ ≡ gained rows (getD σ i 0) (λ x. mem later x and mem barred x)
       → barred′ ≡ those (λ x. mem barred x or reaches wide x and inRow unfollowed (getD σ i 0) x)
       → LetIn wide σ unfollowed rows₀ rows′ later barred′ (i + 1)
   unfolding cut letIn
@@ -96,8 +96,8 @@ module _ {wide : Bool} {σ unfollowed rows₀ rows : List ℕ} {after barred : S
             ∙ ap (λ (t : Bool). reaches wide x and t) (barred-more unfollowed (pastAt σ i) (getD σ i 0) x))
             ∙ ap (barredIn unfollowed wide) (sym (past-next σ i h));
         whole =
-            forward-next (gainsIn wide (letIn unfollowed)) σ _ i rows rows′ h
-            (gains-below wide (letIn unfollowed) rows (getD σ i 0) (pastAt σ i) (drop (i + 1) σ) (λ x. mem later x and mem barred x) rows′
+            forward-next (gains (cut wide (letIn unfollowed))) σ _ i rows rows′ h
+            (gains-row (cut wide (letIn unfollowed)) rows (getD σ i 0) (pastAt σ i) (drop (i + 1) σ) (λ x. mem later x and mem barred x) rows′
             (λ l x k.
             ap₂ _and_ (is-those later (λ y. drop (i + 1) σ has y) rest x k)
             (is-those barred (λ y. reaches wide y and barredAt unfollowed (pastAt σ i) y) (inv .barred-is) x k)

@@ -17,7 +17,7 @@ use Rattle.rules.specs.declared.Profile.the-variants.{Full, Light}
 use Rattle.rules.specs.Traces.{Traces}
 use Rattle.rules.specs.Mining.{event}
 use Rattle.steps.specs.Rowwise.{unbroken, absent, excluders, inEither, reducedOf, waited}
-use Rattle.tally.specs.Passes.{gains, gainsIn, forward, through, eventIn}
+use Rattle.tally.specs.Passes.{gains, gainsIn, forward, through, eventIn, cut}
 use Rattle.tally.specs.Tallies.{beforeTable, laterTable, unprecededTable, unansweredTable, unchainedTable, unalternatedTable, followedTable}
 use Rattle.tally.specs.Tallies.{tallied, talliedFor}
 use Rattle.miner.specs.Facts.{letIn, reopened, doubted, beforeFirst, missed}
@@ -103,7 +103,7 @@ tablesRead L events tally p = tablesAfterSix L events tally (includesSix p event
 
 -- the includes after step 6, what is let in as far as the form holds it
 abbrev pub letInOf : Bool → List ℕ → List ℕ → Traces → List ℕ
-letInOf wide never rows L = through (λ r σ. forward (gainsIn wide (letIn never)) r [] σ) rows L
+letInOf wide never rows L = through (λ r σ. forward (gains (cut wide (letIn never))) r [] σ) rows L
 
 abbrev pub includesIn : Bool → Profile → Set → List ℕ → Traces → List ℕ
 includesIn wide Full events tally L = letInOf wide (neverOf events tally) (rowsOf (turned (chainsOf events tally))) L

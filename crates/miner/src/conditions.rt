@@ -12,7 +12,6 @@ ghost use Rattle.tally.specs.Passes.{gainedFor, gainsIn, forward, walked, reach
 ghost use Rattle.miner.specs.Facts.{beforeFirst, missed};
 ghost use Rattle.miner.specs.Stages.{conditionsOf, aheadOf, missedOf};
 use crate::includes::and_then;
-use crate::includes::gain;
 use engine::Relations;
 use engine::graph::CONDITIONS;
 use engine::graph::EXCLUDES;
@@ -25,6 +24,7 @@ use sets::tables;
 use steps::reduce;
 use steps::relations;
 use tally::Tally;
+use tally::holds;
 use tally::in_form;
 use tally::log;
 
@@ -51,6 +51,15 @@ fn at_first(seen: Set, e: Activity) -> Set
         return Set::EMPTY;
     }
     seen
+}
+
+// The row of e gains a set, where the form can hold e.
+fn gain(rows: &mut Rows, e: Activity, s: Set, wide: bool)
+    ensures { λ _. ⌜ now (rows .exit) ≡ gainedFor wide (now (rows .entry)) (e .0) (mem s) ⌝ }
+{
+    if holds(e, wide) {
+        rows::join(rows, e, s);
+    }
 }
 
 // One place of e: its row of `first` gains what stands before its first place, its row of `unmet` what is included and not executed.

@@ -11,7 +11,7 @@ ghost use Rattle.sets.specs.Members.{width, mem, those};
 ghost use Rattle.sets.specs.Rows.{inRow, noRows, rowsOf, turned};
 ghost use Rattle.sets.specs.Tables.{tableAt, withTable};
 ghost use Rattle.rules.specs.Traces.{_has_};
-ghost use Rattle.tally.specs.Passes.{gainedFor, gainsIn, forward, walked, reaches};
+ghost use Rattle.tally.specs.Passes.{gained, gains, forward, walked, reaches, cut};
 ghost use Rattle.miner.specs.Facts.{letIn, placesFrom};
 ghost use Rattle.miner.specs.Stages.{chainsOf, letInOf};
 use engine::Relations;
@@ -26,7 +26,6 @@ use sets::rows;
 use sets::tables;
 use steps::relations;
 use tally::Tally;
-use tally::holds;
 use tally::in_form;
 use tally::log;
 
@@ -79,15 +78,6 @@ fn left_after(after: Set, last: &Places, e: Activity, at: Place) -> Set
     after
 }
 
-// The row of e gains a set, where the form can hold e.
-pub(crate) fn gain(rows: &mut Rows, e: Activity, s: Set, wide: bool)
-    ensures { λ _. ⌜ now (rows .exit) ≡ gainedFor wide (now (rows .entry)) (e .0) (mem s) ⌝ }
-{
-    if holds(e, wide) {
-        rows::join(rows, e, s);
-    }
-}
-
 // One place of e: its row gains what comes later and is barred. Then what never directly follows e is barred too, as far as the form holds it.
 fn let_in_here(
     e: Activity,
@@ -97,11 +87,11 @@ fn let_in_here(
     wide: bool,
     out: &mut Rows,
 ) -> Set
-    ensures row { λ _. ⌜ now (out .exit) ≡ gainedFor wide (now (out .entry)) (e .0) (λ x. mem after x and mem barred x) ⌝ }
+    ensures row { λ _. ⌜ now (out .exit) ≡ gained (now (out .entry)) (e .0) (λ x. mem after x and mem barred x) ⌝ }
     ensures next { λ r. ⌜ r ≡ those (λ x. mem barred x or reaches wide x and inRow (now (unfollowed .entry)) (e .0) x) ⌝ }
 {
     let back = after.intersection(barred);
-    gain(out, e, back, wide);
+    rows::join(out, e, back);
     let never = in_form(rows::row(unfollowed, e), wide);
     barred.union(never)
 }
@@ -117,7 +107,7 @@ fn let_in_along<'a>(
     requires { ⌜ all ≡ those (λ x. now trace has x) ⌝ }
     requires { ⌜ ((i : ℕ) → i < length (now trace) → getD (now trace) i 0 < width → eqb (getD (now last) (getD (now trace) i 0) 0) i
         ≡ non (drop (i + 1) (now trace) has getD (now trace) i 0)) ⌝ }
-    ensures { λ _. ⌜ now (out .exit) ≡ forward (gainsIn true (letIn (now (unfollowed .entry)))) (now (out .entry)) [] (now (trace .entry)) ⌝ }
+    ensures { λ _. ⌜ now (out .exit) ≡ forward (gains (cut true (letIn (now (unfollowed .entry))))) (now (out .entry)) [] (now (trace .entry)) ⌝ }
 {
     let mut after = all;
     let mut barred = Set::EMPTY;
@@ -142,7 +132,7 @@ fn let_in_along_narrow<'a>(
     requires { ⌜ all ≡ those (λ x. now trace has x) ⌝ }
     requires { ⌜ ((i : ℕ) → i < length (now trace) → getD (now trace) i 0 < width → eqb (getD (now last) (getD (now trace) i 0) 0) i
         ≡ non (drop (i + 1) (now trace) has getD (now trace) i 0)) ⌝ }
-    ensures { λ _. ⌜ now (out .exit) ≡ forward (gainsIn false (letIn (now (unfollowed .entry)))) (now (out .entry)) [] (now (trace .entry)) ⌝ }
+    ensures { λ _. ⌜ now (out .exit) ≡ forward (gains (cut false (letIn (now (unfollowed .entry))))) (now (out .entry)) [] (now (trace .entry)) ⌝ }
 {
     let mut after = all;
     let mut barred = Set::EMPTY;
@@ -159,7 +149,7 @@ fn let_in_along_narrow<'a>(
 // Step 6: the row of each event gains what comes later in the trace and never directly follows something that stands before the event;
 // row s of `unfollowed` has what never directly follows s.
 fn let_in_trace<'a>(trace: &'a [u8], unfollowed: &'a Rows, wide: bool, out: &mut Rows)
-    ensures { λ _. ⌜ now (out .exit) ≡ forward (gainsIn wide (letIn (now (unfollowed .entry)))) (now (out .entry)) [] (now (trace .entry)) ⌝ }
+    ensures { λ _. ⌜ now (out .exit) ≡ forward (gains (cut wide (letIn (now (unfollowed .entry))))) (now (out .entry)) [] (now (trace .entry)) ⌝ }
 {
     let mut last = [0usize; WIDTH];
     let all = last_places(trace, &mut last);

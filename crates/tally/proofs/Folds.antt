@@ -75,9 +75,13 @@ module _ (p : Fact) where
   heard L a x = someTrace L (atSome a (λ q s. p a q s x))
 
 -- what is heard in a form of what the form can hold
-pub heard-in : (wide : Bool) (p : Fact) (L : Traces) (a x : ℕ) → reaches wide a ≡ true → reaches wide x ≡ true → heard (formed wide p) L a x ≡ heard p L a x
+pub heard-cut : (wide : Bool) (p : Fact) (L : Traces) (a x : ℕ) → reaches wide x ≡ true → heard (cut wide p) L a x ≡ heard p L a x
 unfolding cut _and_
-heard-in wide p L a x ha hx = (λ i. someTrace L (atSome a (λ q s. ha i and (hx i and p a q s x))))
+heard-cut wide p L a x h = ap (λ (b : Bool). someTrace L (atSome a (λ q s. b and p a q s x))) h
+
+pub heard-in : (wide : Bool) (p : Fact) (L : Traces) (a x : ℕ) → reaches wide a ≡ true → reaches wide x ≡ true → heard (formed wide p) L a x ≡ heard p L a x
+unfolding _and_
+heard-in wide p L a x ha hx = ap (λ (b : Bool). someTrace L (atSome a (λ q s. b and cut wide p a q s x))) ha ∙ heard-cut wide p L a x hx
 
 -- one pass after another, over all traces: `pass` takes rows and a trace
 module _ (p : Fact) (pass : List ℕ → List ℕ → List ℕ)

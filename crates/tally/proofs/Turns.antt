@@ -20,7 +20,7 @@ use Rattle.sets.proofs.MadeSets.{Is, is-those}
 use Rattle.sets.proofs.RowLaws.{put-out}
 use Rattle.sets.proofs.TableLaws.{table-put-above}
 use Rattle.rules.specs.Traces.{_has_, _beginsWith_}
-use Rattle.tally.specs.Passes.{Fact, Turn, gained, gainedFor, gainsIn, notedIn, forward, backward, reaches, cut, isEarlier, notEarlier, notDirectly}
+use Rattle.tally.specs.Passes.{Fact, Turn, gained, gains, gainedFor, gainsIn, notedIn, forward, backward, reaches, cut, isEarlier, notEarlier, notDirectly}
 use Rattle.tally.specs.Passes.{isLater, notLater, isNext}
 use Rattle.tally.specs.Tallies.{beforeTable, laterTable, unprecededTable, unansweredTable, unchainedTable, followedTable, noteRestIn}
 use Rattle.tally.specs.Tallies.{pastBy, restBy}
@@ -126,6 +126,11 @@ unfolding gainedFor gained
 joined-by wide rows e q s rows′ hs h =
     h ∙ ap (λ (row : Set). when reaches wide e then withRow rows e row else rows) (those-of s q (λ b t. mem (rowAt rows e) b or t) hs)
 
+pub joined-row : (rows : List ℕ) (e : ℕ) (q : ℕ → Bool) (s : Set) (rows′ : List ℕ) → s ≡ those q
+    → rows′ ≡ withRow rows e (those (λ b. mem (rowAt rows e) b or mem s b)) → rows′ ≡ gained rows e q
+unfolding gained
+joined-row rows e q s rows′ hs h = h ∙ ap (withRow rows e) (those-of s q (λ b t. mem (rowAt rows e) b or t) hs)
+
 -- a row for e is put only where e is below the width: what it gains may be said otherwise there
 pub put-where : (e : ℕ) (row : Set) (old : List ℕ) (put : Set → List ℕ) → ((s : Set) → width ≤ e → old ≡ put s) → (p q : ℕ → Bool)
     → (e < width → (x : ℕ) → x < width → p x ≡ q x) → put (those (λ x. mem row x or p x)) ≡ put (those (λ x. mem row x or q x))
@@ -135,13 +140,16 @@ put-where e row old put out p q h =
     (λ f. let g = ltb-false e width (F→false _ f) in sym (out _ g) ∙ out _ g)
 
 -- the row of the event gains what passes, and below the width that is the fact; a number past it has no row
+pub gains-row : (p : Fact) (rows : List ℕ) (e : ℕ) (past rest : List ℕ) (q : ℕ → Bool) (rows′ : List ℕ)
+    → (e < width → (x : ℕ) → x < width → q x ≡ p e past rest x) → rows′ ≡ gained rows e q → rows′ ≡ gains p rows e past rest
+unfolding gains gained
+gains-row p rows e past rest q rows′ f h = h ∙ put-where e (rowAt rows e) rows (withRow rows e) (put-out rows e) q (p e past rest) f
+
 pub gains-below : (wide : Bool) (p : Fact) (rows : List ℕ) (e : ℕ) (past rest : List ℕ) (q : ℕ → Bool) (rows′ : List ℕ)
     → (e < width → (x : ℕ) → x < width → q x ≡ cut wide p e past rest x) → rows′ ≡ gainedFor wide rows e q → rows′ ≡ gainsIn wide p rows e past rest
-unfolding gainsIn gainedFor gained
+unfolding gainsIn gainedFor gains
 gains-below wide p rows e past rest q rows′ f h =
-    h
-    ∙ ap (λ (l : List ℕ). when reaches wide e then l else rows)
-    (put-where e (rowAt rows e) rows (withRow rows e) (put-out rows e) q (cut wide p e past rest) f)
+    h ∙ ap (λ (l : List ℕ). when reaches wide e then l else rows) (gains-row (cut wide p) rows e past rest q _ f refl)
 
 -- ---- the same of tables
 
@@ -275,6 +283,10 @@ module _ (wide : Bool) (tables : List ℕ) (e : ℕ) where
         (λ x l. ap (λ (t : Bool). reaches wide x and non t) (after-in x l) ∙ not-held (reaches wide x) (rest has x)) (λ x l. ap (λ (t : Bool). reaches wide x and t) (next-in x l)))
 
 -- the pass in the form that was asked for
+pub as-asked-cut : (wide form : Bool) (p : Fact) (rows rows′ σ : List ℕ) → wide ≡ form → rows′ ≡ forward (gains (cut form p)) rows [] σ
+    → rows′ ≡ forward (gains (cut wide p)) rows [] σ
+as-asked-cut wide form p rows rows′ σ h e = e ∙ ap (λ (b : Bool). forward (gains (cut b p)) rows [] σ) (sym h)
+
 pub as-asked : (wide form : Bool) (p : Fact) (rows rows′ σ : List ℕ) → wide ≡ form → rows′ ≡ forward (gainsIn form p) rows [] σ
     → rows′ ≡ forward (gainsIn wide p) rows [] σ
 as-asked wide form p rows rows′ σ h e = e ∙ ap (λ (b : Bool). forward (gainsIn b p) rows [] σ) (sym h)

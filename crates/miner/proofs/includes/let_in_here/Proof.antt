@@ -1,12 +1,12 @@
 use borrow.Author.Needs.{needs}
-use Rattle.tally.proofs.Turns.{joined-by}
+use Rattle.tally.proofs.Turns.{joined-row}
 use Rattle.miner.proofs.LetIn.{barred-by}
 use Rattle.miner.proofs.includes.let_in_here.Statement.{statement}
 use Rattle.miner.proofs.includes.let_in_here.Tie as tie
 
 returns : tie.Need-returns
 returns c = (
-  joined-by _ _ _ _ _ _ (c .before .before .before .before .before .intersection .ensures) (c .before .before .before .gain .ensures),
+  joined-row _ _ _ _ _ (c .before .before .before .before .before .intersection .ensures) (c .before .before .before .join .ensures),
   barred-by _ _ _ _ _ _ _ (c .before .before .row .ensures) (c .before .in-form .ensures) (c .union .ensures),
 )
 

@@ -3,14 +3,14 @@ use mathlib.Core.Bool.{Bool}
 use mathlib.Core.List.{List, []}
 use Prim.Native.Nat.{ℕ, _-_, _≤_}
 use borrow.Author.Needs.{needs}
-use Rattle.tally.specs.Passes.{gainsIn, forward}
+use Rattle.tally.specs.Passes.{gains, forward, cut}
 use Rattle.miner.specs.Facts.{letIn}
 use Rattle.tally.proofs.Walks.{Left, through-start, through-next, through-end}
 use Rattle.miner.proofs.includes.let_in_log.Statement.{statement}
 use Rattle.miner.proofs.includes.let_in_log.Tie as tie
 
 abbrev pass : Bool → List ℕ → List ℕ → List ℕ → List ℕ
-pass wide unfollowed r σ = forward (gainsIn wide (letIn unfollowed)) r [] σ
+pass wide unfollowed r σ = forward (gains (cut wide (letIn unfollowed))) r [] σ
 
 abbrev Inv-loop : tie.InvT-loop
 Inv-loop log traces unfollowed wide out₀ k₀ out k = (k ≤ traces) × Left (pass wide unfollowed) log traces k out₀ out

@@ -2,8 +2,8 @@ use mathlib.Core.Path.{_≡_, sym, _∙_}
 use borrow.Author.Needs.{needs}
 use Rattle.tally.specs.Passes.{gained, gainedFor}
 use Rattle.tally.proofs.Turns.{held, unheld}
-use Rattle.miner.proofs.includes.gain.Statement.{statement}
-use Rattle.miner.proofs.includes.gain.Tie as tie
+use Rattle.miner.proofs.conditions.gain.Statement.{statement}
+use Rattle.miner.proofs.conditions.gain.Tie as tie
 
 returns : tie.Need-returns
 unfolding gainedFor gained
