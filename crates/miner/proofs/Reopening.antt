@@ -25,7 +25,7 @@ use Rattle.tally.proofs.Somes.{eqb-sym}
 use Rattle.tally.proofs.Turns.{pastAt, past-next, rest-next}
 use Rattle.tally.proofs.Walks.{walked-next, walked-end, walked-start}
 use Rattle.miner.specs.Facts.{Less, letInSince, reopenedIn, reopened}
-use Rattle.miner.proofs.Losing.{Same, Toward, less-none, less-row, toward-start, toward-next, toward-end}
+use Rattle.miner.proofs.Losing.{Toward, less-none, less-row, toward-start, toward-next, toward-end}
 
 module _ (wide : Bool) (includes : List ℕ) (u : ℕ) where
   -- what was let in, and what the places from here on say, as far as the form holds it

@@ -12,7 +12,7 @@ use Rattle.sets.specs.Tables.{tableAt}
 use Rattle.sets.specs.declared.set.Set.{Set}
 use Rattle.sets.proofs.Tests.{and-l, and-r, and-i, T-eq, T→true, true→T, F→false, and-true, and-comm, and-assoc, true-and, false-and}
 use Rattle.sets.proofs.Tautologies.{by4}
-use Rattle.sets.proofs.Below.{some-i, some-e, some-ext}
+use Rattle.sets.proofs.Below.{some-i, some-ext}
 use Rattle.sets.proofs.Members.{empty-e, those-of}
 use Rattle.sets.proofs.RowLaws.{in-rowsOf}
 use Rattle.sets.proofs.TableLaws.{table-rowsOf}
@@ -41,7 +41,8 @@ not-asked n m b h = sym (ap (λ (t : Bool). t and b) (ne-eqb n m h) ∙ false-an
 pub asked-empty : (n m : ℕ) (asked out both : Set) (p : ℕ → Bool) (b : Bool) → n ≡ m → out ≡ those p → both ≡ those (λ x. mem asked x and mem out x)
     → b ≡ isEmpty both → b ≡ (eqb n m and isEmpty (those (λ x. mem asked x and p x)))
 asked-empty n m asked out both p b h ho hj hb =
-    hb ∙ ap isEmpty (hj ∙ those-of out p (λ x t. mem asked x and t) ho) ∙ sym (ap (λ (t : Bool). t and isEmpty (those (λ x. mem asked x and p x))) (eq-eqb n m h) ∙ true-and _)
+    hb ∙ ap isEmpty (hj ∙ those-of out p (λ x t. mem asked x and t) ho)
+    ∙ sym (ap (λ (t : Bool). t and isEmpty (those (λ x. mem asked x and p x))) (eq-eqb n m h) ∙ true-and _)
 
 -- what no trace lets in goes: of the pairs that are asked for what is left of a copy
 pub open-lost : (F asked : Set) (H : Relation) (rows left gone : List ℕ)

@@ -129,12 +129,6 @@ fn lose_sure<'a>(
     }
 }
 
-fn doubted_row(asked: Set, doubts: &Rows, a: Activity) -> Set
-    ensures { λ r. ⌜ r ≡ those (λ x. mem asked x and inRow (now (doubts .entry)) (a .0) x) ⌝ }
-{
-    asked.intersection(rows::row(doubts, a))
-}
-
 // Those go that are still in doubt.
 fn lose_doubted(members: Set, asked: Set, doubts: &Rows, left: &mut Rows)
     ensures { λ _. ⌜ Less (now (left .entry)) (λ a x. mem members a and (mem asked x and inRow (now (doubts .entry)) a x)) (now (left .exit)) ⌝ }
@@ -142,7 +136,7 @@ fn lose_doubted(members: Set, asked: Set, doubts: &Rows, left: &mut Rows)
     let mut rest = members;
     while !rest.is_empty() {
         let a = rest.least();
-        let gone = doubted_row(asked, doubts, a);
+        let gone = asked.intersection(rows::row(doubts, a));
         rows::lose(left, a, gone);
         rest = rest.without_least();
     }

@@ -3,7 +3,7 @@ use Rattle.sets.specs.Tests.{_and_}
 use Rattle.sets.specs.Members.{width, mem, countBelow}
 use Rattle.sets.specs.Rows.{inRow}
 use Rattle.sets.proofs.Passing.{members}
-use Rattle.miner.proofs.Losing.{Lost, own, own-end, losing}
+use Rattle.miner.proofs.Losing.{Lost, own, own-end, asked-row, losing}
 use Rattle.miner.proofs.redundant.lose_doubted.Statement.{statement}
 use Rattle.miner.proofs.redundant.lose_doubted.Tie as tie
 
@@ -16,6 +16,7 @@ abbrev μ-loop : tie.MeasureT-loop
 pub lose-doubted-spec : {M : Type 1} → statement M
 lose-doubted-spec =
     tie.close
-    (tie.spec Inv-loop μ-loop (λ c. search (losing, needs)) (λ c κs. search needs) (λ c κs. search needs) (λ c κs. search needs) (λ c κs. search needs) (λ c κs. search needs)
-    (λ c. search (members, needs)) (λ c. search (losing, needs))
+    (tie.spec Inv-loop μ-loop (λ c. search (losing, needs)) (λ c κs. search needs) (λ c κs. search needs) (λ c κs. search needs) (λ c κs. search needs)
+    (λ c κs. search needs) (λ c κs. search needs) (λ c. search (members, needs))
+    (λ c. search (losing, asked-row _ _ _ _ _ (c .before .before .before .before .row .ensures) (c .before .before .before .intersection .ensures), needs))
     (λ c. own-end _ _ _ _ _ _ (c .before .before .loop .inv) (c .before .is-empty .ensures) (c .if1 .left)))

@@ -10,7 +10,8 @@ use Rattle.miner.proofs.redundant.lose_sure.Statement.{statement}
 use Rattle.miner.proofs.redundant.lose_sure.Tie as tie
 
 abbrev Inv-loop : tie.InvT-loop
-Inv-loop asked later tally held left₀ rest₀ left rest = Lost (own (λ a x. mem asked x and non (doubted (tableAt tally beforeTable) (tableAt held 2) later a x))) left₀ rest₀ rest left
+Inv-loop asked later tally held left₀ rest₀ left rest =
+    Lost (own (λ a x. mem asked x and non (doubted (tableAt tally beforeTable) (tableAt held 2) later a x))) left₀ rest₀ rest left
 
 abbrev μ-loop : tie.MeasureT-loop
 μ-loop asked later tally held left₀ rest₀ left rest = countBelow width (mem rest)
@@ -18,6 +19,6 @@ abbrev μ-loop : tie.MeasureT-loop
 pub lose-sure-spec : {M : Type 1} → statement M
 lose-sure-spec =
     tie.close
-    (tie.spec Inv-loop μ-loop (λ c. search (losing, needs)) (λ c κs. search needs) (λ c κs. search needs) (λ c κs. search needs) (λ c κs. search needs) (λ c κs. search needs)
-    (λ c. search (members, needs)) (λ c. search (losing, needs))
+    (tie.spec Inv-loop μ-loop (λ c. search (losing, needs)) (λ c κs. search needs) (λ c κs. search needs) (λ c κs. search needs) (λ c κs. search needs)
+    (λ c κs. search needs) (λ c. search (members, needs)) (λ c. search (losing, needs))
     (λ c. own-end _ _ _ _ _ _ (c .before .before .loop .inv) (c .before .is-empty .ensures) (c .if1 .left)))
