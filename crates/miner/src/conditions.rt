@@ -1,7 +1,6 @@
 // The conditions of steps 8, 9 and 10, put into the tables that are lent. Step 9 asks for a replay by the includes and excludes after
 // step 7: a pass of its own over each trace, from the first place to the last, where `seen` is the set of what stands before the place.
 ghost use mathlib.Core.Path.{_≡_};
-ghost use mathlib.Core.Bool.{true, false};
 ghost use mathlib.Core.List.{[]};
 ghost use Rattle.sets.specs.Tests.{_and_, _or_, non};
 ghost use Rattle.sets.specs.Members.{mem, those};
@@ -96,54 +95,29 @@ fn replay_trace<'a>(
     trace: &'a [u8],
     events: Set,
     held: &'a Relations,
+    wide: bool,
     first: &mut Rows,
     unmet: &mut Rows,
 )
-    ensures before { λ _. ⌜ now (first .exit) ≡ forward (gainsIn true beforeFirst) (now (first .entry)) [] (now (trace .entry)) ⌝ }
+    ensures before { λ _. ⌜ now (first .exit) ≡ forward (gainsIn wide beforeFirst) (now (first .entry)) [] (now (trace .entry)) ⌝ }
     ensures left { λ _. ⌜ now (unmet .exit) ≡ forward
-        (gainsIn true (missed events (tableAt (now (held .entry)) 2) (tableAt (now (held .entry)) 3)))
+        (gainsIn wide (missed events (tableAt (now (held .entry)) 2) (tableAt (now (held .entry)) 3)))
         (now (unmet .entry)) [] (now (trace .entry)) ⌝ }
 {
     let mut seen = Set::EMPTY;
-    let mut included = in_form(events, true);
+    let mut included = in_form(events, wide);
     let mut i: usize = 0;
     while i < trace.len() {
         let e = Activity(trace[i]);
-        let then = included_after(included, held, e, true);
-        note_waiting(e, seen, included, true, first, unmet);
+        let then = included_after(included, held, e, wide);
+        note_waiting(e, seen, included, wide, first, unmet);
         included = then;
         seen = and_then(seen, e);
         i += 1;
     }
 }
 
-// The same in the narrow form: the form is written out in the loop, so that the compiler drops the second word.
-fn replay_trace_narrow<'a>(
-    trace: &'a [u8],
-    events: Set,
-    held: &'a Relations,
-    first: &mut Rows,
-    unmet: &mut Rows,
-)
-    ensures before { λ _. ⌜ now (first .exit) ≡ forward (gainsIn false beforeFirst) (now (first .entry)) [] (now (trace .entry)) ⌝ }
-    ensures left { λ _. ⌜ now (unmet .exit) ≡ forward
-        (gainsIn false (missed events (tableAt (now (held .entry)) 2) (tableAt (now (held .entry)) 3)))
-        (now (unmet .entry)) [] (now (trace .entry)) ⌝ }
-{
-    let mut seen = Set::EMPTY;
-    let mut included = in_form(events, false);
-    let mut i: usize = 0;
-    while i < trace.len() {
-        let e = Activity(trace[i]);
-        let then = included_after(included, held, e, false);
-        note_waiting(e, seen, included, false, first, unmet);
-        included = then;
-        seen = and_then(seen, e);
-        i += 1;
-    }
-}
-
-// The same in a form.
+// The same, the form written out in either call: the compiler then makes a loop for each.
 fn replay_in<'a>(
     trace: &'a [u8],
     events: Set,
@@ -158,9 +132,9 @@ fn replay_in<'a>(
         (now (unmet .entry)) [] (now (trace .entry)) ⌝ }
 {
     if wide {
-        replay_trace(trace, events, held, first, unmet);
+        replay_trace(trace, events, held, true, first, unmet);
     } else {
-        replay_trace_narrow(trace, events, held, first, unmet);
+        replay_trace(trace, events, held, false, first, unmet);
     }
 }
 

@@ -48,11 +48,11 @@ fn note_trace(trace: &[u8], events: Set, wide: bool, blocks: &mut Rows, tally: &
 {
     if wide {
         let seen = passes::forward(trace, blocks, tally);
-        passes::backward(trace, tally);
+        passes::backward(trace, true, tally);
         return events.union(seen);
     }
     let seen = passes::forward_narrow(trace, blocks, tally);
-    passes::backward_narrow(trace, tally);
+    passes::backward(trace, false, tally);
     events.union(seen)
 }
 

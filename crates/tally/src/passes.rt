@@ -1,6 +1,6 @@
 // The passes over one trace that fill the tally. Each puts down, in the rows of every place's activity, what its past or its rest
-// says; `seen` and `after` are the sets of what stands before and after the place. Each pass stands here for either form: the compiler drops
-// the second word of a set only where the form is written out in the pass's own loop.
+// says; `seen` and `after` are the sets of what stands before and after the place. The forward pass stands here for either form: the
+// compiler drops the second word of a set only where the form is written out in its own loop. Of the backward pass it makes a loop for each call.
 ghost use mathlib.Core.Path.{_≡_};
 ghost use mathlib.Core.Bool.{true, false};
 ghost use mathlib.Core.List.{[]};
@@ -133,8 +133,8 @@ fn note_rest(e: Activity, after: Set, next: Set, wide: bool, tally: &mut Tally)
 }
 
 // From the last place to the first.
-pub fn backward(trace: &[u8], tally: &mut Tally)
-    ensures { λ _. ⌜ now (tally .exit) ≡ backward (noteRestIn true) (now (tally .entry)) [] (now (trace .entry)) ⌝ }
+pub fn backward(trace: &[u8], wide: bool, tally: &mut Tally)
+    ensures { λ _. ⌜ now (tally .exit) ≡ backward (noteRestIn wide) (now (tally .entry)) [] (now (trace .entry)) ⌝ }
 {
     let mut after = Set::EMPTY;
     let mut next = Set::EMPTY;
@@ -142,24 +142,9 @@ pub fn backward(trace: &[u8], tally: &mut Tally)
     while 0 < i {
         i -= 1;
         let e = Activity(trace[i]);
-        note_rest(e, after, next, true, tally);
+        note_rest(e, after, next, wide, tally);
         next = Set::one(e);
-        after = in_form(after.union(next), true);
+        after = in_form(after.union(next), wide);
     }
 }
 
-// The same in the narrow form.
-pub fn backward_narrow(trace: &[u8], tally: &mut Tally)
-    ensures { λ _. ⌜ now (tally .exit) ≡ backward (noteRestIn false) (now (tally .entry)) [] (now (trace .entry)) ⌝ }
-{
-    let mut after = Set::EMPTY;
-    let mut next = Set::EMPTY;
-    let mut i = trace.len();
-    while 0 < i {
-        i -= 1;
-        let e = Activity(trace[i]);
-        note_rest(e, after, next, false, tally);
-        next = Set::one(e);
-        after = in_form(after.union(next), false);
-    }
-}

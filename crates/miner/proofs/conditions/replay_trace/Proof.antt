@@ -1,4 +1,3 @@
-use mathlib.Core.Bool.{true}
 use mathlib.Core.Path.{_≡_}
 use Prim.Native.Nat.{_-_}
 use borrow.Author.Needs.{needs}
@@ -13,11 +12,11 @@ use Rattle.miner.proofs.conditions.replay_trace.Statement.{statement}
 use Rattle.miner.proofs.conditions.replay_trace.Tie as tie
 
 abbrev Inv-loop : tie.InvT-loop
-Inv-loop trace held first₀ unmet₀ seen₀ included₀ i₀ first unmet seen included i =
-    (events : Set) → included₀ ≡ those (λ x. reaches true x and mem events x) → Replayed true trace events (tableAt held 2) (tableAt held 3) first₀ unmet₀ first unmet seen included i
+Inv-loop trace held wide first₀ unmet₀ seen₀ included₀ i₀ first unmet seen included i =
+    (events : Set) → included₀ ≡ those (λ x. reaches wide x and mem events x) → Replayed wide trace events (tableAt held 2) (tableAt held 3) first₀ unmet₀ first unmet seen included i
 
 abbrev μ-loop : tie.MeasureT-loop
-μ-loop trace held first₀ unmet₀ seen₀ included₀ i₀ first unmet seen included i = length trace - i
+μ-loop trace held wide first₀ unmet₀ seen₀ included₀ i₀ first unmet seen included i = length trace - i
 
 loop-again : tie.Need-loop-again Inv-loop μ-loop
 loop-again c =

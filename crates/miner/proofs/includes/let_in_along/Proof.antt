@@ -1,4 +1,3 @@
-use mathlib.Core.Bool.{true}
 use Prim.Native.Nat.{_-_}
 use borrow.Author.Needs.{needs}
 use lib.ListN.{length}
@@ -7,10 +6,10 @@ use Rattle.miner.proofs.includes.let_in_along.Statement.{statement}
 use Rattle.miner.proofs.includes.let_in_along.Tie as tie
 
 abbrev Inv-loop : tie.InvT-loop
-Inv-loop trace unfollowed last out₀ after₀ barred₀ i₀ out after barred i = LetIn true trace unfollowed out₀ out after barred i
+Inv-loop trace unfollowed last wide out₀ after₀ barred₀ i₀ out after barred i = LetIn wide trace unfollowed out₀ out after barred i
 
 abbrev μ-loop : tie.MeasureT-loop
-μ-loop trace unfollowed last out₀ after₀ barred₀ i₀ out after barred i = length trace - i
+μ-loop trace unfollowed last wide out₀ after₀ barred₀ i₀ out after barred i = length trace - i
 
 loop-again : tie.Need-loop-again Inv-loop μ-loop
 loop-again c =

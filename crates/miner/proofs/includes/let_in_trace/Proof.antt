@@ -11,4 +11,4 @@ let-in-trace-spec =
     (tie.spec (λ c κs. search needs) (λ c κs. let got = c .before .before .before .last-places .ensures in (got .0, last-known _ _ (got .1)))
     (λ c κs. let got = c .before .before .before .last-places .ensures in (got .0, last-known _ _ (got .1)))
     (λ c. as-asked-cut _ true _ _ _ _ (c .before .before .before .if1 .taken) (c .let-in-along .ensures))
-    (λ c. as-asked-cut _ false _ _ _ _ (c .before .before .before .if1 .left) (c .let-in-along-narrow .ensures)))
+    (λ c. as-asked-cut _ false _ _ _ _ (c .before .before .before .if1 .left) (c .let-in-along2 .ensures)))

@@ -25,7 +25,7 @@ returns-2 : tie.Need-returns-2
 returns-2 c =
     let past = c .before .before .before .forward-narrow .ensures in
     let form = c .before .before .before .before .before .before .if1 .left in
-    (union-seen _ false _ _ _ _ form (past .0) (c .union2 .ensures), (past .1 .0, passed _ false _ _ _ _ form (past .1 .1) (c .before .backward-narrow .ensures)))
+    (union-seen _ false _ _ _ _ form (past .0) (c .union2 .ensures), (past .1 .0, passed _ false _ _ _ _ form (past .1 .1) (c .before .backward2 .ensures)))
 
 pub note-trace-spec : {M : Type 1} → statement M
 note-trace-spec =

@@ -1,14 +1,13 @@
-use mathlib.Core.Bool.{true}
 use borrow.Author.Needs.{needs}
 use Rattle.tally.proofs.Homeward.{Passed, start, down, ended, turn}
 use Rattle.tally.proofs.passes.backward.Statement.{statement}
 use Rattle.tally.proofs.passes.backward.Tie as tie
 
 abbrev Inv-loop : tie.InvT-loop
-Inv-loop trace tally₀ after₀ next₀ i₀ tally after next i = Passed true trace tally₀ tally after next i
+Inv-loop trace wide tally₀ after₀ next₀ i₀ tally after next i = Passed wide trace tally₀ tally after next i
 
 abbrev μ-loop : tie.MeasureT-loop
-μ-loop trace tally₀ after₀ next₀ i₀ tally after next i = i
+μ-loop trace wide tally₀ after₀ next₀ i₀ tally after next i = i
 
 loop-again : tie.Need-loop-again Inv-loop μ-loop
 loop-again c =
