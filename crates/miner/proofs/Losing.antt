@@ -9,12 +9,14 @@ use lib.Dec.{T, eqb, eqb→eq, eqb-refl}
 use Rattle.sets.specs.Tests.{_and_, _or_, non, when_then_else_}
 use Rattle.sets.specs.Members.{width, mem, those, someBelow, leastBelow, isEmpty}
 use Rattle.sets.specs.Rows.{Relation, rowAt, withRow, inRow, rowsOf}
+use Rattle.sets.specs.Tables.{tableAt}
 use Rattle.sets.specs.declared.set.Set.{Set}
-use Rattle.sets.proofs.Tests.{and-l, and-r, and-i, T-ext, F→false, false→F, and-true, false-or, or-false, or-assoc}
+use Rattle.sets.proofs.Tests.{and-l, and-r, and-i, T-eq, T-ext, F→false, false→F, and-true, false-or, or-false, or-assoc}
 use Rattle.sets.proofs.Tautologies.{by3}
 use Rattle.sets.proofs.Below.{some-i, some-e, some-ext}
 use Rattle.sets.proofs.MadeSets.{is-those, is-row, joined}
-use Rattle.sets.proofs.RowLaws.{row-mem, put-rowsOf, rowsOf-ext}
+use Rattle.sets.proofs.RowLaws.{row-mem, in-rowsOf, put-rowsOf, rowsOf-ext}
+use Rattle.sets.proofs.TableLaws.{table-rowsOf}
 use Rattle.sets.proofs.Passing.{passed, Part, passed-none, passed-all, part-turn}
 use Rattle.tally.proofs.Somes.{some-passed}
 use Rattle.tally.proofs.Folds.{at-same}
@@ -129,6 +131,13 @@ module _ (p : Relation) (rows left : List ℕ) where
       and-i _ _ (subst (λ (n : ℕ). T (mem all n)) (sym same) (and-l _ _ (u .2))) (and-r _ _ (and-r _ _ (u .2))))
       (λ t. some-i width (λ v. mem all v and (eqb a v and p a x)) a la (and-i _ _ (and-l _ _ t) (and-i _ _ (eqb-refl a) (and-r _ _ t)))))
       (lost-end (own p) rows left all rest r inv hr hn)
+
+-- what a row of a member has, the union of their rows has
+pub in-union : (F : Set) (rows : List ℕ) (r : Relation) → rows ≡ rowsOf r → (a x : ℕ) → a < width → x < width → T (mem F a) → T (r a x)
+    → T (someBelow width (λ v. mem F v and inRow (tableAt rows 0) v x))
+in-union F rows r hr a x la lx m t =
+    some-i width (λ v. mem F v and inRow (tableAt rows 0) v x) a la
+    (and-i _ _ m (T-eq (sym (ap (λ (l : List ℕ). inRow (tableAt l 0) a x) hr ∙ ap (λ (l : List ℕ). inRow l a x) (table-rowsOf r) ∙ in-rowsOf r a x la lx)) t))
 
 -- what a row has of a set
 pub asked-row : (asked row both : Set) (rows : List ℕ) (k : ℕ) → row ≡ rowAt rows k → both ≡ those (λ x. mem asked x and mem row x)

@@ -14,10 +14,8 @@ use Rattle.sets.specs.declared.set.Set.{Set}
 use Rattle.sets.proofs.Tests.{and-l, and-r, and-i, T-eq, T→true, true→T, F→false, and-false, or-true, or-false}
 use Rattle.sets.proofs.Tautologies.{by3, by4}
 use Rattle.sets.proofs.Members.{those-ext, mem-those, mem-none, empty-e, within-e}
-use Rattle.sets.proofs.Below.{some-i}
 use Rattle.sets.proofs.MadeSets.{is-those, is-row, none}
 use Rattle.sets.proofs.RowLaws.{in-rowsOf}
-use Rattle.sets.proofs.TableLaws.{table-rowsOf}
 use Rattle.calllog.specs.Logs.{partAt}
 use Rattle.rules.specs.Traces.{Traces, _has_, atSomeFrom, someTrace}
 use Rattle.tally.specs.Passes.{walked, reaches}
@@ -25,7 +23,7 @@ use Rattle.tally.proofs.Somes.{eqb-sym}
 use Rattle.tally.proofs.Turns.{pastAt, past-next, rest-next}
 use Rattle.tally.proofs.Walks.{walked-next, walked-end, walked-start}
 use Rattle.miner.specs.Facts.{Less, letInSince, reopenedIn, reopened}
-use Rattle.miner.proofs.Losing.{Toward, less-none, less-row, toward-start, toward-next, toward-end}
+use Rattle.miner.proofs.Losing.{Toward, less-none, less-row, toward-start, toward-next, toward-end, in-union}
 
 module _ (wide : Bool) (includes : List ℕ) (u : ℕ) where
   -- what was let in, and what the places from here on say, as far as the form holds it
@@ -189,7 +187,5 @@ module _ (includes : List ℕ) (u : ℕ) (log : List ℕ) (n : ℕ) (rows₀ : L
       F→false _
       (λ q. empty-e _ (and-r _ _ (true→T (sym hb ∙ done))) x lx
       (T-eq (sym (mem-those _ x lx))
-      (and-i _ _ (and-r _ _ p)
-      (some-i width (λ v. mem F v and inRow (tableAt rows 0) v x) a la
-      (and-i _ _ (and-l _ _ p)
-      (T-eq (ap (λ (l : List ℕ). inRow l a x) (t .1 r hr ∙ sym (ap (λ (l : List ℕ). tableAt l 0) (t .1 r hr) ∙ table-rowsOf _))) (and-l _ _ q))))))))
+      (and-i _ _ (and-r _ _ p) (in-union F rows _ (t .1 r hr) a x la lx (and-l _ _ p)
+      (T-eq (ap (λ (l : List ℕ). inRow l a x) (t .1 r hr) ∙ in-rowsOf _ a x la lx) (and-l _ _ q)))))))

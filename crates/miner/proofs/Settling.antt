@@ -1,6 +1,6 @@
 -- What one u makes redundant, from what the calls of a stage of step 7 ensure. Assumes nothing.
 use mathlib.Core.Path.{_≡_, refl, sym, ap, ap₂, _∙_, subst}
-use mathlib.Core.Bool.{Bool, true, false, not}
+use mathlib.Core.Bool.{Bool, false, not}
 use mathlib.Core.List.{List}
 use Prim.Native.Nat.{ℕ, _<_}
 use borrow.Author.Tests.{eq-eqb, ne-eqb, not-false}
@@ -10,18 +10,16 @@ use Rattle.sets.specs.Members.{width, mem, those, someBelow, isEmpty}
 use Rattle.sets.specs.Rows.{Relation, rowAt, inRow, rowsOf}
 use Rattle.sets.specs.Tables.{tableAt}
 use Rattle.sets.specs.declared.set.Set.{Set}
-use Rattle.sets.proofs.Tests.{and-l, and-r, and-i, T-eq, T→true, true→T, F→false, and-true, and-comm, and-assoc, true-and, false-and}
+use Rattle.sets.proofs.Tests.{and-l, and-r, T→true, true→T, F→false, and-true, and-comm, and-assoc, true-and, false-and}
 use Rattle.sets.proofs.Tautologies.{by4}
-use Rattle.sets.proofs.Below.{some-i, some-ext}
+use Rattle.sets.proofs.Below.{some-ext}
 use Rattle.sets.proofs.Members.{empty-e, those-of}
-use Rattle.sets.proofs.RowLaws.{in-rowsOf}
-use Rattle.sets.proofs.TableLaws.{table-rowsOf}
 use Rattle.sets.proofs.MadeSets.{Is, is-those, is-row}
 use Rattle.rules.specs.Traces.{Traces}
 use Rattle.tally.specs.Tallies.{beforeTable, laterTable}
 use Rattle.miner.specs.Facts.{Less, doubted, reopened}
 use Rattle.miner.specs.Stages.{followersOf, redundantBy}
-use Rattle.miner.proofs.Losing.{where-so, less-by, less-as, less-none, less-more, Lost, lost-end}
+use Rattle.miner.proofs.Losing.{where-so, less-by, less-as, less-none, less-more, Lost, lost-end, in-union}
 
 -- what something after u and before a lets in
 pub doubted-is : (before includes : List ℕ) (a : ℕ) (later row between out : Set) → row ≡ rowAt before a
@@ -83,14 +81,8 @@ module _ (tally followers includes excludes : List ℕ) (L : Traces) (u : ℕ) (
       → mem asked x ≡ (inRow excludes u x and non (inRow includes u x))
   asked-where r hr a x la lx t m =
       is-those asked _ ha x lx
-      ∙ ap₂ _and_ (is-those free _ hf x lx) (is-those out _ ho x lx ∙ T→true _ there)
+      ∙ ap₂ _and_ (is-those free _ hf x lx) (is-those out _ ho x lx ∙ T→true _ (in-union F rows r hr a x la lx m t))
       ∙ and-true _
-    where
-      there : T (someBelow width (λ v. mem F v and inRow (tableAt rows 0) v x))
-      there =
-          some-i width (λ v. mem F v and inRow (tableAt rows 0) v x) a la
-          (and-i _ _ m (T-eq (sym (ap (λ (l : List ℕ). inRow (tableAt l 0) a x) hr ∙ ap (λ (l : List ℕ). inRow l a x) (table-rowsOf r)
-          ∙ in-rowsOf r a x la lx)) t))
 
   same-gone : (r : Relation) → rows ≡ rowsOf r → (a x : ℕ) → a < width → x < width → T (r a x)
       → (mem F a and mem asked x and safe a x) ≡ redundantBy tally followers includes excludes L u a x
