@@ -70,6 +70,7 @@ use Rattle.engine.proofs.step.step.Reads as step
 use Rattle.engine.proofs.step.step_on.Reads as step-on
 use Rattle.engine.proofs.step.accepting.Reads as accepting
 use Rattle.engine.proofs.replay.walk.Reads as walk
+use Rattle.engine.proofs.replay.walk_in.Reads as walk-in
 use Rattle.engine.proofs.replay.run.Reads as run
 use Rattle.engine.proofs.replay.replay.Reads as replay
 use Rattle.engine.proofs.judge.head_within.Reads as head-within
@@ -407,6 +408,9 @@ executed-once κ a r r′ s s′ h h′ = h ∙ sym h′
 
 pub walk-once : Once walk.Post
 walk-once κ a r r′ s s′ h h′ = h ∙ sym h′
+
+pub walk-in-once : Once walk-in.Post
+walk-in-once κ a r r′ s s′ h h′ = h ∙ sym h′
 
 pub run-once : Once run.Post
 run-once κ a r r′ s s′ h h′ = h ∙ sym h′
