@@ -15,7 +15,7 @@ use Rattle.sets.proofs.Tautologies.{by2, by3}
 use Rattle.sets.proofs.Below.{some-i, some-e, some-ext}
 use Rattle.sets.proofs.RowLaws.{row-mem, in-rowsOf, put-rowsOf, rowsOf-ext}
 use Rattle.sets.proofs.Passing.{passed, Part, passed-none, passed-all, part-turn}
-use Rattle.tally.proofs.Somes.{some-passed}
+use Rattle.sets.proofs.Passing.{some-passed}
 use Rattle.tally.proofs.Folds.{at-same}
 use Rattle.miner.specs.Facts.{Less}
 
