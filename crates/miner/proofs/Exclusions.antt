@@ -24,7 +24,7 @@ use Rattle.rules.specs.Mining.{afterFive, afterSix, afterSeven}
 use Rattle.steps.specs.Rowwise.{excludesItself, apart, closing, excluders, absent, inEither}
 use Rattle.tally.specs.Tallies.{tallied}
 use Rattle.tally.proofs.Tallying.{before-table, later-table, unalternated-table, followed-table}
-use Rattle.tally.proofs.LogLaws.{once, together-before}
+use Rattle.rules.proofs.LogLaws.{once, together-before}
 use Rattle.tally.proofs.Folds.{at-same}
 use Rattle.miner.specs.Facts.{reopened, doubted}
 use Rattle.miner.specs.Stages.{neverOf, fiveOf, excludesSix, followersOf, redundantBy, sevenFrom}

@@ -18,7 +18,7 @@ use Rattle.sets.proofs.MadeSets.{is-those, is-row, joined}
 use Rattle.sets.proofs.RowLaws.{row-mem, in-rowsOf, put-rowsOf, rowsOf-ext}
 use Rattle.sets.proofs.TableLaws.{table-rowsOf}
 use Rattle.sets.proofs.Passing.{passed, Part, passed-none, passed-all, part-turn}
-use Rattle.tally.proofs.Somes.{some-passed}
+use Rattle.sets.proofs.Passing.{some-passed}
 use Rattle.tally.proofs.Folds.{at-same}
 use Rattle.miner.specs.Facts.{Less}
 

@@ -19,7 +19,7 @@ use Rattle.sets.proofs.RowLaws.{in-rowsOf}
 use Rattle.calllog.specs.Logs.{partAt}
 use Rattle.rules.specs.Traces.{Traces, _has_, atSomeFrom, someTrace}
 use Rattle.tally.specs.Passes.{walked, reaches}
-use Rattle.tally.proofs.Somes.{eqb-sym}
+use Rattle.sets.proofs.Tests.{eqb-sym}
 use Rattle.tally.proofs.Turns.{pastAt, past-next, rest-next}
 use Rattle.tally.proofs.Walks.{walked-next, walked-end, walked-start}
 use Rattle.miner.specs.Facts.{Less, letInSince, reopenedIn, reopened}

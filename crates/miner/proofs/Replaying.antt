@@ -65,12 +65,12 @@ module _ {wide : Bool} {σ : List ℕ} {events : Set} {includes excludes first�
 
   pub replay-turn : i < length σ → (first′ unmet′ : List ℕ) (then seen′ : Set)
       → then ≡ those (λ x. mem included x and non (inRow excludes (getD σ i 0) x) or reaches wide x and inRow includes (getD σ i 0) x)
-      → first′ ≡ gainedFor wide first (getD σ i 0) (λ x. reaches wide x and (mem seen x and non (mem seen (getD σ i 0))))
-      → unmet′ ≡ gainedFor wide unmet (getD σ i 0) (λ x. mem included x and non (mem seen x))
+      → (first′ ≡ gainedFor wide first (getD σ i 0) (λ x. reaches wide x and (mem seen x and non (mem seen (getD σ i 0)))))
+      × (unmet′ ≡ gainedFor wide unmet (getD σ i 0) (λ x. mem included x and non (mem seen x)))
       → seen′ ≡ those (λ x. mem seen x or eqb x (getD σ i 0))
       → Replayed wide σ events includes excludes first₀ unmet₀ first′ unmet′ seen′ then (i + 1)
   unfolding cut beforeFirst missed stillIncluded
-  replay-turn h first′ unmet′ then seen′ ht hf hu hs =
+  replay-turn h first′ unmet′ then seen′ ht (hf, hu) hs =
       let seen-in = is-those seen (λ x. pastAt σ i has x) (inv .seen-is) in
       let included-in = is-those included (λ x. reaches wide x and stillIncluded events includes excludes (pastAt σ i) x) (inv .included-is) in
       record {

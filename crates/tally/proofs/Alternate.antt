@@ -12,47 +12,14 @@ use Rattle.sets.specs.Tables.{tableAt, withRowIn, gainedIn}
 use Rattle.sets.specs.declared.set.Set.{Set}
 use Rattle.sets.proofs.Tests.{true→T, T-eq, true-and}
 use Rattle.sets.proofs.Tautologies.{by3}
-use Rattle.sets.proofs.Members.{those-ext, those-of, empty-e}
+use Rattle.sets.proofs.Members.{those-ext, empty-e}
 use Rattle.sets.proofs.MadeSets.{is-those}
 use Rattle.sets.proofs.TableLaws.{put-back}
 use Rattle.rules.specs.Traces.{_has_}
-use Rattle.tally.specs.Passes.{notedIn, isEarlier, notEarlier, notDirectly, notSince, reaches, cut}
-use Rattle.tally.specs.Tallies.{beforeTable, unprecededTable, unchainedTable, unalternatedTable, notePastIn, pastBy, sinceBy, placeBy}
-use Rattle.tally.proofs.Turns.{heldIn, lastIn, not-held, noted-where, held, unheld, where-held, past-is}
-use Rattle.tally.proofs.Since.{since, since-all}
-
-module _ (wide : Bool) (tables : List ℕ) (k e : ℕ) (past : List ℕ) (seen : Set) (r : Bool) (hr : r ≡ mem seen e) (out : List ℕ) where
-  abbrev old : ℕ → Bool
-  old x = mem (rowAt (tableAt tables k) e) x
-
-  abbrev choice : ℕ → Bool
-  choice x = when mem seen e then notSince e past [] x else non (mem seen x)
-
-  pub note-repeat : (row lacked wanted left : Set) → r ≡ true → row ≡ rowAt (tableAt tables k) e → lacked ≡ those (λ x. non (mem row x))
-      → wanted ≡ those (λ x. reaches wide x and mem lacked x) → left ≡ those (λ x. mem wanted x and notSince e past [] x)
-      → out ≡ gainedIn tables k e left → out ≡ notedIn tables k e (λ x. reaches wide x and choice x)
-  unfolding notedIn
-  note-repeat row lacked wanted left ht hrow hk hw hl h =
-      h
-      ∙ ap (withRowIn tables k e)
-      (those-of left (λ x. mem wanted x and notSince e past [] x) (λ x t. old x or t) hl
-      ∙ those-of wanted (λ x. reaches wide x and mem lacked x) (λ x t. old x or (t and notSince e past [] x)) hw
-      ∙ those-of lacked (λ x. non (mem row x)) (λ x t. old x or (reaches wide x and t and notSince e past [] x)) hk
-      ∙ ap (λ (s : Set). those (λ x. old x or (reaches wide x and non (mem s x) and notSince e past [] x))) hrow
-      ∙ those-ext (λ x. old x or (reaches wide x and non (old x) and notSince e past [] x)) (λ x. old x or (reaches wide x and choice x))
-      (λ x l.
-      by3 (λ a r n. a or (r and non a and n)) (λ a r n. a or (r and n)) (unfold _and_ _or_ non in tt) (old x) (reaches wide x) (notSince e past [] x)
-      ∙ ap (λ (t : Bool). old x or (reaches wide x and (when t then notSince e past [] x else non (mem seen x)))) (sym ht ∙ hr)))
-
-  pub note-first : (unseen others : Set) → r ≡ false → unseen ≡ those (λ x. non (mem seen x)) → others ≡ those (λ x. reaches wide x and mem unseen x)
-      → out ≡ gainedIn tables k e others → out ≡ notedIn tables k e (λ x. reaches wide x and choice x)
-  unfolding notedIn
-  note-first unseen others ht hu ho h =
-      h
-      ∙ ap (withRowIn tables k e)
-      (those-of others (λ x. reaches wide x and mem unseen x) (λ x t. old x or t) ho
-      ∙ those-of unseen (λ x. non (mem seen x)) (λ x t. old x or (reaches wide x and t)) hu
-      ∙ ap (λ (t : Bool). those (λ x. old x or (reaches wide x and (when t then notSince e past [] x else non (mem seen x))))) (sym ht ∙ hr))
+use Rattle.tally.specs.Passes.{notedIn, notSince, reaches, cut}
+use Rattle.tally.specs.Tallies.{unalternatedTable, notePastIn, pastBy, sinceBy, placeBy}
+use Rattle.tally.proofs.Turns.{heldIn, lastIn, not-held, noted-where, noted-by, held-of, held, unheld, where-held, past-is}
+use Rattle.tally.proofs.LookBack.{since, since-all}
 
 -- a row that has all gains nothing
 gains-none : (a g b : Bool) → (T (g and non a) → ⊥) → (a or (g and b)) ≡ a
@@ -61,21 +28,47 @@ gains-none true g b h = refl
 gains-none false true b h = absurd (h tt)
 gains-none false false b h = refl
 
-pub note-full : (wide : Bool) (tables : List ℕ) (k e : ℕ) (p : ℕ → Bool) (row lacked wanted : Set) (r : Bool) → those (mem row) ≡ row
-    → row ≡ rowAt (tableAt tables k) e → lacked ≡ those (λ x. non (mem row x)) → wanted ≡ those (λ x. reaches wide x and mem lacked x)
-    → r ≡ isEmpty wanted → r ≡ true → tables ≡ notedIn tables k e (λ x. reaches wide x and p x)
-unfolding notedIn
-note-full wide tables k e p row lacked wanted r whole hrow hk hw hr ht =
-    sym (ap (λ (s : Set). withRowIn tables k e (those (λ x. mem s x or (reaches wide x and p x)))) (sym hrow)
-    ∙ ap (withRowIn tables k e) (those-ext (λ x. mem row x or (reaches wide x and p x)) (mem row)
-    (λ x l. gains-none (mem row x) (reaches wide x) (p x) (full x l)) ∙ whole ∙ hrow)
-    ∙ put-back tables k e)
-  where
-    -- nothing that the form holds is lacked
-    full : (x : ℕ) → x < width → T (reaches wide x and non (mem row x)) → ⊥
-    full x l t =
-        empty-e wanted (true→T (sym hr ∙ ht)) x l
-        (T-eq (sym (is-those wanted _ hw x l ∙ ap (λ (b : Bool). reaches wide x and b) (is-those lacked _ hk x l))) t)
+module _ (wide : Bool) (tables : List ℕ) (e : ℕ) (σ : List ℕ) (seen : Set) where
+  abbrev old : ℕ → Bool
+  old x = mem (rowAt (tableAt tables unalternatedTable) e) x
+
+  abbrev unmet : ℕ → Bool
+  unmet x = notSince e (reverseAux σ []) [] x
+
+  abbrev choice : Bool → ℕ → Bool
+  choice again x = reaches wide x and (when again then unmet x else non (mem seen x))
+
+  -- what the form holds of what the row lacks
+  module _ (row lacked wanted : Set) (hrow : row ≡ rowAt (tableAt tables unalternatedTable) e) (hk : lacked ≡ those (λ x. non (mem row x)))
+      (hw : wanted ≡ those (λ x. reaches wide x and mem lacked x)) where
+    wanted-is : (x : ℕ) → x < width → mem wanted x ≡ (reaches wide x and non (old x))
+    wanted-is x l = held-of wide lacked wanted _ (is-those lacked _ hk) hw x l ∙ ap (λ (s : Set). reaches wide x and non (mem s x)) hrow
+
+    pub note-full : (r : Bool) → those (mem row) ≡ row → r ≡ isEmpty wanted → r ≡ true → tables ≡ sinceBy wide tables e σ seen
+    unfolding sinceBy notedIn
+    note-full r whole hr ht =
+        sym (ap (withRowIn tables unalternatedTable e) (those-ext _ old
+        (λ x l. gains-none (old x) (reaches wide x) _ (λ t. empty-e wanted (true→T (sym hr ∙ ht)) x l (T-eq (sym (wanted-is x l)) t)))
+        ∙ (rw hrow at whole)) ∙ put-back tables unalternatedTable e)
+
+    -- a repeat
+    pub note-repeat : (r : Bool) (left : Set) (out : List ℕ) → r ≡ mem seen e → r ≡ true → left ≡ those (λ x. mem wanted x and unmet x)
+        → out ≡ gainedIn tables unalternatedTable e left → out ≡ sinceBy wide tables e σ seen
+    unfolding sinceBy notedIn
+    note-repeat r left out hr ht hl h =
+        h
+        ∙ ap (withRowIn tables unalternatedTable e) (those-ext _ _ (λ x l.
+        ap (λ (b : Bool). old x or b) (is-those left _ hl x l ∙ ap (λ (b : Bool). b and unmet x) (wanted-is x l))
+        ∙ by3 (λ a r n. a or (r and non a and n)) (λ a r n. a or (r and n)) (unfold _and_ _or_ non in tt) (old x) (reaches wide x) (unmet x)
+        ∙ ap (λ (t : Bool). old x or choice t x) (sym ht ∙ hr)))
+
+  -- the first in its trace
+  pub note-first : (r : Bool) (unseen others : Set) (out : List ℕ) → r ≡ mem seen e → r ≡ false → unseen ≡ those (λ x. non (mem seen x))
+      → others ≡ those (λ x. reaches wide x and mem unseen x) → out ≡ gainedIn tables unalternatedTable e others → out ≡ sinceBy wide tables e σ seen
+  unfolding sinceBy
+  note-first r unseen others out hr ht hu ho h =
+      noted-by tables unalternatedTable e others _ out
+      (λ x l. held-of wide unseen others _ (is-those unseen _ hu) ho x l ∙ ap (λ (t : Bool). choice t x) (sym ht ∙ hr)) h
 
 -- either way the row gains the fact of the place
 module _ (wide : Bool) (tables : List ℕ) (e : ℕ) (σ rest : List ℕ) (seen : Set) (hs : seen ≡ heldIn wide (reverseAux σ [])) where

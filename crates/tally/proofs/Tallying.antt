@@ -14,12 +14,12 @@ use Rattle.sets.proofs.RowLaws.{rowsOf-ext, in-rowsOf}
 use Rattle.sets.proofs.TableLaws.{table-put-same, table-put-other, table-none}
 use Rattle.rules.specs.Traces.{Traces, _has_, _beginsWith_, atSome}
 use Rattle.rules.specs.Mining.{precedes, answers, chained, before, followed, alternates}
+use Rattle.rules.proofs.LogLaws.{non-every, some-ext, next-from, before-later}
 use Rattle.tally.specs.Passes.{Fact, Turn, gained, gainedFor, gainsIn, notedIn, forward, backward, through, isEarlier, notEarlier, notDirectly}
 use Rattle.tally.specs.Passes.{notSince, isLater, notLater, isNext, reaches, cut}
 use Rattle.tally.specs.Tallies.{tableCount, beforeTable, laterTable, unprecededTable, unansweredTable, unchainedTable, unalternatedTable}
 use Rattle.tally.specs.Tallies.{followedTable, notePastIn, noteRestIn, notedFor, talliedFor, notePast, noteRest, noted, tallied}
 use Rattle.tally.proofs.Folds.{said, heard, heard-in, formed, gains-in, forward-in, backward-by, through-all}
-use Rattle.tally.proofs.LogLaws.{non-every, some-ext, next-from, before-later}
 
 -- ---- a table of a pass is a pass over the table
 

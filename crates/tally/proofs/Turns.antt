@@ -92,21 +92,15 @@ pub with-one : (seen one r : Set) (e : ℕ) → one ≡ those (λ b. eqb b e) �
     ≡ those (λ x. mem seen x or eqb x e)
 with-one seen one r e ho hr = hr ∙ those-of one (λ b. eqb b e) (λ a t. mem seen a or t) ho
 
--- a set of what was seen gains an event
-pub seen-one : (past : List ℕ) (e : ℕ) (seen r : Set) → seen ≡ seenIn past → r ≡ those (λ x. mem seen x or eqb x e) → r ≡ seenIn (e ∷ past)
-unfolding _has_
-seen-one past e seen r hs hr =
-    hr ∙ those-of seen (λ x. past has x) (λ a t. t or eqb a e) hs
-    ∙ those-ext (λ a. past has a or eqb a e) (λ a. (e ∷ past) has a) (λ a l. or-comm (past has a) (eqb a e))
-
 -- what was seen, one place further
 pub seen-next : (σ : List ℕ) (i : ℕ) (h : i < length σ) (seen : Set) → seen ≡ seenIn (pastAt σ i) → (r : Set)
     → r ≡ those (λ x. mem seen x or eqb x (getD σ i 0)) → r ≡ seenIn (pastAt σ (i + 1))
-seen-next σ i h seen hs r hr = seen-one (pastAt σ i) (getD σ i 0) seen r hs hr ∙ ap seenIn (sym (past-next σ i h))
-
-pub seen-more : (past : List ℕ) (e : ℕ) (seen one seen′ : Set) → seen ≡ seenIn past → one ≡ those (λ b. eqb b e)
-    → seen′ ≡ those (λ a. mem seen a or mem one a) → seen′ ≡ seenIn (e ∷ past)
-seen-more past e seen one seen′ hs ho hu = seen-one past e seen seen′ hs (with-one seen one seen′ e ho hu)
+unfolding _has_
+seen-next σ i h seen hs r hr =
+    hr
+    ∙ those-of seen (λ x. pastAt σ i has x) (λ x t. t or eqb x (getD σ i 0)) hs
+    ∙ those-ext _ (λ x. (getD σ i 0 ∷ pastAt σ i) has x) (λ x l. or-comm (pastAt σ i has x) (eqb x (getD σ i 0)))
+    ∙ ap seenIn (sym (past-next σ i h))
 
 -- the same of what a form holds
 pub held-more : (wide : Bool) (past : List ℕ) (e : ℕ) (seen one both seen′ : Set) → seen ≡ heldIn wide past → one ≡ those (λ b. eqb b e)
@@ -202,8 +196,8 @@ low-held wide s low r t hl hr =
     ∙ ap (λ (b : Bool). those (λ x. (b or ltb x word) and mem s x)) (sym t)
 
 -- what the form holds of a set that is known
-formed : (wide : Bool) (s c : Set) (p : ℕ → Bool) → Is s p → c ≡ those (λ x. reaches wide x and mem s x) → Is c (λ x. reaches wide x and p x)
-formed wide s c p hs hc x l = is-those c _ hc x l ∙ ap (λ (t : Bool). reaches wide x and t) (hs x l)
+pub held-of : (wide : Bool) (s c : Set) (p : ℕ → Bool) → Is s p → c ≡ those (λ x. reaches wide x and mem s x) → Is c (λ x. reaches wide x and p x)
+held-of wide s c p hs hc x l = is-those c _ hc x l ∙ ap (λ (t : Bool). reaches wide x and t) (hs x l)
 
 -- a place that the form holds, and one that it does not
 pub held : (x y : List ℕ) (b : Bool) → b ≡ true → x ≡ (when b then x else y)
@@ -244,7 +238,7 @@ module _ (wide : Bool) (tables : List ℕ) (e : ℕ) where
   unfolding pastBy
   past-put seen last s c c′ d d′ one two out hs h1 hc hc′ h2 hd hd′ h3 =
       joined-thrice tables beforeTable unprecededTable unchainedTable e s c′ d′ _ _ _ one two out (is-those s _ hs)
-      (formed wide c c′ _ (is-those c _ hc) hc′) (formed wide d d′ _ (is-those d _ hd) hd′) h1 h2 h3
+      (held-of wide c c′ _ (is-those c _ hc) hc′) (held-of wide d d′ _ (is-those d _ hd) hd′) h1 h2 h3
 
   pub rest-put : (after next : Set) (h : Bool) → h ≡ reaches wide e → not h ≡ false → (s c c′ n : Set) (one two out : List ℕ)
       → s ≡ those (λ x. reaches wide x and mem after x) → one ≡ gainedIn tables laterTable e s → c ≡ those (λ a. non (mem after a))
@@ -253,7 +247,7 @@ module _ (wide : Bool) (tables : List ℕ) (e : ℕ) where
   unfolding restBy
   rest-put after next h hh hn s c c′ n one two out hs h1 hc hc′ h2 hx h3 =
       joined-thrice tables laterTable unansweredTable followedTable e s c′ n _ _ _ one two out (is-those s _ hs)
-      (formed wide c c′ _ (is-those c _ hc) hc′) (is-those n _ hx) h1 h2 h3
+      (held-of wide c c′ _ (is-those c _ hc) hc′) (is-those n _ hx) h1 h2 h3
       ∙ held _ tables (reaches wide e) (sym hh ∙ not-false h hn)
 
   pub rest-left : (after next : Set) (h : Bool) → h ≡ reaches wide e → not h ≡ true → tables ≡ restBy wide tables e after next
@@ -305,18 +299,3 @@ module _ (turn : Turn) (σ all : List ℕ) where
   pub forward-end : (i : ℕ) (rows : List ℕ) → length σ ≤ i → forward turn rows (pastAt σ i) (drop i σ) ≡ all → rows ≡ all
   unfolding forward
   forward-end i rows h inv = ap (forward turn rows (pastAt σ i)) (sym (drop-of-length-le σ h)) ∙ inv
-
--- the backward loop: before the first turn, one turn further
-module _ (turn : Turn) (σ rows₀ : List ℕ) where
-  pub backward-start : rows₀ ≡ backward turn rows₀ (pastAt σ (length σ)) (drop (length σ) σ)
-  unfolding backward
-  backward-start = ap (backward turn rows₀ (pastAt σ (length σ))) (sym (drop-length σ))
-
-  pub backward-next : (i : ℕ) (rows rows′ : List ℕ) → i < length σ → rows′ ≡ turn rows (getD σ i 0) (pastAt σ i) (drop (i + 1) σ)
-      → rows ≡ backward turn rows₀ (pastAt σ (i + 1)) (drop (i + 1) σ) → rows′ ≡ backward turn rows₀ (pastAt σ i) (drop i σ)
-  unfolding backward
-  backward-next i rows rows′ h hr inv =
-      hr
-      ∙ ap (λ (r : List ℕ). turn r (getD σ i 0) (pastAt σ i) (drop (i + 1) σ))
-      (inv ∙ ap (λ (l : List ℕ). backward turn rows₀ l (drop (i + 1) σ)) (past-next σ i h))
-      ∙ ap (backward turn rows₀ (pastAt σ i)) (sym (rest-next σ i h))

@@ -1,4 +1,4 @@
-use mathlib.Core.Path.{_≡_, refl}
+use mathlib.Core.Path.{_≡_, refl, sym, _∙_}
 use mathlib.Core.Bool.{Bool}
 use mathlib.Core.List.{List}
 use Prim.Native.Nat.{ℕ, _+_, _-_, _≤_, _<_}
@@ -8,13 +8,12 @@ use Rattle.sets.specs.Tests.{_and_, _or_}
 use Rattle.sets.specs.Members.{mem, those, noSet}
 use Rattle.sets.specs.Rows.{noRows}
 use Rattle.sets.specs.declared.set.Set.{Set}
-use Rattle.sets.proofs.Members.{those-mem}
+use Rattle.sets.proofs.Members.{those-mem, those-of}
 use Rattle.calllog.specs.Logs.{partAt}
 use Rattle.rules.specs.Traces.{_has_}
 use Rattle.tally.specs.Passes.{walked, reaches, eventIn}
 use Rattle.tally.specs.Tallies.{notedFor}
-use Rattle.tally.proofs.Walks.{Left, eventsFrom, events-start, events-next, events-end, events-set, through-start, through-next}
-use Rattle.tally.proofs.Walks.{through-end}
+use Rattle.tally.proofs.Walks.{Left, eventsFrom, events-start, events-next, events-end, through-start, through-next, through-end}
 use Rattle.tally.proofs.log.note_traces_in.Statement.{statement}
 use Rattle.tally.proofs.log.note_traces_in.Tie as tie
 
@@ -44,7 +43,7 @@ module _ {wide : Bool} {log : List ℕ} {n : ℕ} {t₀ t blocks : List ℕ} {ev
       record {
         reached = omega arith;
         empty = hb;
-        a-set = events-set wide log n k events σ events events′ hv;
+        a-set = those-of events′ _ (λ x b. b) hv ∙ sym hv;
         events-are = events-next wide log n k _ σ events events′ h e hv (inv .events-are);
         left = through-next (notedFor wide) log n _ k σ t t′ h e ht (inv .left);
       }
@@ -55,12 +54,6 @@ Inv-loop log traces wide tally₀ blocks₀ events₀ k₀ tally blocks events k
 abbrev μ-loop : tie.MeasureT-loop
 μ-loop log traces wide tally₀ blocks₀ events₀ k₀ tally blocks events k = traces - k
 
-loop-holds : tie.Need-loop-holds Inv-loop μ-loop
-loop-holds c = start _ _ _ _ _ (c .empty .ensures)
-
-loop-again : tie.Need-loop-again Inv-loop μ-loop
-loop-again c = search (turn, needs)
-
 returns : tie.Need-returns Inv-loop μ-loop
 returns c =
     let inv = c .before .loop .inv in
@@ -70,5 +63,5 @@ returns c =
 pub note-traces-in-spec : {M : Type 1} → statement M
 note-traces-in-spec =
     tie.close
-    (tie.spec Inv-loop μ-loop (λ c κs. search needs) loop-holds (λ c κs. search needs) (λ c κs. c .before .before .before .before .loop .inv .empty) (λ c. search needs) (λ c. search needs)
-    loop-again returns)
+    (tie.spec Inv-loop μ-loop (λ c κs. search needs) (λ c. search (start, needs)) (λ c κs. search needs) (λ c κs. c .before .before .before .before .loop .inv .empty) (λ c. search needs) (λ c. search needs)
+    (λ c. search (turn, needs)) returns)

@@ -11,8 +11,7 @@ use Rattle.sets.specs.Rows.{rowsOf}
 use Rattle.sets.specs.Sizes.{longestTrace}
 use Rattle.sets.proofs.Members.{those-mem}
 use Rattle.tally.specs.Passes.{inBlock}
-use Rattle.tally.proofs.Since.{Looked, look-start, look-passed}
-use Rattle.tally.proofs.Blocks.{look-block}
+use Rattle.tally.proofs.LookBack.{Looked, look-start, look-passed, look-block}
 use Rattle.tally.proofs.look_back.pass_blocks.Statement.{statement}
 use Rattle.tally.proofs.look_back.pass_blocks.Tie as tie
 

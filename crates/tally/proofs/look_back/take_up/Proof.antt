@@ -7,7 +7,7 @@ use lib.ListN.{length}
 use Rattle.sets.specs.Members.{width}
 use Rattle.sets.specs.Rows.{rowsOf}
 use Rattle.tally.specs.Passes.{inBlock}
-use Rattle.tally.proofs.Blocks.{leftFrom, take-start, take-next, take-end}
+use Rattle.tally.proofs.LookBack.{leftFrom, take-start, take-next, take-end}
 use Rattle.tally.proofs.look_back.take_up.Statement.{statement}
 use Rattle.tally.proofs.look_back.take_up.Tie as tie
 

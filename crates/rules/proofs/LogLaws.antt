@@ -4,12 +4,14 @@ use mathlib.Core.Path.{_≡_, refl, sym, ap, ap₂, _∙_}
 use mathlib.Core.Bool.{Bool, false}
 use mathlib.Core.List.{List, [], _∷_}
 use Prim.Native.Nat.{ℕ}
-use lib.Dec.{eqb, eqb→eq}
+use lib.Dec.{T, eqb, eqb→eq}
 use Rattle.sets.specs.Tests.{_and_, _or_, non}
-use Rattle.sets.proofs.Tests.{and-l, and-r, and-comm, non-non, non-and, and-false, or-false, F→false}
-use Rattle.rules.specs.Traces.{Traces, _has_, _beginsWith_, atEachFrom, atEach, atSomeFrom, atSome, everyTrace, someTrace}
-use Rattle.rules.specs.Mining.{atMostOnce, before, together}
+use Rattle.sets.proofs.Tests.{and-l, and-r, or-r, and-comm, non-non, non-and, and-false, or-false, F→false}
 use Rattle.sets.proofs.Tautologies.{by2, by4, by5}
+use Rattle.rules.specs.Traces.{Traces, _has_, _beginsWith_, atEachFrom, atEach, atSomeFrom, atSome, everyTrace, someTrace}
+use Rattle.rules.specs.Mining.{event, atMostOnce, before, together, between}
+use Rattle.rules.proofs.Places.{has-first, has-rest, some-place}
+use Rattle.rules.proofs.InTurn.{is-event}
 
 -- ---- every and some, of places and of traces
 
@@ -112,3 +114,22 @@ module _ (s t : ℕ) (d : s ≡ t → ⊥) where
       some-ext L _ (λ σ. atSome t (λ q r. q has s) σ or atSome s (λ q r. q has t) σ)
       (λ σ. together-from [] σ ∙ sym (ap₂ _or_ (later-all s t σ) (later-all t s σ)))
       ∙ some-or L (atSome t (λ q r. q has s)) (atSome s (λ q r. q has t))
+
+-- ---- what stands at a place of the log is an event, and so is what stands later
+
+module _ (u : ℕ) (p : List ℕ → List ℕ → Bool) where
+  pub place-event : (L : Traces) → T (someTrace L (atSome u p)) → T (event L u)
+  place-event L h = let k = some-place u p L h in is-event L u (k .2) (has-rest u (k .0) (u ∷ k .1) (has-first u (k .1)))
+
+  pub rest-event : (t : ℕ) → ((past rest : List ℕ) → T (p past rest) → T (rest has t)) → (L : Traces) → T (someTrace L (atSome u p)) → T (event L t)
+  unfolding _has_
+  rest-event t f L h = let k = some-place u p L h in is-event L t (k .2) (has-rest t (k .0) (u ∷ k .1) (or-r _ _ (f _ _ (k .3))))
+
+module _ (L : Traces) (s u t : ℕ) (h : T (between L s u t)) where
+  pub middle-event : T (event L u)
+  unfolding between
+  middle-event = place-event u _ L h
+
+  pub later-event : T (event L t)
+  unfolding between
+  later-event = rest-event u _ t (λ past rest k. and-r _ _ k) L h
