@@ -3,7 +3,7 @@
 use mathlib.Core.Path.{_≡_, refl, sym, ap, _∙_, subst}
 use mathlib.Core.Bool.{Bool, true, false, not}
 use mathlib.Core.List.{List, [], _∷_}
-use Prim.Native.Nat.{ℕ, zero, suc, _+_, _≤_, _<_}
+use Prim.Native.Nat.{ℕ, _+_, _≤_, _<_}
 use native.Mathlib.Numerals.{add-one}
 use native.Mathlib.Omega.{arith}
 use lib.Dec.{T, eqb, eqb→eq, ltb, lt→ltb, ltb→lt}
@@ -15,8 +15,8 @@ use Rattle.sets.specs.Tables.{tableAt}
 use Rattle.sets.specs.Answers.{isDone}
 use Rattle.sets.specs.declared.set.Set.{Set}
 use Rattle.sets.specs.declared.answer.Answer.{Answer}
-use Rattle.sets.proofs.Tests.{T-ext, T-eq, and-l, and-r, and-i, or-e, or-l, or-r, or-comm, or-assoc, imp-e, imp-i, true→T, either}
-use Rattle.sets.proofs.Below.{every-e, every-i, some-e, some-i}
+use Rattle.sets.proofs.Tests.{T-ext, T-eq, and-l, and-r, and-i, or-e, or-l, or-r, imp-e, imp-i, true→T, either}
+use Rattle.sets.proofs.Below.{every-e, every-i, some-e, some-i, some-last}
 use Rattle.sets.proofs.Members.{Fits, none-those, those-ext, those-of, those-mem, those-e, those-i, every-of, within-e, within-i}
 use Rattle.sets.proofs.Ways.{failed, held, stops-l, goes}
 use Rattle.engine.specs.declared.marking.State.{State}
@@ -50,12 +50,6 @@ pub gained-by : (tables : List ℕ) (e : ℕ) (r i u : Set) → r ≡ rowAt (tab
     → u ≡ those (λ a. mem r a or mem i a) → u ≡ those (λ a. inTables tables .responses e a or inTables tables .includes e a)
 unfolding inRow
 gained-by tables e r i u hr hi hu = hu ∙ (λ k. those (λ a. mem (hr k) a or mem (hi k) a))
-
-some-last : (w : ℕ) (p : ℕ → Bool) → someBelow (suc w) p ≡ (someBelow w p or p w)
-unfolding someBelow
-some-last zero p = or-comm (p 0) false
-some-last (suc w) p =
-    ap (λ (t : Bool). p 0 or t) (some-last w (λ a. p (suc a))) ∙ sym (or-assoc (p 0) (someBelow w (λ a. p (suc a))) (p (suc w)))
 
 -- what the activities below n gain
 module _ (q : Relations) where

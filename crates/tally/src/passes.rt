@@ -147,4 +147,3 @@ pub fn backward(trace: &[u8], wide: bool, tally: &mut Tally)
         after = in_form(after.union(next), wide);
     }
 }
-
