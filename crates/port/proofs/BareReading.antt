@@ -1,5 +1,5 @@
 -- A file read without the set of enabled activities: what is had is the file's graph, and reading has judged it. Assumes nothing.
-use mathlib.Core.Path.{_≡_, refl, sym, ap, _∙_}
+use mathlib.Core.Path.{_≡_, refl, sym, ap, _∙_, subst}
 use mathlib.Core.Bool.{Bool, true, false, not}
 use mathlib.Core.List.{List}
 use Prim.Native.Nat.{ℕ, _≤_}
@@ -13,7 +13,7 @@ use Rattle.sets.specs.declared.set.Set.{Set}
 use Rattle.sets.specs.declared.answer.Answer.{Answer}
 use Rattle.sets.specs.declared.answer.Answer.the-variants.{Done}
 use Rattle.sets.proofs.Tests.{T-eq, false→F}
-use Rattle.sets.proofs.Members.{Fits}
+use Rattle.sets.proofs.Members.{Fits, whole-fits}
 use Rattle.sets.proofs.Asking.{gone-on}
 use Rattle.engine.specs.Markings.{emptyState}
 use Rattle.engine.specs.Relations.{Relations, relationCount, inTables, relationsOf, emptyGraph}
@@ -28,6 +28,8 @@ use Rattle.bytes.specs.Editions.{narrowEdition, wideEdition, editionFor, wideIn
 use Rattle.graphfile.specs.Held.{relationsIn, graphIn, bareOf, bareTables, readOf}
 use Rattle.graphfile.specs.declared.reader.Bare.{Bare}
 use Rattle.bytes.proofs.Codec.{Bytes}
+use Rattle.bytes.proofs.SetLaws.{set-whole}
+use Rattle.engine.specs.declared.marking.State.{State}
 use Rattle.graphfile.proofs.RoundTrips.{file-graph}
 use Rattle.graphfile.proofs.Accepted.{accepted as parts, head-done}
 use Rattle.engine.specs.declared.graph.Graph.{Graph}
@@ -107,11 +109,18 @@ module _ (file : List ℕ) (r : Bare) (hr : r ≡ bareOf file) where
       unfolding readOf
       read-judged small = ap (λ (a : Answer). judged (graphBy a)) accepted ∙ file-graph file small accepted
 
+      -- the state that was read is one of the code's
+      bare-fits : Bytes file → Fits (r .state .executed) × Fits (r .state .pending) × Fits (r .state .included)
+      unfolding bareOf
+      bare-fits small =
+          let is : r .state ≡ stateIn file = ap (λ (x : Bare). x .state) hr ∙ ap (λ (a : Answer). when isDone a then stateIn file else emptyState) accepted in
+          subst (λ (s : State). Fits (s .executed) × Fits (s .pending) × Fits (s .included)) (sym is)
+          (whole-fits _ (set-whole _ file small _), whole-fits _ (set-whole _ file small _), whole-fits _ (set-whole _ file small _))
+
       -- a replay in the file's form leaves nothing out
-      pub bare-walk : Bytes file → (tables : List ℕ) → tables ≡ bareTables file (noTables relationCount) → (w : Bool) → w ≡ wideIn file
-          → Fits (r .state .executed) → Fits (r .state .pending) → Fits (r .state .included) → (σ : List ℕ)
+      pub bare-walk : Bytes file → (tables : List ℕ) → tables ≡ bareTables file (noTables relationCount) → (w : Bool) → w ≡ wideIn file → (σ : List ℕ)
           → replayFrom (r .events) (gainsFor w (inTables tables)) (stateFor w (r .state)) 0 σ ≡ replayFrom (r .events) (inTables tables) (r .state) 0 σ
-      bare-walk small tables ht w hw fx fp fi σ = by w (sym hw)
+      bare-walk small tables ht w hw σ = by w (sym hw)
         where
           few : wideIn file ≡ false → T (stateWithin (those (λ a. ltb a word)) (r .state) and gainsFew (inTables tables))
           few h =
@@ -122,4 +131,4 @@ module _ (file : List ℕ) (r : Bare) (hr : r ≡ bareOf file) where
           by : (b : Bool) → wideIn file ≡ b
               → replayFrom (r .events) (gainsFor b (inTables tables)) (stateFor b (r .state)) 0 σ ≡ replayFrom (r .events) (inTables tables) (r .state) 0 σ
           by true h = refl
-          by false h = few-walk (inTables tables) (r .events) σ (r .state) fx fp fi (few h)
+          by false h = let f = bare-fits small in few-walk (inTables tables) (r .events) σ (r .state) (f .0) (f .1) (f .2) (few h)

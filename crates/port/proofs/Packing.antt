@@ -15,7 +15,6 @@ use Rattle.sets.specs.Sizes.{longestTrace}
 use Rattle.sets.proofs.Asking.{done-is, ask-stop}
 use Rattle.sets.specs.Tables.{noTables}
 use Rattle.engine.specs.Relations.{relationCount, inTables, graphOf, emptyGraph}
-use Rattle.sets.proofs.Members.{Fits}
 use Rattle.engine.specs.Few.{gainsFor, stateFor}
 use Rattle.engine.specs.Replay.{walkedOf, replayFrom, replayOf, steppedOf, steppedOn}
 use Rattle.engine.proofs.Acceptable.{stepped-on, replay-judged, replay-long, empty-judged}
@@ -190,15 +189,15 @@ module _ (file trace : List ℕ) (r : Bare) (hr : r ≡ bareOf file) (d : Bool) 
       ∙ sym (ap shown (file-done file r hr d hd true (not-false d h)))
 
   pub replay-run : (n : ℕ) (h : not d ≡ false) → Bytes file → (tables : List ℕ) → tables ≡ bareTables file (noTables relationCount)
-      → length trace ≤ longestTrace → (w : Bool) → w ≡ wideIn file → Fits (r .state .executed) → Fits (r .state .pending) → Fits (r .state .included)
+      → length trace ≤ longestTrace → (w : Bool) → w ≡ wideIn file
       → (p : Walked) → p ≡ walkedOf (replayFrom (r .events) (gainsFor w (inTables tables)) (stateFor w (r .state)) 0 trace) → n ≡ said p
       → n ≡ replayNumber file trace
   unfolding replayNumber
-  replay-run n h small tables ht l w hw fx fp fi p hp e =
+  replay-run n h small tables ht l w hw p hp e =
       e
       ∙ ap said
       (hp
-      ∙ ap walkedOf (bare-walk file r hr d hd h small tables ht w hw fx fp fi trace)
+      ∙ ap walkedOf (bare-walk file r hr d hd h small tables ht w hw trace)
       ∙ (λ j.
       walkedOf
       (replayFrom (bare-events file r hr d hd h j) (inTables (bare-relations file r hr d hd h tables ht j)) (bare-state file r hr d hd h j) 0 trace))
