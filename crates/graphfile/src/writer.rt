@@ -10,7 +10,7 @@ ghost use Rattle.engine.specs.Relations.{relationCount, graphOf};
 ghost use Rattle.bytes.specs.Editions.{editionFor};
 ghost use Rattle.graphfile.specs.Layout.{letters, wideFor, eventsPlace, entriesPlace, stateLength, entryLength, headLength, rowsLength};
 ghost use Rattle.graphfile.specs.Refusals.{mostRows};
-ghost use Rattle.graphfile.specs.Writing.{rowsFor, rowOf, rowCount, countsOf, Counted, totalOf, rowsBefore, relationBytes};
+ghost use Rattle.graphfile.specs.Writing.{rowsFor, rowOf, countFrom, rowCount, countsOf, Counted, totalOf, rowsBefore, relationBytes};
 ghost use Rattle.graphfile.specs.Writing.{entryBytes, entriesFor, stateBytes, headBytes, relationsBytes, bytesBy, writtenOf, fileAfter, unjudgedOf, unjudgedAfter};
 use crate::layout;
 use bytes::edition::edition_for;
@@ -62,12 +62,12 @@ fn rows_end(wide: bool) -> u8
     WORD
 }
 
-// How many rows of relation r are not empty, of those that the form has a place for.
-fn row_count(relations: &Relations, r: u8, wide: bool) -> usize
-    ensures { λ n. ⌜ n ≡ rowCount wide (tableAt (now (relations .entry)) r) ⌝ }
+// How many rows of relation r below an end are not empty.
+fn count_below(relations: &Relations, r: u8, end: u8) -> usize
+    requires { ⌜ end ≤ width ⌝ }
+    ensures { λ n. ⌜ n ≡ countFrom (tableAt (now (relations .entry)) r) end 0 ⌝ }
     ensures { λ n. ⌜ n ≤ width ⌝ }
 {
-    let end = rows_end(wide);
     let mut n = 0;
     let mut a: u8 = 0;
     while a < end {
@@ -75,6 +75,17 @@ fn row_count(relations: &Relations, r: u8, wide: bool) -> usize
         a += 1;
     }
     n
+}
+
+// Of those that the form has a place for. Each end is written out, so that the compiler has a loop of its own for it, with no test at each row whether it is there.
+fn row_count(relations: &Relations, r: u8, wide: bool) -> usize
+    ensures { λ n. ⌜ n ≡ rowCount wide (tableAt (now (relations .entry)) r) ⌝ }
+    ensures { λ n. ⌜ n ≤ width ⌝ }
+{
+    if wide {
+        return count_below(relations, r, Activity::LIMIT);
+    }
+    count_below(relations, r, WORD)
 }
 
 // How many rows of each relation the file has: what its length and its entries are made of, so that the rows are counted once.
