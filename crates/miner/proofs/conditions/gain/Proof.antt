@@ -14,4 +14,6 @@ unfolding gainedFor
 returns-2 c = unheld _ _ _ (sym (c .before .holds .ensures) ∙ c .if1 .left)
 
 pub gain-spec : {M : Type 1} → statement M
-gain-spec = tie.close (tie.spec (λ c κs. search needs) (λ c κs. search needs) returns returns-2)
+gain-spec {M} =
+    let told = tie.spec {M = M} (λ c κs. search needs) (λ c κs. search needs) returns returns-2 in
+    tie.close told

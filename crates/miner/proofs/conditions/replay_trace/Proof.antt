@@ -19,10 +19,10 @@ abbrev μ-loop : tie.MeasureT-loop
 μ-loop trace held wide first₀ unmet₀ seen₀ included₀ i₀ first unmet seen included i = length trace - i
 
 pub replay-trace-spec : {M : Type 1} → statement M
-replay-trace-spec =
-    tie.close
-    (tie.spec Inv-loop μ-loop (λ c κs. search needs) (λ c events h. replay-start _ _ _ _ _ _ _ _ h) (λ c. search needs) (λ c κs. search needs)
+replay-trace-spec {M} =
+    let told = tie.spec {M = M} Inv-loop μ-loop (λ c κs. search needs) (λ c events h. replay-start _ _ _ _ _ _ _ _ h) (λ c. search needs) (λ c κs. search needs)
     (λ c κs. search needs) (λ c κs. search needs) (λ c. search needs) (λ c. search needs)
     (λ c events h. replay-turn (c .before .before .before .before .before .before .before .loop .inv events h) (c .before .before .before .before .before .before .loop-test .taken)
     _ _ _ _ (c .before .before .before .before .included-after .ensures) (c .before .note-waiting .ensures) (c .and-then .ensures))
-    (λ c. replay-end (c .before .loop .inv _ (c .before .before .in-form .ensures)) (c .loop-test .left)))
+    (λ c. replay-end (c .before .loop .inv _ (c .before .before .in-form .ensures)) (c .loop-test .left)) in
+    tie.close told

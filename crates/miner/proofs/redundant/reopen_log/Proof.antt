@@ -26,10 +26,10 @@ returns-2 c =
     walk-end _ _ _ _ _ _ _ _ _ _ _ (start .before .before .below .ensures) (start .before .is-within .ensures) (start .loop .inv .1) (c .loop-test .left)
 
 pub reopen-log-spec : {M : Type 1} → statement M
-reopen-log-spec =
-    tie.close
-    (tie.spec Inv-loop μ-loop (λ c κs. search needs) (λ c κs. search needs) (λ c. (search needs, walk-start _ _ _ _ _ _)) (λ c κs. search needs)
+reopen-log-spec {M} =
+    let told = tie.spec {M = M} Inv-loop μ-loop (λ c κs. search needs) (λ c κs. search needs) (λ c. (search needs, walk-start _ _ _ _ _ _)) (λ c κs. search needs)
     returns
     (λ c κs. search needs) (λ c. search needs) (λ c κs. search needs) (λ c. search needs) loop-again
     (λ c κs. search needs) (λ c. search needs) (λ c. search (walk-next, needs))
-    returns-2)
+    returns-2 in
+    tie.close told

@@ -41,8 +41,8 @@ returns c =
     (λ l. ⊎-elim (λ w. not-false _ (w .1 .left)) (λ w. absurd (omega (arith, w .left))) (first .loop-test .came)))) (c .loop2-test .left)
 
 pub reopen-trace-spec : {M : Type 1} → statement M
-reopen-trace-spec =
-    tie.close
-    (tie.spec Inv-loop μ-loop Inv-loop2 μ-loop2 (λ c. reopen-start _ _ _ _ _) (λ c. search needs) (λ c. search needs) (λ c. search needs)
+reopen-trace-spec {M} =
+    let told = tie.spec {M = M} Inv-loop μ-loop Inv-loop2 μ-loop2 (λ c. reopen-start _ _ _ _ _) (λ c. search needs) (λ c. search needs) (λ c. search needs)
     loop-again (λ c u h. h) (λ c. search needs) (λ c κs. search needs) (λ c κs. search needs) (λ c κs. search needs)
-    (λ c κs. search needs) (λ c. search needs) (λ c. search needs) loop2-again returns)
+    (λ c κs. search needs) (λ c. search needs) (λ c. search needs) loop2-again returns in
+    tie.close told

@@ -12,4 +12,6 @@ unfolding reaches _or_
 returns-2 c = rw (c .before .if1 .left)
 
 pub holds-spec : {M : Type 1} → statement M
-holds-spec = tie.close (tie.spec returns returns-2)
+holds-spec {M} =
+    let told = tie.spec {M = M} returns returns-2 in
+    tie.close told

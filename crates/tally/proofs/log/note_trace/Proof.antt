@@ -24,10 +24,10 @@ passed wide form σ t one out blocks events seen r hw (hs, (hb, h1)) h2 h =
     rw hw (h ∙ those-of seen _ (λ a t. mem events a or t) hs, (hb, h2 ∙ ap (λ (x : List ℕ). backward (noteRestIn form) x [] σ) h1))
 
 pub note-trace-spec : {M : Type 1} → statement M
-note-trace-spec =
-    tie.close
-    (tie.spec (λ c κs. search needs) (λ c κs. search needs) (λ c κs. search needs)
+note-trace-spec {M} =
+    let told = tie.spec {M = M} (λ c κs. search needs) (λ c κs. search needs) (λ c κs. search needs)
     (λ c. passed _ true _ _ _ _ _ _ _ _ (search needs) (c .before .before .before .forward .ensures) (c .before .backward .ensures) (c .union .ensures))
     (λ c κs. search needs) (λ c κs. search needs) (λ c κs. search needs)
     (λ c. passed _ false _ _ _ _ _ _ _ _ (search needs) (c .before .before .before .forward-narrow .ensures) (c .before .backward2 .ensures)
-    (c .union2 .ensures)))
+    (c .union2 .ensures)) in
+    tie.close told

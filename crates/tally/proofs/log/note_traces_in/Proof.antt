@@ -61,7 +61,7 @@ returns c =
     (events-end _ _ _ _ _ _ (inv .a-set) over (inv .events-are), through-end (notedFor _) _ _ _ _ _ over (inv .left))
 
 pub note-traces-in-spec : {M : Type 1} → statement M
-note-traces-in-spec =
-    tie.close
-    (tie.spec Inv-loop μ-loop (λ c κs. search needs) (λ c. search (start, needs)) (λ c κs. search needs) (λ c κs. c .before .before .before .before .loop .inv .empty) (λ c. search needs) (λ c. search needs)
-    (λ c. search (turn, needs)) returns)
+note-traces-in-spec {M} =
+    let told = tie.spec {M = M} Inv-loop μ-loop (λ c κs. search needs) (λ c. search (start, needs)) (λ c κs. search needs) (λ c κs. c .before .before .before .before .loop .inv .empty) (λ c. search needs) (λ c. search needs)
+    (λ c. search (turn, needs)) returns in
+    tie.close told

@@ -15,8 +15,8 @@ looked-low : (s : Set) (e : ℕ) (r : Bool) → Whole s → r ≡ mem s e → r 
 looked-low s e r hs hr ht = whole-low s hs e (true→T (sym hr ∙ ht))
 
 pub note-since-spec : {M : Type 1} → statement M
-note-since-spec =
-    tie.close
-    (tie.spec (λ c κs. search needs) (λ c κs. search needs) (λ c κs. search needs) (λ c κs. search needs) (λ c. search (note-full, those-mem, needs))
+note-since-spec {M} =
+    let told = tie.spec {M = M} (λ c κs. search needs) (λ c κs. search needs) (λ c κs. search needs) (λ c κs. search needs) (λ c. search (note-full, those-mem, needs))
     (λ c κs. search needs) (λ c κs. (search needs, search (looked-low, those-mem, needs))) (λ c κs. search needs) (λ c κs. search needs)
-    (λ c κs. search needs) (λ c κs. search needs) (λ c. search (note-repeat, needs)) (λ c. search (note-first, needs)))
+    (λ c κs. search needs) (λ c κs. search needs) (λ c. search (note-repeat, needs)) (λ c. search (note-first, needs)) in
+    tie.close told

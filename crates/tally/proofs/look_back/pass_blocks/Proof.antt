@@ -35,9 +35,9 @@ loop-again c =
     )
 
 pub pass-blocks-spec : {M : Type 1} → statement M
-pass-blocks-spec =
-    tie.close
-    (tie.spec Inv-loop μ-loop (λ c. (search needs, search needs, λ past hb hl. look-start past _ _ _ (those-mem _ (search needs)) hl))
+pass-blocks-spec {M} =
+    let told = tie.spec {M = M} Inv-loop μ-loop (λ c. (search needs, search needs, λ past hb hl. look-start past _ _ _ (those-mem _ (search needs)) hl))
     (λ c. search needs) (λ c. search needs) (λ c κs. search needs) (λ c κs. search needs)
     (λ c past hb hl. look-passed (c .before .before .before .before .loop .inv .2 past hb hl)) (λ c κs. search needs) (λ c. search needs)
-    (λ c. search needs) loop-again (λ c past hb hl. look-passed (c .before .loop .inv .2 past hb hl)))
+    (λ c. search needs) loop-again (λ c past hb hl. look-passed (c .before .loop .inv .2 past hb hl)) in
+    tie.close told

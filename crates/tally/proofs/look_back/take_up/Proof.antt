@@ -25,11 +25,11 @@ loop-again c =
     )
 
 pub take-up-spec : {M : Type 1} → statement M
-take-up-spec =
-    tie.close
-    (tie.spec Inv-loop μ-loop (λ c. (omega arith, λ past hb hl. hb ∙ take-start past)) (λ c. search needs)
+take-up-spec {M} =
+    let told = tie.spec {M = M} Inv-loop μ-loop (λ c. (omega arith, λ past hb hl. hb ∙ take-start past)) (λ c. search needs)
     (λ c past hb hl.
     let at = c .before in
     at .before .loop .inv .1 past hb hl ∙ take-end past _ (λ i li far. omega (arith, c .if1 .taken, hl, far))) (λ c. search needs) (λ c κs. search needs)
     (λ c. search needs) (λ c. search needs) loop-again
-    (λ c past hb hl. c .before .loop .inv .1 past hb hl ∙ take-end past _ (λ i li far. absurd (omega (arith, c .loop-test .left, li, far)))))
+    (λ c past hb hl. c .before .loop .inv .1 past hb hl ∙ take-end past _ (λ i li far. absurd (omega (arith, c .loop-test .left, li, far)))) in
+    tie.close told

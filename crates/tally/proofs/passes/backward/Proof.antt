@@ -10,7 +10,7 @@ abbrev μ-loop : tie.MeasureT-loop
 μ-loop trace wide tally₀ after₀ next₀ i₀ tally after next i = i
 
 pub backward-spec : {M : Type 1} → statement M
-backward-spec =
-    tie.close
-    (tie.spec Inv-loop μ-loop (λ c. homeward-start _ _ _) (λ c. search needs) (λ c. search needs) (λ c κs. search needs) (λ c κs. search needs)
-    (λ c κs. search needs) (λ c κs. search needs) (λ c. search needs) (λ c. search (homeward-turn, needs)) (λ c. search (homeward-end, needs)))
+backward-spec {M} =
+    let told = tie.spec {M = M} Inv-loop μ-loop (λ c. homeward-start _ _ _) (λ c. search needs) (λ c. search needs) (λ c κs. search needs) (λ c κs. search needs)
+    (λ c κs. search needs) (λ c κs. search needs) (λ c. search needs) (λ c. search (homeward-turn, needs)) (λ c. search (homeward-end, needs)) in
+    tie.close told

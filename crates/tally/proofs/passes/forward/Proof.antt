@@ -13,9 +13,9 @@ abbrev μ-loop : tie.MeasureT-loop
 μ-loop trace blocks₀ tally₀ seen₀ last₀ i₀ blocks tally seen last i = length trace - i
 
 pub forward-spec : {M : Type 1} → statement M
-forward-spec =
-    tie.close
-    (tie.spec Inv-loop μ-loop (λ c. search (onward-start, needs)) (λ c. search needs) (λ c. search needs)
+forward-spec {M} =
+    let told = tie.spec {M = M} Inv-loop μ-loop (λ c. search (onward-start, needs)) (λ c. search needs) (λ c. search needs)
     (λ c. search needs) (λ c. search needs) (λ c κs. search (known, needs)) (λ c κs. search needs) (λ c κs. search needs) (λ c κs. search needs)
     (λ c. search needs) (λ c. search needs) (λ c. search (onward-turn, needs)) (λ c κs. search needs)
-    (λ c. onward-end (c .before .before .before .loop .inv) (c .before .before .loop-test .left) _ (c .take-up .ensures)))
+    (λ c. onward-end (c .before .before .before .loop .inv) (c .before .before .loop-test .left) _ (c .take-up .ensures)) in
+    tie.close told

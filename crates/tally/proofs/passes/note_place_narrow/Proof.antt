@@ -17,4 +17,6 @@ returns-2 c =
     (c .put-down2 .ensures (inBlock (now (a .past))) (search needs), search (place-left, high-unreached, needs))
 
 pub note-place-narrow-spec : {M : Type 1} → statement M
-note-place-narrow-spec = tie.close (tie.spec (λ c κs. search needs) (λ c κs. search needs) (λ c κs. search needs) (λ c κs. search needs) returns returns-2)
+note-place-narrow-spec {M} =
+    let told = tie.spec {M = M} (λ c κs. search needs) (λ c κs. search needs) (λ c κs. search needs) (λ c κs. search needs) returns returns-2 in
+    tie.close told
