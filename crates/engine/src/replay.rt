@@ -1,7 +1,10 @@
 // The replay of a trace (01, "A step").
 ghost use mathlib.Core.Path.{_≡_};
-ghost use lib.ListN.{drop};
-ghost use Rattle.engine.specs.Few.{fewIn, gainsFew};
+ghost use lib.Dec.{ltb};
+ghost use Rattle.sets.specs.Tests.{_and_, _or_};
+ghost use Rattle.sets.specs.Members.{word, those};
+ghost use Rattle.engine.specs.Few.{fewIn, gainsFew, fewGains, gainsFor, stateFor};
+ghost use Rattle.engine.specs.Judged.{stateWithin};
 ghost use Rattle.engine.specs.Relations.{inTables};
 ghost use Rattle.engine.specs.Steps.{after};
 ghost use Rattle.engine.specs.Replay.{walkedOf, replayFrom, replayOf};
@@ -41,18 +44,12 @@ pub struct Walked {
     pub accepting: bool,
 }
 
-// The rest of a trace on lent relations, from a state at a place.
-fn walk_on<'a>(
-    events: Set,
-    relations: &'a Relations,
-    from: State,
-    start: usize,
-    trace: &'a [u8],
-) -> Walked
-    ensures { λ r. ⌜ r ≡ walkedOf (replayFrom events (inTables (now (relations .entry))) from start (drop start (now (trace .entry)))) ⌝ }
+// A whole trace on lent relations, from a state.
+fn walk_wide<'a>(events: Set, relations: &'a Relations, opening: State, trace: &'a [u8]) -> Walked
+    ensures { λ r. ⌜ r ≡ walkedOf (replayFrom events (inTables (now (relations .entry))) opening 0 (now (trace .entry))) ⌝ }
 {
-    let mut s = from;
-    let mut at = start;
+    let mut s = opening;
+    let mut at: usize = 0;
     while at < trace.len() {
         let a = Activity(trace[at]);
         let answer = step::ask(events, relations, s, a);
@@ -75,13 +72,35 @@ fn walk_on<'a>(
     }
 }
 
-// Whether what a step adds to pending and included lies below 64.
-fn gains_few(relations: &Relations, a: Activity) -> bool
-    ensures { λ r. ⌜ r ≡ gainsFew (inTables (now (relations .entry))) (a .0) ⌝ }
+// What a step adds to pending and included.
+fn gained(relations: &Relations, a: Activity) -> Set
+    ensures { λ r. ⌜ r ≡ those (λ b. inTables (now (relations .entry)) .responses (a .0) b or inTables (now (relations .entry)) .includes (a .0) b) ⌝ }
 {
     let responses = tables::row(relations, RESPONSES, a);
-    let gained = responses.union(tables::row(relations, INCLUDES, a));
-    gained.is_within(Set::below(WORD))
+    responses.union(tables::row(relations, INCLUDES, a))
+}
+
+// Whether what the first 64 activities add lies below 64. All rows are joined before it is asked: so the compiler takes several at once.
+fn gains_few(relations: &Relations) -> bool
+    ensures { λ r. ⌜ r ≡ gainsFew (inTables (now (relations .entry))) ⌝ }
+{
+    let mut all = Set::EMPTY;
+    let mut i: u8 = 0;
+    while i < WORD {
+        all = all.union(gained(relations, Activity(i)));
+        i += 1;
+    }
+    all.is_within(Set::below(WORD))
+}
+
+// Whether a replay from a state stays below 64.
+fn is_few(relations: &Relations, opening: State) -> bool
+    ensures { λ r. ⌜ r ≡ (stateWithin (those (λ a. ltb a word)) opening and gainsFew (inTables (now (relations .entry)))) ⌝ }
+{
+    if !judge::state_within(Set::below(WORD), opening) {
+        return false;
+    }
+    gains_few(relations)
 }
 
 // What of the state after a step lies below 64.
@@ -91,10 +110,10 @@ fn next_few(relations: &Relations, s: State, a: Activity) -> State
     marking::few_in(step::next(relations, s, a))
 }
 
-// A whole trace on lent relations, from what of a state lies below 64. It is cut there after each step that gains nothing above, which changes
-// nothing, so that the loop goes on one word (02, 10/12).
+// The same from what of a state lies below 64 and with what steps add there: the state is cut after each step, so that
+// the loop goes on one word (02, 10/12).
 fn walk_few<'a>(events: Set, relations: &'a Relations, opening: State, trace: &'a [u8]) -> Walked
-    ensures { λ r. ⌜ r ≡ walkedOf (replayFrom events (inTables (now (relations .entry))) (fewIn opening) 0 (now (trace .entry))) ⌝ }
+    ensures { λ r. ⌜ r ≡ walkedOf (replayFrom events (fewGains (inTables (now (relations .entry)))) (fewIn opening) 0 (now (trace .entry))) ⌝ }
 {
     let mut s = marking::few_in(opening);
     let mut i: usize = 0;
@@ -108,9 +127,6 @@ fn walk_few<'a>(events: Set, relations: &'a Relations, opening: State, trace: &'
                 state: s,
                 accepting: false,
             };
-        }
-        if !gains_few(relations, a) {
-            return walk_on(events, relations, s, i, trace);
         }
         s = next_few(relations, s, a);
         i += 1;
@@ -127,10 +143,26 @@ fn walk_few<'a>(events: Set, relations: &'a Relations, opening: State, trace: &'
 pub fn walk<'a>(events: Set, relations: &'a Relations, opening: State, trace: &'a [u8]) -> Walked
     ensures { λ r. ⌜ r ≡ walkedOf (replayFrom events (inTables (now (relations .entry))) opening 0 (now (trace .entry))) ⌝ }
 {
-    if judge::state_within(Set::below(WORD), opening) {
+    if is_few(relations, opening) {
         return walk_few(events, relations, opening, trace);
     }
-    walk_on(events, relations, opening, 0, trace)
+    walk_wide(events, relations, opening, trace)
+}
+
+// The same in a form, for callers that know it, as a reader of a file does: of a graph with A up to 64 the narrow one leaves nothing out.
+pub fn walk_in<'a>(
+    events: Set,
+    relations: &'a Relations,
+    opening: State,
+    trace: &'a [u8],
+    wide: bool,
+) -> Walked
+    ensures { λ r. ⌜ r ≡ walkedOf (replayFrom events (gainsFor wide (inTables (now (relations .entry)))) (stateFor wide opening) 0 (now (trace .entry))) ⌝ }
+{
+    if wide {
+        return walk_wide(events, relations, opening, trace);
+    }
+    walk_few(events, relations, opening, trace)
 }
 
 // The same, with the marking. Its set of enabled activities is worked out once, at the end (02, 6/12).

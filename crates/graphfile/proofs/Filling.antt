@@ -6,6 +6,7 @@ use Prim.Native.Nat.{ℕ, suc, _+_, _-_, _≤_, _<_}
 use native.Mathlib.Nat.{sub-zero, add-zero}
 use native.Mathlib.Numerals.{add-one}
 use native.Mathlib.Omega.{arith}
+use borrow.Author.Tests.{not-true, not-false}
 use lib.ListN.{length}
 use Rattle.sets.specs.Tests.{when_then_else_}
 use Rattle.sets.specs.Members.{noSet}
@@ -28,7 +29,8 @@ use Rattle.graphfile.specs.Layout.{eventsPlace, headLength, eventsIn, st
 use Rattle.bytes.specs.Editions.{wideIn}
 use Rattle.graphfile.specs.Refusals.{rises, rowAnswer, judgedRow, judgedBeforeRows, judgedRelation, judgedFile}
 use Rattle.graphfile.specs.Held.{filled, withRelation, withRelations, relationsIn, graphIn, readOf, bareOf, bareTables}
-use Rattle.graphfile.proofs.Judging.{row-judged}
+use Rattle.graphfile.proofs.Judging.{row-judged, row-refused}
+use Rattle.graphfile.proofs.Forms.{events-found}
 use Rattle.graphfile.proofs.Accepted.{accepted}
 
 -- ---- row by row: what is left to fill in, filled in, gives the whole
@@ -58,17 +60,35 @@ module _ (bytes : List ℕ) (r : ℕ) where
 
 -- ---- row by row: judged, then put
 
-module _ (bytes : List ℕ) (first j key : ℕ) (events row : Set) (above : Bool) (a : Answer) (d : Bool) (he : events ≡ eventsIn bytes)
+-- where something is refused, nothing is said of the tables
+pub nothing-due : (a : Answer) (d : Bool) → d ≡ isDone a → not d ≡ true → {P : Type 0} → a ≡ Done → P
+nothing-due a d t n = never-done a a d refl t n
+
+module _ (key : ℕ) (events row : Set) (above t : Bool) (ht : t ≡ isDone (rowAnswer events key row above)) (a : Answer)
+    (ha : a ≡ rowAnswer events key row false) (n : not t ≡ true) where
+  refused-with : a ≡ rowAnswer events key row above
+  refused-with = ha ∙ row-refused events key row above t ht n
+
+  not-done : t ≡ isDone a
+  not-done = ht ∙ ap isDone (sym refused-with)
+
+  pub row-stops : {P : Type 0} → a ≡ Done → P
+  row-stops = nothing-due a t not-done n
+
+module _ (bytes : List ℕ) (first j key : ℕ) (events row : Set) (above t : Bool) (he : events ≡ eventsIn bytes)
     (hk : key ≡ keyIn bytes (first + j)) (hr : row ≡ rowIn bytes (first + j)) (hu : above ≡ rises bytes first j)
-    (ha : a ≡ rowAnswer events key row above) (hd : d ≡ isDone a) (f : firstRefusal j (judgedRow bytes first) ≡ Done) where
-  here : a ≡ judgedRow bytes first j
-  here = row-judged bytes first j key events row above a he hk hr hu ha
+    (ht : t ≡ isDone (rowAnswer events key row above)) (f : firstRefusal j (judgedRow bytes first) ≡ Done) where
+  here : rowAnswer events key row above ≡ judgedRow bytes first j
+  here = row-judged bytes first j key events row above he hk hr hu
 
-  pub take-stopped : (count : ℕ) → j < count → not d ≡ true → a ≡ firstRefusal count (judgedRow bytes first)
-  take-stopped count l n = turn-refused (judgedRow bytes first) j a d here hd f count l n
+  pub take-stopped : (a : Answer) (count : ℕ) → j < count → a ≡ rowAnswer events key row false → not t ≡ true
+      → a ≡ firstRefusal count (judgedRow bytes first)
+  take-stopped a count l ha n =
+      turn-refused (judgedRow bytes first) j a t (refused-with key events row above t ht a ha n ∙ here) (not-done key events row above t ht a ha n) f
+      count l n
 
-  pub take-passed : not d ≡ false → firstRefusal (j + 1) (judgedRow bytes first) ≡ Done
-  take-passed n = turn-passed (judgedRow bytes first) j a d here hd f n
+  pub take-passed : not t ≡ false → firstRefusal (j + 1) (judgedRow bytes first) ≡ Done
+  take-passed n = turn-passed (judgedRow bytes first) j (rowAnswer events key row above) t here ht f n
 
 pub ruleset taking = (turns-begin, turns-end, take-passed, take-stopped, fill-begin, fill-turn, fill-end)
 
@@ -105,10 +125,6 @@ module _ (bytes tables : List ℕ) where
     pub tables-all : r ≤ relationCount → relationCount ≤ r → Done ≡ Done → held ≡ withRelations bytes tables relationCount
     tables-all l g q = let same : r ≡ relationCount = omega arith in h ∙ ap (withRelations bytes tables) same
 
--- where a relation is refused, nothing is said of the tables
-pub nothing-due : (a : Answer) (d : Bool) → d ≡ isDone a → not d ≡ true → {P : Type 0} → a ≡ Done → P
-nothing-due a d t n = never-done a a d refl t n
-
 pub ruleset taking-relations = (turns, tables-none, tables-turn, tables-all)
 
 -- ---- the whole file
@@ -125,58 +141,71 @@ module _ (bytes : List ℕ) (a : Answer) (d : Bool) (e : a ≡ judgedBeforeRows 
 -- ---- what is read, by the answer
 
 module _ (bytes : List ℕ) (a : Answer) (d : Bool) (e : a ≡ judgedFile bytes) (t : d ≡ isDone a) where
-  reading : (b : Bool) (g : Graph) → d ≡ b → g ≡ when b then graphIn bytes else emptyGraph
-      → _≡_ {A = Reading} (record { answer = a; graph = g }) (readOf bytes)
-  unfolding readOf
-  reading b g q h =
-      let said : isDone (judgedFile bytes) ≡ b = ap isDone (sym e) ∙ sym t ∙ q in
-      λ i. record { answer = e i; graph = (h ∙ ap (λ (y : Bool). when y then graphIn bytes else emptyGraph) (sym said)) i }
+  said : (b : Bool) → d ≡ b → isDone (judgedFile bytes) ≡ b
+  said b q = ap isDone (sym e) ∙ sym t ∙ q
 
-  pub read-long : d ≡ true → headLength (wideIn bytes) ≤ length bytes
-  read-long y = accepted bytes (sym e ∙ done-is a (sym t ∙ y)) .long
-
-  pub read-refused : (tables : List ℕ) → d ≡ false → tables ≡ noTables relationCount
-      → _≡_ {A = Reading} (record { answer = a; graph = graphOf (headOf 0 noSet emptyMarking) tables }) (readOf bytes)
-  read-refused tables n h = reading false _ n (ap (graphOf (headOf 0 noSet emptyMarking)) h)
-
-  pub read-taken : (head : Head) (tables : List ℕ) → d ≡ true → head ≡ headIn bytes tables → (a ≡ Done → tables ≡ relationsIn bytes relationCount)
-      → _≡_ {A = Reading} (record { answer = a; graph = graphOf head tables }) (readOf bytes)
-  unfolding graphIn
-  read-taken head tables y hh ht = let done = done-is a (sym t ∙ y) in reading true _ y ((λ k. graphOf (hh k) tables) ∙ λ k. graphOf (headIn bytes (ht done k)) (ht done k))
-
-  -- the same without the set
   bare : (b : Bool) (events : Set) (s : State) → d ≡ b → events ≡ (when b then eventsIn bytes else noSet)
       → s ≡ (when b then stateIn bytes else emptyState) → _≡_ {A = Bare} (record { answer = a; events = events; state = s }) (bareOf bytes)
   unfolding bareOf
   bare b events s q he hs =
-      let said : isDone (judgedFile bytes) ≡ b = ap isDone (sym e) ∙ sym t ∙ q in
       λ i.
       record {
         answer = e i;
-        events = (he ∙ ap (λ (y : Bool). when y then eventsIn bytes else noSet) (sym said)) i;
-        state = (hs ∙ ap (λ (y : Bool). when y then stateIn bytes else emptyState) (sym said)) i;
+        events = (he ∙ ap (λ (y : Bool). when y then eventsIn bytes else noSet) (sym (said b q))) i;
+        state = (hs ∙ ap (λ (y : Bool). when y then stateIn bytes else emptyState) (sym (said b q))) i;
       }
 
   held : (b : Bool) (tables tables′ : List ℕ) → d ≡ b → tables′ ≡ (when b then withRelations bytes tables relationCount else noTables relationCount)
       → tables′ ≡ bareTables bytes tables
   unfolding bareTables
-  held b tables tables′ q h =
-      let said : isDone (judgedFile bytes) ≡ b = ap isDone (sym e) ∙ sym t ∙ q in
-      h ∙ ap (λ (y : Bool). when y then withRelations bytes tables relationCount else noTables relationCount) (sym said)
+  held b tables tables′ q h = h ∙ ap (λ (y : Bool). when y then withRelations bytes tables relationCount else noTables relationCount) (sym (said b q))
 
-  pub bare-refused : d ≡ false → _≡_ {A = Bare} (record { answer = a; events = noSet; state = emptyState }) (bareOf bytes)
-  bare-refused n = bare false noSet emptyState n refl refl
+  module _ (n : not d ≡ true) where
+    pub bare-refused : _≡_ {A = Bare} (record { answer = a; events = noSet; state = emptyState }) (bareOf bytes)
+    bare-refused = bare false noSet emptyState (not-true d n) refl refl
 
-  pub bare-cleared : (tables tables′ : List ℕ) → d ≡ false → tables′ ≡ noTables relationCount → tables′ ≡ bareTables bytes tables
-  bare-cleared tables tables′ n h = held false tables tables′ n h
+    pub bare-cleared : (tables tables′ : List ℕ) → tables′ ≡ noTables relationCount → tables′ ≡ bareTables bytes tables
+    bare-cleared tables tables′ h = held false tables tables′ (not-true d n) h
 
-  pub bare-filled : (tables tables′ : List ℕ) → d ≡ true → (a ≡ Done → tables′ ≡ withRelations bytes tables relationCount) → tables′ ≡ bareTables bytes tables
-  bare-filled tables tables′ y h = held true tables tables′ y (h (done-is a (sym t ∙ y)))
+  module _ (n : not d ≡ false) where
+    pub bare-filled : (tables tables′ : List ℕ) → (a ≡ Done → tables′ ≡ withRelations bytes tables relationCount) → tables′ ≡ bareTables bytes tables
+    bare-filled tables tables′ h = held true tables tables′ (not-false d n) (h (gone-on a a d refl t n))
 
-  -- as the code finds them, by the form
-  pub bare-found : (w : Bool) (events : Set) (s : State) → w ≡ wideIn bytes → d ≡ true → events ≡ setAt w bytes eventsPlace
-      → (w ≡ wideIn bytes → s ≡ stateIn bytes) → _≡_ {A = Bare} (record { answer = a; events = events; state = s }) (bareOf bytes)
-  bare-found w events s hw y he hs = bare true events s y (he ∙ ap (λ (b : Bool). setAt b bytes eventsPlace) hw) (hs hw)
+    -- as the code finds them, by the form
+    pub bare-found : (w : Bool) (events : Set) (s : State) → w ≡ wideIn bytes → events ≡ setAt w bytes eventsPlace → s ≡ stateIn bytes
+        → _≡_ {A = Bare} (record { answer = a; events = events; state = s }) (bareOf bytes)
+    bare-found w events s hw he hs = bare true events s (not-false d n) (events-found bytes w events hw he) hs
 
-  pub read-room : (w : Bool) → w ≡ wideIn bytes → d ≡ true → headLength w ≤ length bytes
-  read-room w hw y = subst (λ (b : Bool). headLength b ≤ length bytes) (sym hw) (read-long y)
+-- the same with the set
+module _ (bytes : List ℕ) (b : Bare) (e : b ≡ bareOf bytes) (d : Bool) (t : d ≡ isDone (b .answer)) where
+  answered : b .answer ≡ judgedFile bytes
+  unfolding bareOf
+  answered = ap (λ (x : Bare). x .answer) e
+
+  reading : (y : Bool) (g : Graph) → d ≡ y → g ≡ when y then graphIn bytes else emptyGraph
+      → _≡_ {A = Reading} (record { answer = b .answer; graph = g }) (readOf bytes)
+  unfolding readOf
+  reading y g q h =
+      λ i.
+      record {
+        answer = answered i;
+        graph = (h ∙ ap (λ (z : Bool). when z then graphIn bytes else emptyGraph) (sym (said bytes (b .answer) d answered t y q))) i;
+      }
+
+  kept : (y : Bool) → d ≡ y → bareTables bytes (noTables relationCount) ≡ (when y then relationsIn bytes relationCount else noTables relationCount)
+  unfolding bareTables
+  kept y q = ap (λ (z : Bool). when z then relationsIn bytes relationCount else noTables relationCount) (said bytes (b .answer) d answered t y q)
+
+  pub read-long : d ≡ true → headLength (wideIn bytes) ≤ length bytes
+  read-long y = accepted bytes (sym answered ∙ done-is (b .answer) (sym t ∙ y)) .long
+
+  module _ (tables : List ℕ) (h : tables ≡ bareTables bytes (noTables relationCount)) where
+    pub read-refused : d ≡ false → _≡_ {A = Reading} (record { answer = b .answer; graph = graphOf (headOf 0 noSet emptyMarking) tables }) (readOf bytes)
+    read-refused n = reading false _ n (ap (graphOf (headOf 0 noSet emptyMarking)) (h ∙ kept false n))
+
+    pub read-taken : (head : Head) → d ≡ true → head ≡ headIn bytes tables
+        → _≡_ {A = Reading} (record { answer = b .answer; graph = graphOf head tables }) (readOf bytes)
+    unfolding graphIn
+    read-taken head y hh =
+        let all = h ∙ kept true y in
+        reading true _ y ((λ k. graphOf (hh k) tables) ∙ λ k. graphOf (headIn bytes (all k)) (all k))

@@ -57,6 +57,9 @@ module _ (wide : Bool) (n : ℕ) (e : n ≡ setLength wide) where
   pub fits-events : 4 + n < 2 ^ 64
   fits-events = omega (arith, set-most wide)
 
+  pub fits-state : 4 + n + 3 * setLength wide < 2 ^ 64
+  fits-state = omega (arith, set-most wide)
+
   pub fits-entries : 4 + 4 * n < 2 ^ 64
   fits-entries = omega (arith, set-most wide)
 
@@ -66,7 +69,7 @@ module _ (wide : Bool) (n : ℕ) (e : n ≡ setLength wide) where
   pub fits-head : (m : ℕ) → m ≡ markingLength wide → 1 + n + m < 2 ^ 64
   fits-head m h = omega (arith, set-most wide)
 
-pub ruleset fitting = (fits-2, fits-3, fits-4, fits-8, fits-one, fits-events, fits-entries, entries-most, fits-head)
+pub ruleset fitting = (fits-2, fits-3, fits-4, fits-8, fits-one, fits-events, fits-state, fits-entries, entries-most, fits-head)
 
 module _ (wide : Bool) (n long : ℕ) (e : long ≡ rowsLength wide n) where
   pub place-fits : (head : ℕ) → n ≤ 65536 * relationCount → head ≤ 84 → head + long < 2 ^ 64
@@ -86,6 +89,14 @@ module _ (bytes : List ℕ) (w : Bool) (hw : w ≡ wideIn bytes) where
 
   pub offset-at : (p r x : ℕ) → p ≡ entriesPlace w → x ≡ numberAt numberLength bytes (p + 4 * r) → x ≡ offsetIn bytes r
   offset-at p r x hp h = h ∙ ap (λ (n : ℕ). numberAt numberLength bytes (n + 4 * r)) (hp ∙ ap entriesPlace hw)
+
+  -- both numbers of an entry are there
+  module _ (p r : ℕ) (hp : p ≡ entriesPlace w) (l : r < relationCount) (room : headLength (wideIn bytes) ≤ length bytes) where
+    pub count-room : p + 2 + 4 * r + numberLength ≤ length bytes
+    count-room = omega (arith, ap setLength hw)
+
+    pub offset-room : p + 4 * r + numberLength ≤ length bytes
+    offset-room = omega (arith, ap setLength hw)
 
   -- ---- a row
 
@@ -116,11 +127,11 @@ module _ (bytes : List ℕ) (w : Bool) (hw : w ≡ wideIn bytes) where
   pub head-long : (n : ℕ) → n ≡ headLength w → n ≤ length bytes → headLength (wideIn bytes) ≤ length bytes
   head-long n hn l = subst (λ (b : Bool). headLength b ≤ length bytes) hw (subst (λ (m : ℕ). m ≤ length bytes) hn l)
 
-  pub head-in-is : (tables : List ℕ) (events : Set) (st : State) (m : Marking) → events ≡ setAt w bytes eventsPlace → (w ≡ wideIn bytes → st ≡ stateIn bytes)
+  pub head-in-is : (tables : List ℕ) (events : Set) (st : State) (m : Marking) → events ≡ setAt w bytes eventsPlace → st ≡ stateIn bytes
       → m ≡ marked events (inTables tables) st → _≡_ {A = Head} (headOf (getD bytes activitiesPlace 0) events m) (headIn bytes tables)
   head-in-is tables events st m he hs hm =
       let ev = he ∙ ap (λ (b : Bool). setAt b bytes eventsPlace) hw in
-      λ i. headOf (getD bytes activitiesPlace 0) (ev i) ((hm ∙ (λ j. marked (ev j) (inTables tables) (hs hw j))) i)
+      λ i. headOf (getD bytes activitiesPlace 0) (ev i) ((hm ∙ (λ j. marked (ev j) (inTables tables) (hs j))) i)
 
 pub state-in-is : (bytes : List ℕ) (w : Bool) (n : ℕ) (s : State) → n ≡ setLength w → s ≡ stateAt w bytes (4 + n) → w ≡ wideIn bytes → s ≡ stateIn bytes
 state-in-is bytes w n s hn h hw = h ∙ ap (λ (k : ℕ). stateAt w bytes (4 + k)) hn ∙ ap (λ (b : Bool). stateAt b bytes (executedPlace b)) hw
@@ -176,4 +187,4 @@ events-found bytes w events hw h = h ∙ ap (λ (b : Bool). setAt b bytes events
 
 pub ruleset walking = (row-there, key-there, key-before, events-found)
 
-pub ruleset forms = (wide-by, form-by, count-at, offset-at, key-room, key-at, row-fits, row-room, row-at, head-room, head-long, head-in-is, state-in-is, marking-is, head-is, head-none, head-some, place-fits, file-fits, entry-fits)
+pub ruleset forms = (wide-by, form-by, count-at, offset-at, count-room, offset-room, key-room, key-at, row-fits, row-room, row-at, head-room, head-long, head-in-is, state-in-is, marking-is, head-is, head-none, head-some, place-fits, file-fits, entry-fits)

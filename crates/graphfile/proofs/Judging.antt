@@ -10,14 +10,15 @@ use lib.ListN.{length}
 use Rattle.sets.specs.Tests.{_or_, non, when_then_else_}
 use Rattle.sets.specs.Members.{mem, those, isEmpty, within}
 use Rattle.sets.specs.declared.set.Set.{Set}
+use Rattle.sets.specs.Answers.{isDone}
 use Rattle.sets.specs.declared.answer.Answer.{Answer}
 use Rattle.sets.specs.declared.answer.Answer.the-variants.{Done, TooShort, WrongLetters, AboveLimit, WrongOffset, Outside, BadRow}
+use Rattle.sets.proofs.Tests.{true→T, false→F}
 use Rattle.engine.specs.Judged.{stateWithin}
-use Rattle.bytes.specs.Sets.{setAt}
 use Rattle.bytes.specs.Editions.{editionIn, opensFile, beyond}
 use Rattle.engine.specs.declared.marking.State.{State}
 use Rattle.engine.specs.Relations.{relationCount}
-use Rattle.graphfile.specs.Layout.{letters, eventsPlace, headLength, rowsLength, activitiesIn, eventsIn, stateIn, offsetIn, countIn}
+use Rattle.graphfile.specs.Layout.{letters, headLength, rowsLength, activitiesIn, eventsIn, stateIn, offsetIn, countIn}
 use Rattle.bytes.specs.Editions.{wideIn}
 use Rattle.graphfile.specs.Layout.{earlierRows, keyIn, rowIn, endOf}
 use Rattle.graphfile.specs.Refusals.{mostRows, judgedSets, judgedHead, judgedEntry, judgedEnd, rises, rowAnswer, judgedRow}
@@ -117,13 +118,54 @@ module _ (events : Set) (key : ℕ) (row : Set) (above : Bool) (k : Bool) (hk : 
       unfolding rowAnswer _or_ non
       row-right n a = rw (← hk, not-false k yk, ← hw, not-false w yw, ← he, n, not-false above a)
 
-pub ruleset row-by-row = (row-no-event, row-outside, row-empty, row-falls, row-right)
+      -- the last test decides
+      pub right-above : e ≡ false → above ≡ isDone (rowAnswer events key row above)
+      right-above n = by above refl
+        where
+          by : (u : Bool) → above ≡ u → u ≡ isDone (rowAnswer events key row above)
+          by true h = ap isDone (row-right n (ap not h))
+          by false h = ap isDone (row-falls n (ap not h))
+
+      pub right-empty : e ≡ true → false ≡ isDone (rowAnswer events key row above)
+      right-empty n = ap isDone (row-empty n)
+
+    pub right-outside : not w ≡ true → false ≡ isDone (rowAnswer events key row above)
+    right-outside n = ap isDone (row-outside n)
+
+  pub right-no-event : not k ≡ true → false ≡ isDone (rowAnswer events key row above)
+  right-no-event n = ap isDone (row-no-event n)
+
+pub ruleset right-by-row = (right-no-event, right-outside, right-empty, right-above)
+
+-- where nothing is outside, a row whose key is not above is bad, empty or not
+pub row-bad : (events : Set) (key : ℕ) (row : Set) (k : Bool) → k ≡ mem events key → not k ≡ false → (w : Bool) → w ≡ within row events → not w ≡ false
+    → BadRow ≡ rowAnswer events key row false
+row-bad events key row k hk yk w hw yw = by (isEmpty row) refl
+  where
+    by : (e : Bool) → isEmpty row ≡ e → BadRow ≡ rowAnswer events key row false
+    by true h = row-empty events key row false k hk yk w hw yw (isEmpty row) refl h
+    by false h = row-falls events key row false k hk yk w hw yw (isEmpty row) refl h refl
+
+pub ruleset row-by-row = (row-no-event, row-outside, row-bad)
+
+-- a row that is refused is refused with the same where its key is taken not to be above
+pub row-refused : (events : Set) (key : ℕ) (row : Set) (above t : Bool) → t ≡ isDone (rowAnswer events key row above) → not t ≡ true
+    → rowAnswer events key row false ≡ rowAnswer events key row above
+unfolding rowAnswer _or_ non
+row-refused events key row false t h n = refl
+row-refused events key row true t h n =
+    by (non (mem events key) or non (within row events)) (isEmpty row) (sym h ∙ not-true t n)
+  where
+    by : (o e : Bool) → isDone (when o then Outside else when e or false then BadRow else Done) ≡ false
+        → (when o then Outside else when e or true then BadRow else Done) ≡ (when o then Outside else when e or false then BadRow else Done)
+    by true e q = refl
+    by false true q = refl
+    by false false q = absurd (false→F q (true→T refl))
 
 -- row j of a relation, read part by part
-pub row-judged : (bytes : List ℕ) (first j key : ℕ) (events row : Set) (above : Bool) (a : Answer) → events ≡ eventsIn bytes
-    → key ≡ keyIn bytes (first + j)
-    → row ≡ rowIn bytes (first + j) → above ≡ rises bytes first j → a ≡ rowAnswer events key row above → a ≡ judgedRow bytes first j
-row-judged bytes first j key events row above a he hk hr ha h = h ∙ (λ i. rowAnswer (he i) (hk i) (hr i) (ha i))
+pub row-judged : (bytes : List ℕ) (first j key : ℕ) (events row : Set) (above : Bool) → events ≡ eventsIn bytes → key ≡ keyIn bytes (first + j)
+    → row ≡ rowIn bytes (first + j) → above ≡ rises bytes first j → rowAnswer events key row above ≡ judgedRow bytes first j
+row-judged bytes first j key events row above he hk hr ha = λ i. rowAnswer (he i) (hk i) (hr i) (ha i)
 
 -- ---- the events and the marking
 
@@ -131,22 +173,19 @@ row-judged bytes first j key events row above a he hk hr ha h = h ∙ (λ i. row
 abbrev setsAnswer : Bool → Bool → Answer
 setsAnswer low within = when non low then Outside else when non within then Outside else Done
 
-module _ (bytes : List ℕ) (wide : Bool) (hw : wide ≡ wideIn bytes) (events low : Set) (t : Bool) (he : events ≡ setAt wide bytes eventsPlace)
-    (hb : low ≡ those (λ x. ltb x (activitiesIn bytes))) (ht : t ≡ within events low) where
-  events-are : events ≡ eventsIn bytes
-  events-are = he ∙ ap (λ (b : Bool). setAt b bytes eventsPlace) hw
-
+module _ (bytes : List ℕ) (events low : Set) (t : Bool) (he : events ≡ eventsIn bytes) (hb : low ≡ those (λ x. ltb x (activitiesIn bytes)))
+    (ht : t ≡ within events low) where
   sets-are : (e m : Bool) → t ≡ e → stateWithin (eventsIn bytes) (stateIn bytes) ≡ m → setsAnswer e m ≡ judgedSets bytes
   unfolding judgedSets
-  sets-are e m pe pm = λ i. setsAnswer ((sym pe ∙ ht ∙ ap₂ within events-are hb) i) (sym pm i)
+  sets-are e m pe pm = λ i. setsAnswer ((sym pe ∙ ht ∙ ap₂ within he hb) i) (sym pm i)
 
   pub sets-events : not t ≡ true → Outside ≡ judgedSets bytes
   unfolding non
   sets-events n = sets-are false _ (not-true t n) refl
 
-  module _ (nt : not t ≡ false) (state : State) (m : Bool) (hk : wide ≡ wideIn bytes → state ≡ stateIn bytes) (hm : m ≡ stateWithin events state) where
+  module _ (nt : not t ≡ false) (state : State) (m : Bool) (hs : state ≡ stateIn bytes) (hm : m ≡ stateWithin events state) where
     state-there : stateWithin (eventsIn bytes) (stateIn bytes) ≡ m
-    state-there = sym (hm ∙ ap₂ stateWithin events-are (hk hw))
+    state-there = sym (hm ∙ ap₂ stateWithin he hs)
 
     pub sets-marking : not m ≡ true → Outside ≡ judgedSets bytes
     unfolding non

@@ -11,7 +11,7 @@ use Rattle.sets.specs.declared.set.Set.{Set}
 use Rattle.engine.specs.declared.marking.State.{State}
 use Rattle.engine.specs.Markings.{stateOf}
 use Rattle.engine.specs.Relations.{relationCount}
-use Rattle.bytes.specs.Numbers.{valueOf, numberAt}
+use Rattle.bytes.specs.Numbers.{valueOf, numberLength, numberAt}
 use Rattle.bytes.specs.Sets.{wordLength, setLength, setThere, setAt}
 use Rattle.bytes.proofs.Parts.{part, meet, length-part, part-whole}
 use Rattle.bytes.proofs.SetLaws.{at-there, part-first, part-second}
@@ -19,7 +19,17 @@ use Rattle.graphfile.specs.Layout.{countIn, sumOf, earlierRows, stateAt,
 use Rattle.bytes.specs.Editions.{wideIn}
 use Rattle.graphfile.proofs.RowLengths.{rows-le}
 
--- ---- what the code cuts out for a set, from its place to its end, is all that is read
+-- ---- what the code cuts out for a number or a set, from its place to its end, is all that is read
+
+number-alone : (bytes : List ℕ) (at n : ℕ) → at + n ≤ length bytes → numberAt n (part bytes at n) 0 ≡ numberAt n bytes at
+unfolding numberAt
+number-alone bytes at n room = ap valueOf (part-whole (part bytes at n) n (length-part bytes at n room))
+
+pub number-cut : (bytes : List ℕ) (at x : ℕ) → at + numberLength ≤ length bytes
+    → x ≡ numberAt numberLength (take (at + numberLength - at) (drop at bytes)) 0 → x ≡ numberAt numberLength bytes at
+number-cut bytes at x room h =
+    let same : at + numberLength - at ≡ numberLength = omega arith in
+    h ∙ ap (λ (n : ℕ). numberAt numberLength (part bytes at n) 0) same ∙ number-alone bytes at numberLength room
 
 set-alone : (wide : Bool) (bytes : List ℕ) (at : ℕ) → at + setLength wide ≤ length bytes
     → setAt wide (part bytes at (setLength wide)) 0 ≡ setAt wide bytes at

@@ -72,6 +72,14 @@ end-wide wide w = ap mostRows (sym w)
 pub end-narrow : (wide : Bool) → wide ≡ false → 64 ≡ mostRows wide
 end-narrow wide w = ap mostRows (sym w)
 
+-- the rows below either end are those that the form has a place for
+module _ (wide : Bool) (rows : List ℕ) (n : ℕ) where
+  pub count-wide : wide ≡ true → n ≡ countFrom rows 128 0 → n ≡ rowCount wide rows
+  count-wide w h = h ∙ ap (λ (k : ℕ). countFrom rows k 0) (end-wide wide w)
+
+  pub count-narrow : wide ≡ false → n ≡ countFrom rows 64 0 → n ≡ rowCount wide rows
+  count-narrow w h = h ∙ ap (λ (k : ℕ). countFrom rows k 0) (end-narrow wide w)
+
 -- ---- one activity after the other
 
 module _ (rows : List ℕ) (most a : ℕ) (l : a < most) where
@@ -125,14 +133,14 @@ module _ (wide : Bool) (rows : List ℕ) (most : ℕ) (h : most ≡ mostRows wid
   all : most - 0 ≡ mostRows wide
   all = sub-zero most ∙ h
 
-  pub count-begin : 0 + countFrom rows (most - 0) 0 ≡ rowCount wide rows
-  count-begin = zero-add _ ∙ ap (λ (n : ℕ). countFrom rows n 0) all
-
   pub place-begin : (at : ℕ) → at + rowsLength wide (countFrom rows (most - 0) 0) ≡ at + rowsLength wide (rowCount wide rows)
   place-begin at = ap (λ (n : ℕ). at + rowsLength wide (countFrom rows n 0)) all
 
   pub rows-begin : (out : List ℕ) (at : ℕ) → sets out at (rowsFrom wide rows (most - 0) 0) ≡ sets out at (relationBytes wide rows)
   rows-begin out at = ap (λ (n : ℕ). sets out at (rowsFrom wide rows n 0)) all
+
+pub count-begin : (rows : List ℕ) (most : ℕ) → 0 + countFrom rows (most - 0) 0 ≡ countFrom rows most 0
+count-begin rows most = zero-add _ ∙ ap (λ (n : ℕ). countFrom rows n 0) (sub-zero most)
 
 pub count-end : (rows : List ℕ) (most a n whole : ℕ) → most ≤ a → n + countFrom rows (most - a) a ≡ whole → n ≡ whole
 unfolding countFrom

@@ -3,6 +3,7 @@ use mathlib.Core.Path.{_≡_, refl, sym, ap, _∙_}
 use mathlib.Core.Bool.{Bool, true, false}
 use mathlib.Core.List.{List, [], _∷_, _++_}
 use Prim.Native.Nat.{ℕ, zero, suc, _+_, _*_, _≤_, _<_}
+use native.Mathlib.Nat.{zero-add}
 use native.Mathlib.Numerals.{add-one}
 use native.Mathlib.Omega.{arith}
 use lib.ListN.{length, set, length-append}
@@ -24,7 +25,8 @@ use Rattle.bytes.proofs.NumberLaws.{number-stored, number-kept}
 use Rattle.bytes.proofs.SetLaws.{length-set, set-stored, set-kept}
 use Rattle.graphfile.specs.Layout.{letters, eventsPlace, executedPlace, stateLength, entriesPlace, entryLength, headLength, rowLength, rowsLength, sumOf}
 use Rattle.graphfile.specs.Refusals.{mostRows}
-use Rattle.graphfile.specs.Writing.{rowOf, rowsFor, rowsFrom, countFrom, rowCount, rowsBefore, entryBytes, entriesBytes}
+use Rattle.graphfile.specs.Writing.{rowOf, rowsFor, rowsFrom, countFrom, rowCount, countsOf, totalOf, rowsBefore, entryBytes, entriesFor, entriesBytes}
+use Rattle.graphfile.specs.declared.writer.Counts.{Counts}
 use Rattle.graphfile.specs.Writing.{stateBytes, headBytes, relationBytes, relationsBytes, bytesBy}
 use Rattle.bytes.specs.Editions.{editionFor}
 use Rattle.graphfile.proofs.RowLengths.{rows-none, rows-one, rows-add, rows-le}
@@ -142,33 +144,61 @@ module _ (wide : Bool) (o o₁ o₂ o₃ : List ℕ) where
       0 (entriesPlace wide) (headLength wide) (omega (arith, length-head wide (g .head))) (omega (arith, length-entries wide (g .relations) relationCount))
       h₁ h₂ h₃
 
+-- ---- the four entries
+
+pub counts-by : (wide : Bool) (tables : List ℕ) (a b c d : ℕ) → a ≡ rowCount wide (tableAt tables 0) → b ≡ rowCount wide (tableAt tables 1)
+    → c ≡ rowCount wide (tableAt tables 2) → d ≡ rowCount wide (tableAt tables 3)
+    → _≡_ {A = Counts} (record { conditions = a; responses = b; includes = c; excludes = d }) (countsOf wide tables)
+unfolding countsOf
+counts-by wide tables a b c d ha hb hc hd = λ i. record { conditions = ha i; responses = hb i; includes = hc i; excludes = hd i }
+
+-- what is added up relation by relation is what the code counted
+module _ (wide : Bool) (tables : List ℕ) (c : Counts) (hc : c ≡ countsOf wide tables) where
+  abbrev first : ℕ
+  first = rowCount wide (tableAt tables 0)
+
+  -- the sum begins with nothing
+  pub total-by : (n : ℕ) → n ≡ totalOf c → n ≡ rowsBefore wide tables relationCount
+  unfolding countsOf sumOf
+  total-by n h =
+      h ∙ ap totalOf hc
+      ∙ ap (λ (x : ℕ). x + rowCount wide (tableAt tables 1) + rowCount wide (tableAt tables 2) + rowCount wide (tableAt tables 3)) (sym (zero-add first))
+
+  pub entries-by : (out out′ : List ℕ) (at : ℕ) → out′ ≡ sets out at (entriesFor wide c) → out′ ≡ sets out at (entriesBytes wide tables relationCount)
+  unfolding countsOf entriesBytes sumOf
+  entries-by out out′ at h =
+      h ∙ ap (λ (x : Counts). sets out at (entriesFor wide x)) hc
+      ∙ ap
+      (λ (x : ℕ).
+      sets out at
+      (entryBytes wide 0 first ++ entryBytes wide x (rowCount wide (tableAt tables 1))
+      ++ entryBytes wide (x + rowCount wide (tableAt tables 1)) (rowCount wide (tableAt tables 2))
+      ++ entryBytes wide (x + rowCount wide (tableAt tables 1) + rowCount wide (tableAt tables 2)) (rowCount wide (tableAt tables 3))))
+      (sym (zero-add first))
+
+pub entries-stored : (wide : Bool) (c : Counts) (o o₁ o₂ o₃ o₄ : List ℕ) (at : ℕ) → at ≡ entriesPlace wide
+    → o₁ ≡ sets o at (entryBytes wide 0 (c .conditions))
+    → o₂ ≡ sets o₁ (at + 4) (entryBytes wide (c .conditions) (c .responses))
+    → o₃ ≡ sets o₂ (at + 8) (entryBytes wide (c .conditions + c .responses) (c .includes))
+    → o₄ ≡ sets o₃ (at + 12) (entryBytes wide (c .conditions + c .responses + c .includes) (c .excludes))
+    → o₄ ≡ sets o (entriesPlace wide) (entriesFor wide c)
+entries-stored wide c o o₁ o₂ o₃ o₄ at hp h₁ h₂ h₃ h₄ =
+    let first = entryBytes wide 0 (c .conditions) in
+    let second = entryBytes wide (c .conditions) (c .responses) in
+    let third = entryBytes wide (c .conditions + c .responses) (c .includes) in
+    follow o o₃ o₄ (first ++ second ++ third) _ at (at + 12) (simp (length-append, length-number) (omega arith))
+    (three o o₁ o₂ o₃ first second third at (at + 4) (at + 8) (omega (arith, length-entry wide 0 (c .conditions)))
+    (omega (arith, length-entry wide (c .conditions) (c .responses))) h₁ h₂ h₃) h₄
+    ∙ ap (λ (p : ℕ). sets o p (entriesFor wide c)) hp
+
 -- ---- relation after relation
 
 module _ (wide : Bool) (tables : List ℕ) (out₀ : List ℕ) where
-  pub entries-none : out₀ ≡ sets out₀ (entriesPlace wide) (entriesBytes wide tables 0)
-  unfolding entriesBytes
-  entries-none = refl
-
   pub relations-none : out₀ ≡ sets out₀ (headLength wide) (relationsBytes wide tables 0)
   unfolding relationsBytes
   relations-none = refl
 
   module _ (out : List ℕ) (r : ℕ) where
-    pub entries-turn : (out′ : List ℕ) (earlier count p : ℕ) → p ≡ entriesPlace wide → out ≡ sets out₀ (entriesPlace wide) (entriesBytes wide tables r)
-        → earlier ≡ rowsBefore wide tables r
-        → count ≡ rowCount wide (tableAt tables r) → out′ ≡ sets out (p + entryLength * r) (entryBytes wide earlier count)
-        → out′ ≡ sets out₀ (entriesPlace wide) (entriesBytes wide tables (r + 1))
-    unfolding entriesBytes
-    entries-turn out′ earlier count p hp h e c s =
-        follow out₀ out out′ (entriesBytes wide tables r) _ (entriesPlace wide) (p + entryLength * r)
-        (omega (arith, length-entries wide tables r)) h
-        (s ∙ (λ i. sets out (p + entryLength * r) (entryBytes wide (e i) (c i))))
-        ∙ ap (λ (n : ℕ). sets out₀ (entriesPlace wide) (entriesBytes wide tables n)) (sym (add-one r))
-
-    pub entries-all : r ≤ relationCount → relationCount ≤ r → out ≡ sets out₀ (entriesPlace wide) (entriesBytes wide tables r)
-        → out ≡ sets out₀ (entriesPlace wide) (entriesBytes wide tables relationCount)
-    entries-all a b h = let same : r ≡ relationCount = omega arith in h ∙ ap (λ (n : ℕ). sets out₀ (entriesPlace wide) (entriesBytes wide tables n)) same
-
     module _ (next : ℕ) (place : next ≡ headLength wide + rowsLength wide (rowsBefore wide tables r)) where
       pub relation-room : r < relationCount → headLength wide + rowsLength wide (rowsBefore wide tables relationCount) ≤ length out₀
           → length out ≡ length out₀ → next + rowsLength wide (rowCount wide (tableAt tables r)) ≤ length out
@@ -204,7 +234,5 @@ module _ (wide : Bool) (tables : List ℕ) (out₀ : List ℕ) where
 pub first-place : (wide : Bool) (tables : List ℕ) (n : ℕ) → n ≡ headLength wide → n ≡ headLength wide + rowsLength wide (rowsBefore wide tables 0)
 unfolding sumOf
 first-place wide tables n e = omega (arith, rows-none wide)
-
-pub ruleset each-entry = (entries-none, entries-turn, entries-all)
 
 pub ruleset each-relation = (first-place, relations-none, relation-room, place-turn, relations-turn, relations-all)

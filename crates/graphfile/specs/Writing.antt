@@ -1,11 +1,11 @@
 -- The file of a graph, and what a write gives and leaves in the buffer.
 use mathlib.Core.Bool.{Bool}
 use mathlib.Core.List.{List, [], _∷_, _++_}
-use Prim.Native.Nat.{ℕ, zero, suc, _+_, _*_}
+use Prim.Native.Nat.{ℕ, zero, suc, _+_, _*_, _≤_}
 use lib.Dec.{ltb}
 use lib.ListN.{length, drop}
 use Rattle.sets.specs.Tests.{when_then_else_}
-use Rattle.sets.specs.Members.{isEmpty}
+use Rattle.sets.specs.Members.{width, isEmpty}
 use Rattle.sets.specs.Rows.{rowAt}
 use Rattle.sets.specs.Tables.{tableAt}
 use Rattle.sets.specs.Answers.{isDone, thenAsk}
@@ -18,6 +18,7 @@ use Rattle.engine.specs.declared.graph.Graph.{Graph}
 use Rattle.engine.specs.Relations.{relationCount}
 use Rattle.engine.specs.Judged.{judged}
 use Rattle.graphfile.specs.declared.writer.Written.{Written}
+use Rattle.graphfile.specs.declared.writer.Counts.{Counts}
 use Rattle.bytes.specs.Numbers.{littleEndian, numberLength}
 use Rattle.bytes.specs.Sets.{setBytes}
 use Rattle.bytes.specs.Editions.{editionFor}
@@ -51,6 +52,22 @@ rowCount wide rows = countFrom rows (mostRows wide) 0
 abbrev pub rowsBefore : Bool → List ℕ → ℕ → ℕ
 rowsBefore wide tables r = sumOf (λ k. rowCount wide (tableAt tables k)) r
 
+-- as the code counts them, once for the file's length and its entries: each relation's rows, no more than a set has members; and all of them
+unfoldable pub countsOf : Bool → List ℕ → Counts
+countsOf wide tables =
+    record {
+      conditions = rowCount wide (tableAt tables 0);
+      responses = rowCount wide (tableAt tables 1);
+      includes = rowCount wide (tableAt tables 2);
+      excludes = rowCount wide (tableAt tables 3);
+    }
+
+abbrev pub Counted : Counts → Type 0
+Counted c = (c .conditions ≤ width) × (c .responses ≤ width) × (c .includes ≤ width) × (c .excludes ≤ width)
+
+abbrev pub totalOf : Counts → ℕ
+totalOf c = c .conditions + c .responses + c .includes + c .excludes
+
 -- an entry: the bytes of the earlier rows, and the number of rows
 abbrev pub entryBytes : Bool → ℕ → ℕ → List ℕ
 entryBytes wide earlier count = littleEndian numberLength (rowsLength wide earlier) ++ littleEndian numberLength count
@@ -59,6 +76,13 @@ entryBytes wide earlier count = littleEndian numberLength (rowsLength wide earli
 unfoldable pub entriesBytes : Bool → List ℕ → ℕ → List ℕ
 entriesBytes wide tables zero = []
 entriesBytes wide tables (suc r) = entriesBytes wide tables r ++ entryBytes wide (rowsBefore wide tables r) (rowCount wide (tableAt tables r))
+
+-- the four entries by such counts
+abbrev pub entriesFor : Bool → Counts → List ℕ
+entriesFor wide c =
+    entryBytes wide 0 (c .conditions) ++ entryBytes wide (c .conditions) (c .responses)
+    ++ entryBytes wide (c .conditions + c .responses) (c .includes)
+    ++ entryBytes wide (c .conditions + c .responses + c .includes) (c .excludes)
 
 -- the rows of the relations before r
 unfoldable pub relationsBytes : Bool → List ℕ → ℕ → List ℕ

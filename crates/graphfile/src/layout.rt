@@ -1,6 +1,6 @@
 // What stands where in a graph file, whose sets have 8 bytes or 16 by its edition (02, 10/12).
 ghost use mathlib.Core.Path.{_≡_};
-ghost use Prim.Native.Nat.{suc, _+_, _*_, _≤_, _<_};
+ghost use Prim.Native.Nat.{suc, _+_, _*_, _^_, _≤_, _<_};
 ghost use lib.ListN.{length};
 ghost use Rattle.graphfile.specs.Layout.{wideFor, entriesPlace, headLength, rowsLength, stateLength, stateAt, stateIn, markingAt};
 ghost use Rattle.bytes.specs.Editions.{wideIn};
@@ -8,6 +8,7 @@ ghost use Rattle.graphfile.specs.Layout.{headAt, headIn, offsetIn, count
 ghost use Rattle.graphfile.specs.Markings.{markingLength};
 ghost use Rattle.graphfile.specs.Heads.{loneHeadLength};
 ghost use Rattle.engine.specs.Relations.{relationCount};
+ghost use Rattle.bytes.specs.Numbers.{numberLength, numberAt};
 ghost use Rattle.bytes.specs.Sets.{setLength, setAt};
 use bytes::edition::WIDE;
 use bytes::edition::edition_for;
@@ -102,9 +103,18 @@ fn set_in(bytes: &[u8], at: usize, wide: bool) -> Set
     set_at(&bytes[at..end], 0, wide)
 }
 
-// What a file holds of a marking, from a place on: executed, pending, included.
+// A number whose bytes are there, in the same way.
+fn number_in(bytes: &[u8], at: usize) -> u16
+    requires { ⌜ at + numberLength ≤ length (now bytes) ⌝ }
+    ensures { λ r. ⌜ r ≡ numberAt numberLength (now (bytes .entry)) at ⌝ }
+{
+    let end = at + NUMBER;
+    number_at(&bytes[at..end], 0)
+}
+
+// What a file holds of a marking, from a place on: executed, pending, included. A set whose bytes are not there is empty.
 fn state_at(bytes: &[u8], at: usize, wide: bool) -> State
-    requires { ⌜ at + stateLength wide ≤ length (now bytes) ⌝ }
+    requires { ⌜ at + stateLength wide < 2 ^ 64 ⌝ }
     ensures { λ r. ⌜ r ≡ stateAt wide (now (bytes .entry)) at ⌝ }
 {
     let set = length(wide);
@@ -115,8 +125,8 @@ fn state_at(bytes: &[u8], at: usize, wide: bool) -> State
 }
 
 pub(crate) fn state_in(bytes: &[u8], wide: bool) -> State
-    requires { ⌜ headLength wide ≤ length (now bytes) ⌝ }
-    ensures { λ r. ⌜ (wide ≡ wideIn (now (bytes .entry)) → r ≡ stateIn (now (bytes .entry))) ⌝ }
+    requires { ⌜ wide ≡ wideIn (now bytes) ⌝ }
+    ensures { λ r. ⌜ r ≡ stateIn (now (bytes .entry)) ⌝ }
 {
     state_at(bytes, EVENTS + length(wide), wide)
 }
@@ -159,23 +169,27 @@ pub(crate) fn head_in(bytes: &[u8], relations: &Relations) -> Head
     }
 }
 
-pub(crate) fn offset_in(bytes: &[u8], r: usize) -> usize
+// What entry r says. The form is handed over here and below, so that whoever goes from entry to entry or from row to row asks for it once.
+pub(crate) fn offset_in(bytes: &[u8], r: usize, wide: bool) -> usize
+    requires { ⌜ wide ≡ wideIn (now bytes) ⌝ }
     requires { ⌜ (r < relationCount) × (headLength (wideIn (now bytes)) ≤ length (now bytes)) ⌝ }
     ensures { λ n. ⌜ n ≡ offsetIn (now (bytes .entry)) r ⌝ }
 {
-    number_at(bytes, entries_place(is_wide(bytes)) + ENTRY * r) as usize
+    number_in(bytes, entries_place(wide) + ENTRY * r) as usize
 }
 
-pub(crate) fn count_in(bytes: &[u8], r: usize) -> usize
+pub(crate) fn count_in(bytes: &[u8], r: usize, wide: bool) -> usize
+    requires { ⌜ wide ≡ wideIn (now bytes) ⌝ }
     requires { ⌜ (r < relationCount) × (headLength (wideIn (now bytes)) ≤ length (now bytes)) ⌝ }
     ensures { λ n. ⌜ n ≡ countIn (now (bytes .entry)) r ⌝ }
     ensures { λ n. ⌜ n < 65536 ⌝ }
 {
-    number_at(bytes, entries_place(is_wide(bytes)) + NUMBER + ENTRY * r) as usize
+    number_in(bytes, entries_place(wide) + NUMBER + ENTRY * r) as usize
 }
 
 // How many rows the relations before r have.
-pub(crate) fn earlier_rows(bytes: &[u8], r: usize) -> usize
+pub(crate) fn earlier_rows(bytes: &[u8], r: usize, wide: bool) -> usize
+    requires { ⌜ wide ≡ wideIn (now bytes) ⌝ }
     requires { ⌜ (r ≤ relationCount) × (headLength (wideIn (now bytes)) ≤ length (now bytes)) ⌝ }
     ensures { λ n. ⌜ n ≡ earlierRows (now (bytes .entry)) r ⌝ }
     ensures { λ n. ⌜ n ≤ 65536 * r ⌝ }
@@ -183,13 +197,13 @@ pub(crate) fn earlier_rows(bytes: &[u8], r: usize) -> usize
     let mut rows = 0;
     let mut i = 0;
     while i < r {
-        rows += count_in(bytes, i);
+        rows += count_in(bytes, i, wide);
         i += 1;
     }
     rows
 }
 
-// The key and the set of row k. The form is handed over, so that whoever goes from row to row asks for it once.
+// The key and the set of row k.
 pub(crate) fn key_in(bytes: &[u8], k: usize, wide: bool) -> u8
     requires { ⌜ wide ≡ wideIn (now bytes) ⌝ }
     requires { ⌜ (k ≤ 65536 * relationCount) × (rowPlace (now bytes) k < length (now bytes)) ⌝ }

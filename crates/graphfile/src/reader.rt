@@ -6,7 +6,7 @@ ghost use lib.ListN.{length};
 ghost use Rattle.sets.specs.Answers.{firstRefusal};
 ghost use Rattle.sets.specs.declared.answer.Answer.the-variants.{Done};
 ghost use Rattle.engine.specs.Relations.{relationCount};
-ghost use Rattle.graphfile.specs.Layout.{rowPlace, endOf};
+ghost use Rattle.graphfile.specs.Layout.{eventsIn, stateIn, rowPlace, endOf};
 ghost use Rattle.bytes.specs.Editions.{wideIn};
 ghost use Rattle.graphfile.specs.Refusals.{judgedRow, judgedRelation, judgedFile};
 ghost use Rattle.graphfile.specs.Held.{filled, withRelation, withRelations, bareOf, bareTables, readOf};
@@ -44,9 +44,8 @@ fn take_rows_narrow(bytes: &[u8], r: u8, count: usize, first: usize, held: &mut 
         let key = Activity(layout::key_in(bytes, first + j, false));
         let row = layout::row_in(bytes, first + j, false);
         let above = refusal::key_rises(bytes, first, j, false);
-        let answer = refusal::judge_row(events, key, row, above);
-        if !answer.is_done() {
-            return answer;
+        if !refusal::is_right(events, key, row, above) {
+            return refusal::refused_row(events, key, row);
         }
         tables::put(held, r, key, row);
         j += 1;
@@ -67,9 +66,8 @@ fn take_rows_wide(bytes: &[u8], r: u8, count: usize, first: usize, held: &mut Re
         let key = Activity(layout::key_in(bytes, first + j, true));
         let row = layout::row_in(bytes, first + j, true);
         let above = refusal::key_rises(bytes, first, j, true);
-        let answer = refusal::judge_row(events, key, row, above);
-        if !answer.is_done() {
-            return answer;
+        if !refusal::is_right(events, key, row, above) {
+            return refusal::refused_row(events, key, row);
         }
         tables::put(held, r, key, row);
         j += 1;
@@ -78,37 +76,47 @@ fn take_rows_wide(bytes: &[u8], r: u8, count: usize, first: usize, held: &mut Re
 }
 
 // The same of either.
-fn take_rows(bytes: &[u8], r: u8, count: usize, first: usize, held: &mut Relations) -> Answer
+fn take_rows(
+    bytes: &[u8],
+    r: u8,
+    count: usize,
+    first: usize,
+    held: &mut Relations,
+    wide: bool,
+) -> Answer
+    requires { ⌜ wide ≡ wideIn (now bytes) ⌝ }
     requires { ⌜ (first + count ≤ 65536 * relationCount) × (rowPlace (now bytes) (first + count) ≤ length (now bytes)) ⌝ }
     ensures { λ a. ⌜ a ≡ firstRefusal count (judgedRow (now (bytes .entry)) first) ⌝ }
     ensures { λ a. ⌜ (a ≡ Done → now (held .exit) ≡ filled (now (bytes .entry)) (now (held .entry)) r count first) ⌝ }
 {
-    if layout::is_wide(bytes) {
+    if wide {
         return take_rows_wide(bytes, r, count, first, held);
     }
     take_rows_narrow(bytes, r, count, first, held)
 }
 
 // The rows of relation r.
-fn take_relation(bytes: &[u8], r: u8, held: &mut Relations) -> Answer
+fn take_relation(bytes: &[u8], r: u8, held: &mut Relations, wide: bool) -> Answer
+    requires { ⌜ wide ≡ wideIn (now bytes) ⌝ }
     requires { ⌜ (r < relationCount) × (endOf (now bytes) ≤ length (now bytes)) ⌝ }
     ensures { λ a. ⌜ a ≡ judgedRelation (now (bytes .entry)) r ⌝ }
     ensures { λ a. ⌜ (a ≡ Done → now (held .exit) ≡ withRelation (now (bytes .entry)) (now (held .entry)) r) ⌝ }
 {
-    let first = layout::earlier_rows(bytes, r as usize);
-    let count = layout::count_in(bytes, r as usize);
-    take_rows(bytes, r, count, first, held)
+    let first = layout::earlier_rows(bytes, r as usize, wide);
+    let count = layout::count_in(bytes, r as usize, wide);
+    take_rows(bytes, r, count, first, held, wide)
 }
 
 // The four relations in turn.
-fn take_relations(bytes: &[u8], held: &mut Relations) -> Answer
+fn take_relations(bytes: &[u8], held: &mut Relations, wide: bool) -> Answer
+    requires { ⌜ wide ≡ wideIn (now bytes) ⌝ }
     requires { ⌜ endOf (now bytes) ≤ length (now bytes) ⌝ }
     ensures { λ a. ⌜ a ≡ firstRefusal relationCount (judgedRelation (now (bytes .entry))) ⌝ }
     ensures { λ a. ⌜ (a ≡ Done → now (held .exit) ≡ withRelations (now (bytes .entry)) (now (held .entry)) relationCount) ⌝ }
 {
     let mut r: u8 = 0;
     while r < KINDS {
-        let answer = take_relation(bytes, r, held);
+        let answer = take_relation(bytes, r, held, wide);
         if !answer.is_done() {
             return answer;
         }
@@ -117,16 +125,18 @@ fn take_relations(bytes: &[u8], held: &mut Relations) -> Answer
     Answer::Done
 }
 
-// All of a file: its answer, and the relations' tables; of a refused file they are of no use.
-fn take(bytes: &[u8], held: &mut Relations) -> Answer
+// All of a file, whose events and state have been read: its answer, and the relations' tables; of a refused file they are of no use.
+fn take(bytes: &[u8], events: Set, state: State, held: &mut Relations, wide: bool) -> Answer
+    requires { ⌜ wide ≡ wideIn (now bytes) ⌝ }
+    requires { ⌜ (events ≡ eventsIn (now bytes)) × (state ≡ stateIn (now bytes)) ⌝ }
     ensures { λ a. ⌜ a ≡ judgedFile (now (bytes .entry)) ⌝ }
     ensures { λ a. ⌜ (a ≡ Done → now (held .exit) ≡ withRelations (now (bytes .entry)) (now (held .entry)) relationCount) ⌝ }
 {
-    let answer = refusal::judge_before_rows(bytes);
+    let answer = refusal::judge_before_rows(bytes, events, state);
     if !answer.is_done() {
         return answer;
     }
-    take_relations(bytes, held)
+    take_relations(bytes, held, wide)
 }
 
 // What a read without the set of enabled activities gives, beside the relations: for callers that hand no marking on. Of a refused file nothing.
@@ -142,15 +152,17 @@ pub fn read_bare(bytes: &[u8], relations: &mut Relations) -> Bare
     ensures { λ r. ⌜ r ≡ bareOf (now (bytes .entry)) ⌝ }
     ensures { λ _. ⌜ now (relations .exit) ≡ bareTables (now (bytes .entry)) (now (relations .entry)) ⌝ }
 {
-    let mut events = Set::EMPTY;
-    let mut state = State::EMPTY;
-    let answer = take(bytes, relations);
-    if answer.is_done() {
-        let wide = layout::is_wide(bytes);
-        events = set_at(bytes, layout::EVENTS, wide);
-        state = layout::state_in(bytes, wide);
-    } else {
+    let wide = layout::is_wide(bytes);
+    let events = set_at(bytes, layout::EVENTS, wide);
+    let state = layout::state_in(bytes, wide);
+    let answer = take(bytes, events, state, relations, wide);
+    if !answer.is_done() {
         *relations = [0; KINDS as usize * WORDS];
+        return Bare {
+            answer,
+            events: Set::EMPTY,
+            state: State::EMPTY,
+        };
     }
     Bare {
         answer,
@@ -159,17 +171,16 @@ pub fn read_bare(bytes: &[u8], relations: &mut Relations) -> Bare
     }
 }
 
-// Reads a graph file. There is one way out, so that the tables are copied once: a refused file's are cleared.
+// Reads a graph file, and works the set out. There is one way out, so that the tables are copied once.
 pub fn read(bytes: &[u8]) -> Reading
     ensures { λ r. ⌜ r ≡ readOf (now (bytes .entry)) ⌝ }
 {
     let mut relations: Relations = [0; KINDS as usize * WORDS];
     let mut head = Head::EMPTY;
-    let answer = take(bytes, &mut relations);
+    let bare = read_bare(bytes, &mut relations);
+    let answer = bare.answer;
     if answer.is_done() {
         head = layout::head_in(bytes, &relations);
-    } else {
-        relations = [0; KINDS as usize * WORDS];
     }
     Reading {
         answer,

@@ -3,15 +3,15 @@ ghost use mathlib.Core.Path.{_≡_};
 ghost use Prim.Native.Nat.{_+_, _*_, _≤_, _<_};
 ghost use lib.ListN.{length};
 ghost use mathlib.Core.Bool.{false};
-ghost use Rattle.graphfile.specs.Layout.{headLength, rowPlace};
+ghost use Rattle.graphfile.specs.Layout.{headLength, eventsIn, stateIn, rowPlace};
 ghost use Rattle.bytes.specs.Editions.{wideIn};
 ghost use Rattle.engine.specs.Relations.{relationCount};
-ghost use Rattle.sets.specs.Answers.{firstRefusal};
+ghost use Rattle.sets.specs.Answers.{isDone, firstRefusal};
 ghost use Rattle.graphfile.specs.Refusals.{mostRows, judgedSets, judgedHead, judgedEntry, judgedEnd, judgedBeforeRows, rises, rowAnswer};
 use crate::layout;
 use bytes::edition;
 use bytes::set::length;
-use bytes::set_at;
+use engine::State;
 use engine::judge::state_within;
 use sets::Activity;
 use sets::Answer;
@@ -24,24 +24,24 @@ fn most_rows(wide: bool) -> usize
     8 * length(wide)
 }
 
-// The events and the marking of a file that has them.
-fn judge_sets(bytes: &[u8]) -> Answer
+// The events and the marking of a file that has them. Whoever reads the file reads both, and hands them over.
+fn judge_sets(bytes: &[u8], events: Set, state: State) -> Answer
     requires { ⌜ headLength (wideIn (now bytes)) ≤ length (now bytes) ⌝ }
+    requires { ⌜ (events ≡ eventsIn (now bytes)) × (state ≡ stateIn (now bytes)) ⌝ }
     ensures { λ r. ⌜ r ≡ judgedSets (now (bytes .entry)) ⌝ }
 {
-    let wide = layout::is_wide(bytes);
-    let events = set_at(bytes, layout::EVENTS, wide);
     if !events.is_within(Set::below(bytes[layout::ACTIVITIES])) {
         return Answer::Outside;
     }
-    if !state_within(events, layout::state_in(bytes, wide)) {
+    if !state_within(events, state) {
         return Answer::Outside;
     }
     Answer::Done
 }
 
-fn judge_head(bytes: &[u8]) -> Answer
+fn judge_head(bytes: &[u8], events: Set, state: State) -> Answer
     requires { ⌜ headLength false ≤ length (now bytes) ⌝ }
+    requires { ⌜ (events ≡ eventsIn (now bytes)) × (state ≡ stateIn (now bytes)) ⌝ }
     ensures { λ r. ⌜ r ≡ judgedHead (now (bytes .entry)) ⌝ }
 {
     if !edition::opens_file(&layout::LETTERS, bytes) {
@@ -53,7 +53,7 @@ fn judge_head(bytes: &[u8]) -> Answer
     if edition::is_beyond(edition::edition_in(bytes), bytes[layout::ACTIVITIES]) {
         return Answer::AboveLimit;
     }
-    judge_sets(bytes)
+    judge_sets(bytes, events, state)
 }
 
 fn judge_entry(bytes: &[u8], r: usize) -> Answer
@@ -61,10 +61,12 @@ fn judge_entry(bytes: &[u8], r: usize) -> Answer
     ensures { λ a. ⌜ a ≡ judgedEntry (now (bytes .entry)) r ⌝ }
 {
     let wide = layout::is_wide(bytes);
-    if most_rows(wide) < layout::count_in(bytes, r) {
+    if most_rows(wide) < layout::count_in(bytes, r, wide) {
         return Answer::AboveLimit;
     }
-    if layout::offset_in(bytes, r) != layout::rows_length(wide, layout::earlier_rows(bytes, r)) {
+    if layout::offset_in(bytes, r, wide)
+        != layout::rows_length(wide, layout::earlier_rows(bytes, r, wide))
+    {
         return Answer::WrongOffset;
     }
     Answer::Done
@@ -90,7 +92,7 @@ fn judge_end(bytes: &[u8]) -> Answer
     ensures { λ a. ⌜ a ≡ judgedEnd (now (bytes .entry)) ⌝ }
 {
     let wide = layout::is_wide(bytes);
-    let rows = layout::earlier_rows(bytes, layout::RELATIONS);
+    let rows = layout::earlier_rows(bytes, layout::RELATIONS, wide);
     let end = layout::head_length(wide) + layout::rows_length(wide, rows);
     if bytes.len() < end {
         return Answer::TooShort;
@@ -114,9 +116,25 @@ pub(crate) fn key_rises(bytes: &[u8], first: usize, j: usize, wide: bool) -> boo
     before < layout::key_in(bytes, first + j, wide)
 }
 
-// A row, by its key and its set: 5, then 6.
-pub(crate) fn judge_row(events: Set, key: Activity, row: Set, above: bool) -> Answer
-    ensures { λ a. ⌜ a ≡ rowAnswer events (key .0) row above ⌝ }
+// Whether a row is accepted, by its key and its set. It is asked by itself: the loop over the rows then carries no answer from row to row, and takes a tenth less.
+pub(crate) fn is_right(events: Set, key: Activity, row: Set, above: bool) -> bool
+    ensures { λ r. ⌜ r ≡ isDone (rowAnswer events (key .0) row above) ⌝ }
+{
+    if !events.has(key) {
+        return false;
+    }
+    if !row.is_within(events) {
+        return false;
+    }
+    if row.is_empty() {
+        return false;
+    }
+    above
+}
+
+// What a row that is not is refused with: 5, then 6.
+pub(crate) fn refused_row(events: Set, key: Activity, row: Set) -> Answer
+    ensures { λ a. ⌜ a ≡ rowAnswer events (key .0) row false ⌝ }
 {
     if !events.has(key) {
         return Answer::Outside;
@@ -124,23 +142,18 @@ pub(crate) fn judge_row(events: Set, key: Activity, row: Set, above: bool) -> An
     if !row.is_within(events) {
         return Answer::Outside;
     }
-    if row.is_empty() {
-        return Answer::BadRow;
-    }
-    if !above {
-        return Answer::BadRow;
-    }
-    Answer::Done
+    Answer::BadRow
 }
 
 // All that stands before the rows: the head, entry by entry, then the end.
-pub(crate) fn judge_before_rows(bytes: &[u8]) -> Answer
+pub(crate) fn judge_before_rows(bytes: &[u8], events: Set, state: State) -> Answer
+    requires { ⌜ (events ≡ eventsIn (now bytes)) × (state ≡ stateIn (now bytes)) ⌝ }
     ensures { λ a. ⌜ a ≡ judgedBeforeRows (now (bytes .entry)) ⌝ }
 {
     if bytes.len() < layout::head_length(false) {
         return Answer::TooShort;
     }
-    let head = judge_head(bytes);
+    let head = judge_head(bytes, events, state);
     if !head.is_done() {
         return head;
     }

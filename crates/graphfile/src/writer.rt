@@ -10,8 +10,8 @@ ghost use Rattle.engine.specs.Relations.{relationCount, graphOf};
 ghost use Rattle.bytes.specs.Editions.{editionFor};
 ghost use Rattle.graphfile.specs.Layout.{letters, wideFor, eventsPlace, entriesPlace, stateLength, entryLength, headLength, rowsLength};
 ghost use Rattle.graphfile.specs.Refusals.{mostRows};
-ghost use Rattle.graphfile.specs.Writing.{rowsFor, rowOf, rowCount, rowsBefore, relationBytes};
-ghost use Rattle.graphfile.specs.Writing.{entryBytes, entriesBytes, stateBytes, headBytes, relationsBytes, bytesBy, writtenOf, fileAfter, unjudgedOf, unjudgedAfter};
+ghost use Rattle.graphfile.specs.Writing.{rowsFor, rowOf, countFrom, rowCount, countsOf, Counted, totalOf, rowsBefore, relationBytes};
+ghost use Rattle.graphfile.specs.Writing.{entryBytes, entriesFor, stateBytes, headBytes, relationsBytes, bytesBy, writtenOf, fileAfter, unjudgedOf, unjudgedAfter};
 use crate::layout;
 use bytes::edition::edition_for;
 use bytes::number::LENGTH as NUMBER;
@@ -22,7 +22,11 @@ use engine::Graph;
 use engine::Head;
 use engine::Relations;
 use engine::State;
+use engine::graph::CONDITIONS;
+use engine::graph::EXCLUDES;
+use engine::graph::INCLUDES;
 use engine::graph::KINDS;
+use engine::graph::RESPONSES;
 use engine::judge::judge_for;
 use sets::Activity;
 use sets::Answer;
@@ -58,12 +62,12 @@ fn rows_end(wide: bool) -> u8
     WORD
 }
 
-// How many rows of relation r are not empty, of those that the form has a place for.
-fn row_count(relations: &Relations, r: u8, wide: bool) -> usize
-    ensures { λ n. ⌜ n ≡ rowCount wide (tableAt (now (relations .entry)) r) ⌝ }
+// How many rows of relation r below an end are not empty.
+fn count_below(relations: &Relations, r: u8, end: u8) -> usize
+    requires { ⌜ end ≤ width ⌝ }
+    ensures { λ n. ⌜ n ≡ countFrom (tableAt (now (relations .entry)) r) end 0 ⌝ }
     ensures { λ n. ⌜ n ≤ width ⌝ }
 {
-    let end = rows_end(wide);
     let mut n = 0;
     let mut a: u8 = 0;
     while a < end {
@@ -73,18 +77,48 @@ fn row_count(relations: &Relations, r: u8, wide: bool) -> usize
     n
 }
 
+// Of those that the form has a place for. Each end is written out, so that the compiler has a loop of its own for it, with no test at each row whether it is there.
+fn row_count(relations: &Relations, r: u8, wide: bool) -> usize
+    ensures { λ n. ⌜ n ≡ rowCount wide (tableAt (now (relations .entry)) r) ⌝ }
+    ensures { λ n. ⌜ n ≤ width ⌝ }
+{
+    if wide {
+        return count_below(relations, r, Activity::LIMIT);
+    }
+    count_below(relations, r, WORD)
+}
+
+// How many rows of each relation the file has: what its length and its entries are made of, so that the rows are counted once.
+struct Counts {
+    conditions: usize,
+    responses: usize,
+    includes: usize,
+    excludes: usize,
+}
+
+fn row_counts(relations: &Relations, wide: bool) -> Counts
+    ensures { λ c. ⌜ c ≡ countsOf wide (now (relations .entry)) ⌝ }
+    ensures { λ c. ⌜ Counted c ⌝ }
+{
+    let conditions = row_count(relations, CONDITIONS, wide);
+    let responses = row_count(relations, RESPONSES, wide);
+    let includes = row_count(relations, INCLUDES, wide);
+    let excludes = row_count(relations, EXCLUDES, wide);
+    Counts {
+        conditions,
+        responses,
+        includes,
+        excludes,
+    }
+}
+
 // How many rows the file has.
-fn row_total(relations: &Relations, wide: bool) -> usize
-    ensures { λ n. ⌜ n ≡ rowsBefore wide (now (relations .entry)) relationCount ⌝ }
+fn row_total(c: Counts) -> usize
+    requires { ⌜ Counted c ⌝ }
+    ensures { λ n. ⌜ n ≡ totalOf c ⌝ }
     ensures { λ n. ⌜ n ≤ width * relationCount ⌝ }
 {
-    let mut rows = 0;
-    let mut r: u8 = 0;
-    while r < KINDS {
-        rows += row_count(relations, r, wide);
-        r += 1;
-    }
-    rows
+    c.conditions + c.responses + c.includes + c.excludes
 }
 
 // Stores the row of an activity, if it is not empty, and gives the place after it.
@@ -166,25 +200,17 @@ fn put_entry(out: &mut [u8], at: usize, earlier: usize, count: usize, wide: bool
 }
 
 // Stores the four entries.
-fn put_entries(out: &mut [u8], relations: &Relations, wide: bool)
-    requires { ⌜ headLength wide ≤ length (now out) ⌝ }
-    ensures { λ _. ⌜ now (out .exit) ≡ sets (now (out .entry)) (entriesPlace wide) (entriesBytes wide (now (relations .entry)) relationCount) ⌝ }
+fn put_entries(out: &mut [u8], c: Counts, wide: bool)
+    requires { ⌜ (headLength wide ≤ length (now out)) × Counted c ⌝ }
+    ensures { λ _. ⌜ now (out .exit) ≡ sets (now (out .entry)) (entriesPlace wide) (entriesFor wide c) ⌝ }
 {
-    let entries = layout::entries_place(wide);
-    let mut earlier = 0;
-    let mut r: u8 = 0;
-    while r < KINDS {
-        let count = row_count(relations, r, wide);
-        put_entry(
-            out,
-            entries + layout::ENTRY * r as usize,
-            earlier,
-            count,
-            wide,
-        );
-        earlier += count;
-        r += 1;
-    }
+    let at = layout::entries_place(wide);
+    let two = c.conditions + c.responses;
+    let three = two + c.includes;
+    put_entry(out, at, 0, c.conditions, wide);
+    put_entry(out, at + layout::ENTRY, c.conditions, c.responses, wide);
+    put_entry(out, at + 2 * layout::ENTRY, two, c.includes, wide);
+    put_entry(out, at + 3 * layout::ENTRY, three, c.excludes, wide);
 }
 
 // Stores the rows of the four relations.
@@ -201,12 +227,13 @@ fn put_relations(out: &mut [u8], relations: &Relations, wide: bool)
 }
 
 // Stores the file of a graph, in either form.
-fn put_file(out: &mut [u8], head: Head, relations: &Relations, wide: bool)
+fn put_file(out: &mut [u8], head: Head, relations: &Relations, counts: Counts, wide: bool)
+    requires { ⌜ (counts ≡ countsOf wide (now relations)) × Counted counts ⌝ }
     requires { ⌜ headLength wide + rowsLength wide (rowsBefore wide (now relations) relationCount) ≤ length (now out) ⌝ }
     ensures { λ _. ⌜ now (out .exit) ≡ sets (now (out .entry)) 0 (bytesBy wide (graphOf head (now (relations .entry)))) ⌝ }
 {
     put_head(out, head, wide);
-    put_entries(out, relations, wide);
+    put_entries(out, counts, wide);
     put_relations(out, relations, wide);
 }
 
@@ -217,14 +244,15 @@ pub fn write_unjudged(head: Head, relations: &Relations, out: &mut [u8]) -> Writ
     ensures { λ _. ⌜ now (out .exit) ≡ unjudgedAfter (graphOf head (now (relations .entry))) (now (out .entry)) ⌝ }
 {
     let wide = layout::wide_for(head.activities);
-    let length = layout::head_length(wide) + layout::rows_length(wide, row_total(relations, wide));
+    let counts = row_counts(relations, wide);
+    let length = layout::head_length(wide) + layout::rows_length(wide, row_total(counts));
     if out.len() < length {
         return Written {
             answer: Answer::BufferTooSmall,
             length: 0,
         };
     }
-    put_file(out, head, relations, wide);
+    put_file(out, head, relations, counts, wide);
     Written {
         answer: Answer::Done,
         length,

@@ -15,7 +15,7 @@ use Rattle.rules.specs.Mining.{noPair, noRelations, event, _with_, precedes, an
 use Rattle.rules.specs.Mining.{step5, afterFive}
 use Rattle.steps.specs.Rowwise.{unbroken}
 use Rattle.tally.specs.Tallies.{tallied}
-use Rattle.tally.proofs.Somes.{eqb-sym}
+use Rattle.sets.proofs.Tests.{eqb-sym}
 use Rattle.tally.proofs.Tallying.{unpreceded-table, unanswered-table, unchained-table}
 use Rattle.miner.specs.Stages.{conditionsOf, responsesOf, chainsOf}
 use Rattle.miner.proofs.RowReadings.{unbroken-rows}

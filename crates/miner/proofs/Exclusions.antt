@@ -9,8 +9,8 @@ use lib.Dec.{T, eqb, eqb-refl}
 use Rattle.sets.specs.Tests.{_and_, _or_, non}
 use Rattle.sets.specs.Members.{width, mem, someBelow}
 use Rattle.sets.specs.Rows.{Relation, rowAt, inRow, rowsOf, rowsFor, turned}
-use Rattle.sets.proofs.Tests.{and-l, and-r, and-i, and-comm, nor, non-e, non-non, T-ext, T-eq, T→true, F→false, false→F}
-use Rattle.sets.proofs.Tautologies.{by2, by4, by5}
+use Rattle.sets.proofs.Tests.{and-l, and-r, and-i, and-comm, non-e, non-non, T-ext, T-eq, T→true, F→false}
+use Rattle.sets.proofs.Tautologies.{by2, by3, by4, by5}
 use Rattle.sets.proofs.Below.{some-ext}
 use Rattle.sets.proofs.Members.{mem-those}
 use Rattle.sets.proofs.RowLaws.{in-rowsOf, rowsOf-ext}
@@ -24,7 +24,7 @@ use Rattle.rules.specs.Mining.{afterFive, afterSix, afterSeven}
 use Rattle.steps.specs.Rowwise.{excludesItself, apart, closing, excluders, absent, inEither}
 use Rattle.tally.specs.Tallies.{tallied}
 use Rattle.tally.proofs.Tallying.{before-table, later-table, unalternated-table, followed-table}
-use Rattle.tally.proofs.LogLaws.{once, together-before}
+use Rattle.rules.proofs.LogLaws.{once, together-before}
 use Rattle.tally.proofs.Folds.{at-same}
 use Rattle.miner.specs.Facts.{reopened, doubted}
 use Rattle.miner.specs.Stages.{neverOf, fiveOf, excludesSix, followersOf, redundantBy, sevenFrom}
@@ -42,32 +42,26 @@ among x e f he hf = T-ext x (e and f and x) (λ t. and-i _ _ (and-i _ _ (he t) (
 
 in-events : (e x : Bool) (ev d : ℕ → Bool) → (e and (x or someBelow width (λ u. ev u and e and (false or d u))))
     ≡ (e and (x or someBelow width (λ u. ev u and d u)))
-unfolding _and_ _or_ non
-in-events false x ev d = refl
-in-events true x ev d =
-    ap (λ (b : Bool). x or b)
-    (some-ext width (λ u. ev u and true and (false or d u)) (λ u. ev u and d u)
-    (λ u l. by2 (λ v w. v and true and (false or w)) (λ v w. v and w) tt (ev u) (d u)))
+in-events e x ev d =
+    where-so e _ _ (λ t. ap (λ (b : Bool). x or b) (some-ext width _ _ (λ u l.
+    ap (λ (b : Bool). ev u and b and (false or d u)) (T→true e t)
+    ∙ by2 (λ v w. v and true and (false or w)) (λ v w. v and w) (unfold _and_ _or_ non in tt) (ev u) (d u))))
 
 two-others : (q a d d′ : Bool) → (q ≡ false → d ≡ d′) → (a and non q and d) ≡ (a and true and non q and d′)
 unfolding _and_ _or_ non
-two-others true a d d′ h = by4 (λ x z w v. x and false and z) (λ x z w v. x and true and false and w) tt a d d′ d
-two-others false a d d′ h = ap (λ (z : Bool). a and true and z) (h refl)
-    ∙ by2 (λ x z. x and true and z) (λ x z. x and true and true and z) tt a d′
+two-others true a d d′ h = by3 (λ x z w. x and false and z) (λ x z w. x and true and false and w) tt a d d′
+two-others false a d d′ h = by2 (λ x z. x and true and z) (λ x z. x and true and true and z) tt a d ∙ ap (λ (z : Bool). a and true and true and z) (h refl)
 
 -- two tests of events alone, joined
 pub joined : (e f g b : Bool) → g ≡ (e and f and g) → b ≡ (e and f and b) → (g or b) ≡ (e and f and (g or b))
-unfolding _and_ _or_ non
-joined true true g b hg hb = refl
-joined true false g b hg hb = nor _ _ hg hb
-joined false f g b hg hb = nor _ _ hg hb
+joined e f g b hg hb =
+    ap₂ _or_ hg hb ∙ by4 (λ e f g b. e and f and g or e and f and b) (λ e f g b. e and f and (g or b)) (unfold _and_ _or_ non in tt) e f g b
 
 -- pairs that join a relation among events
 one-more : (e f g p : Bool) → g ≡ (e and f and g) → (e and (g or e and (f and p))) ≡ (e and f and (g or p))
-unfolding _and_ _or_ non
-one-more true true g p h = refl
-one-more true false g p h = ap (λ (x : Bool). x or false) h
-one-more false f g p h = refl
+one-more e f g p h =
+    ap (λ (x : Bool). e and (x or e and (f and p))) h
+    ∙ by4 (λ e f g p. e and (e and f and g or e and (f and p))) (λ e f g p. e and f and (g or p)) (unfold _and_ _or_ non in tt) e f g p
 
 -- the test of the first event is one too many
 pub first-too : (e f g p : Bool) → g ≡ (e and f and g) → (e and (g and p)) ≡ (g and p)
@@ -170,18 +164,12 @@ module _ (L : Traces) where
       (among _ _ _ (λ h. and-r _ _ (and-l _ _ (and-l _ _ (and-l _ _ (and-l _ _ h)))))
       (λ h. and-l _ _ (and-l _ _ (and-l _ _ (and-l _ _ (and-l _ _ h)))))))
 
-  no-event : (s t : ℕ) → event L t ≡ false → false ≡ afterFive L .excludes s t
-  unfolding afterFive step5 _with_
-  no-event s t e = sym (F→false _ (λ h. false→F e (and-r _ _ (and-l _ _ h))))
-
   five-pair : (s t : ℕ) → s < width → t < width → (event L t and excluders (events L) earlier (rowsOf (before L)) chains t s)
       ≡ afterFive L .excludes s t
-  unfolding _and_
-  five-pair s t ls lt = by (event L t) refl
-    where
-      by : (b : Bool) → event L t ≡ b → (b and excluders (events L) earlier (rowsOf (before L)) chains t s) ≡ afterFive L .excludes s t
-      by true e = five-read t lt e s ls ∙ sym (excludes-after-five s t)
-      by false e = no-event s t e
+  unfolding afterFive step5 _with_
+  five-pair s t ls lt =
+      where-so (event L t) _ _ (λ e. five-read t lt (T→true _ e) s ls ∙ sym (excludes-after-five s t))
+      ∙ by3 (λ e f y. f and (e and f and y)) (λ e f y. e and f and y) (unfold _and_ _or_ non in tt) (event L s) (event L t) _
 
   pub excludes-five : fiveOf (events L) (tallied L) ≡ rowsOf (afterFive L .excludes)
   unfolding turned rowsFor

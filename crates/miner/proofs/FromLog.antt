@@ -29,7 +29,7 @@ use Rattle.miner.specs.Mine.{headedOf, minedOf}
 use Rattle.miner.specs.declared.mining.Headed.{Headed}
 use Rattle.miner.specs.declared.mining.Mined.{Mined}
 use Rattle.miner.proofs.PairForPair.{pair-for-pair}
-use Rattle.miner.proofs.InForm.{form-graph}
+use Rattle.miner.proofs.AtEvents.{form-graph}
 
 module _ (bytes : List ℕ) where
   abbrev L : Traces

@@ -2,9 +2,7 @@
 pub mod RowReadings
 pub mod EarlySteps
 pub mod Exclusions
-pub mod LaterSteps
 pub mod After
-pub mod LetIn
 pub mod Replaying
 pub mod OverLog
 pub mod Holding
@@ -16,4 +14,3 @@ pub mod Reopening
 pub mod Settling
 pub mod Given
 pub mod AtEvents
-pub mod InForm

@@ -8,14 +8,17 @@ use borrow.Author.Tests.{eqb-true}
 use lib.Dec.{T, eqb, eqb→eq, eqb-refl}
 use Rattle.sets.specs.Tests.{_and_, _or_, non, when_then_else_}
 use Rattle.sets.specs.Members.{width, mem, those, someBelow, leastBelow, isEmpty}
-use Rattle.sets.specs.Rows.{Relation, rowAt, withRow, inRow, rowsOf, rowsFor}
+use Rattle.sets.specs.Rows.{Relation, rowAt, withRow, inRow, rowsOf}
+use Rattle.sets.specs.Tables.{tableAt}
 use Rattle.sets.specs.declared.set.Set.{Set}
-use Rattle.sets.proofs.Tests.{and-l, and-r, and-i, T-ext, F→false, false→F, and-true, and-assoc, false-or, or-false, or-assoc}
-use Rattle.sets.proofs.Tautologies.{by2, by3}
+use Rattle.sets.proofs.Tests.{and-l, and-r, and-i, T-eq, T-ext, F→false, false→F, and-true, false-or, or-false, or-assoc}
+use Rattle.sets.proofs.Tautologies.{by3}
 use Rattle.sets.proofs.Below.{some-i, some-e, some-ext}
+use Rattle.sets.proofs.MadeSets.{is-those, is-row, joined}
 use Rattle.sets.proofs.RowLaws.{row-mem, in-rowsOf, put-rowsOf, rowsOf-ext}
+use Rattle.sets.proofs.TableLaws.{table-rowsOf}
 use Rattle.sets.proofs.Passing.{passed, Part, passed-none, passed-all, part-turn}
-use Rattle.tally.proofs.Somes.{some-passed}
+use Rattle.sets.proofs.Passing.{some-passed}
 use Rattle.tally.proofs.Folds.{at-same}
 use Rattle.miner.specs.Facts.{Less}
 
@@ -67,75 +70,81 @@ module _ (rows : List ℕ) where
           (ap (λ (n : ℕ). mem (rowAt (rowsOf r) n) x) (sym (eqb-true a k q)) ∙ row-mem r a x la lx)
       pick a x la lx false q = sym (and-true (r a x))
 
-  -- rows that are empty but for the members of a set, lost from the rows of its members
-  pub less-rows : (left gone : List ℕ) (F : Set) (G h : Relation) → gone ≡ rowsFor F G → Less rows (λ a x. mem F a and inRow gone a x) left
-      → ((r : Relation) → rows ≡ rowsOf r → Same (λ a x. r a x and non (mem F a and G a x)) (λ a x. r a x and non (h a x))) → Less rows h left
-  unfolding rowsFor
-  less-rows left gone F G h hg l e =
-      less-by left _ h
-      (λ r hr a x la lx.
-      ap (λ (b : Bool). r a x and non b)
-      (ap (λ (l : List ℕ). mem F a and inRow l a x) hg ∙ ap (λ (b : Bool). mem F a and b) (in-rowsOf _ a x la lx)
-      ∙ by2 (λ f g. f and (f and g)) (λ f g. f and g) (unfold _and_ _or_ non in tt) (mem F a) (G a x))
-      ∙ e r hr a x la lx) l
-
 -- ---- a loss for each member of a set, the least first
 
 module _ (P : ℕ → Relation) where
   -- what is gone by the members passed
-  abbrev pub byPassed : Set → Set → Relation
+  abbrev byPassed : Set → Set → Relation
   byPassed all rest a x = someBelow width (λ u. passed all rest u and P u a x)
 
-  module _ (rows : List ℕ) (all : Set) where
-    pub each-start : (Part all all) × Less rows (byPassed all all) rows
-    each-start = (
-      λ a l t. t,
-      less-none rows rows (byPassed all all) refl
-          (λ a x la lx. F→false _ (λ t. let u = some-e width _ t in false→F (passed-none all (u .0)) (and-l _ _ (u .2)))),
-    )
+  pub record Lost (rows : List ℕ) (all rest : Set) (left : List ℕ) : Type 0 where
+    pub part : Part all rest
+    pub less : Less rows (byPassed all rest) left
 
-    pub each-turn : (left left′ : List ℕ) (rest rest′ : Set) (k : ℕ) (r : Bool) → Part all rest → Less rows (byPassed all rest) left
-        → r ≡ isEmpty rest → not r ≡ true → k ≡ leastBelow width (mem rest) → Less left (P k) left′
-        → rest′ ≡ those (λ b. mem rest b and non (eqb b (leastBelow width (mem rest)))) → (Part all rest′) × Less rows (byPassed all rest′) left′
-    each-turn left left′ rest rest′ k r hp hl hr hn hk hs hm = (
-      part-turn rest rest′ r hr hn hm all hp,
-      less-as rows left′ _ _
-          (λ a x la lx.
-          sym (some-passed rest rest′ r hr hn hm all hp (λ u. P u a x) ∙ ap (λ (n : ℕ). byPassed all rest a x or P n a x) (sym hk)))
-          (less-more rows left left′ _ _ hl hs),
-    )
+  pub lost-start : (rows : List ℕ) (all : Set) → Lost rows all all rows
+  lost-start rows all =
+      record {
+        part = λ a l t. t;
+        less =
+            less-none rows rows (byPassed all all) refl
+            (λ a x la lx. F→false _ (λ t. let u = some-e width _ t in false→F (passed-none all (u .0)) (and-l _ _ (u .2))));
+      }
 
-    pub each-end : (left : List ℕ) (rest : Set) (r : Bool) → Less rows (byPassed all rest) left → r ≡ isEmpty rest → not r ≡ false
-        → Less rows (λ a x. someBelow width (λ u. mem all u and P u a x)) left
-    each-end left rest r hl hr hn =
-        less-as rows left _ _
-        (λ a x la lx. some-ext width _ _ (λ u l. ap (λ (b : Bool). b and P u a x) (passed-all all rest r hr hn u l))) hl
+  pub lost-turn : (rows left left′ : List ℕ) (all rest rest′ : Set) (k : ℕ) (r : Bool) → Lost rows all rest left → r ≡ isEmpty rest → not r ≡ true
+      → k ≡ leastBelow width (mem rest) → Less left (P k) left′ → rest′ ≡ those (λ b. mem rest b and non (eqb b (leastBelow width (mem rest))))
+      → Lost rows all rest′ left′
+  lost-turn rows left left′ all rest rest′ k r inv hr hn hk hs hm =
+      record {
+        part = part-turn rest rest′ r hr hn hm all (inv .part);
+        less =
+            less-as rows left′ _ _
+            (λ a x la lx.
+            sym (some-passed rest rest′ r hr hn hm all (inv .part) (λ u. P u a x) ∙ ap (λ (n : ℕ). byPassed all rest a x or P n a x) (sym hk)))
+            (less-more rows left left′ _ _ (inv .less) hs);
+      }
 
--- where a member's own row loses
-pub own-row : (p : ℕ → Bool) (a : ℕ) (q : Bool) → a < width → someBelow width (λ u. p u and (eqb a u and q)) ≡ (p a and q)
-own-row p a q l =
-    T-ext _ _
-    (λ t.
-    let u = some-e width (λ v. p v and (eqb a v and q)) t in
-    let same = eqb→eq a (u .0) (and-l _ _ (and-r _ _ (u .2))) in
-    and-i _ _ (subst (λ (n : ℕ). T (p n)) (sym same) (and-l _ _ (u .2))) (and-r _ _ (and-r _ _ (u .2))))
-    (λ t. some-i width (λ v. p v and (eqb a v and q)) a l (and-i _ _ (and-l _ _ t) (and-i _ _ (eqb-refl a) (and-r _ _ t))))
+  pub lost-end : (rows left : List ℕ) (all rest : Set) (r : Bool) → Lost rows all rest left → r ≡ isEmpty rest → not r ≡ false
+      → Less rows (λ a x. someBelow width (λ u. mem all u and P u a x)) left
+  lost-end rows left all rest r inv hr hn =
+      less-as rows left _ _
+      (λ a x la lx. some-ext width _ _ (λ u l. ap (λ (b : Bool). b and P u a x) (passed-all all rest r hr hn u l))) (inv .less)
 
--- row u of some rows, from row u
-abbrev pub ownRow : List ℕ → ℕ → Relation
-ownRow gone u a x = eqb a u and inRow gone a x
+-- where the row of each member loses what a relation says of it
+abbrev pub own : Relation → ℕ → Relation
+own p u a x = eqb a u and p a x
 
-pub own-turn : (gone rows left : List ℕ) (k : ℕ) (row : Set) → row ≡ rowAt gone k
-    → left ≡ withRow rows k (those (λ b. mem (rowAt rows k) b and non (mem row b))) → Less rows (ownRow gone k) left
-unfolding inRow _and_
-own-turn gone rows left k row hr hl =
-    less-as rows left _ _ (λ a x la lx. ap (λ (s : Set). eqb a k and mem s x) hr ∙ at-same a k (λ n. mem (rowAt gone n) x))
-    (less-row rows left k row hl)
+module _ (p : Relation) (rows left : List ℕ) where
+  pub own-row : (k : ℕ) (row : Set) → row ≡ those (p k) → left ≡ withRow rows k (those (λ b. mem (rowAt rows k) b and non (mem row b)))
+      → Less rows (own p k) left
+  own-row k row hr hl =
+      less-as rows left _ _ (λ a x la lx. ap (λ (b : Bool). eqb a k and b) (is-those row _ hr x lx) ∙ at-same a k (λ n. p n x)) (less-row rows left k row hl)
 
-pub own-end : (gone rows left : List ℕ) (all rest : Set) (r : Bool) → Less rows (byPassed (ownRow gone) all rest) left → r ≡ isEmpty rest
-    → not r ≡ false → Less rows (λ a x. mem all a and inRow gone a x) left
-own-end gone rows left all rest r hl hr hn =
-    less-as rows left _ _ (λ a x la lx. own-row (mem all) a (inRow gone a x) la) (each-end (ownRow gone) rows all left rest r hl hr hn)
+  pub own-end : (all rest : Set) (r : Bool) → Lost (own p) rows all rest left → r ≡ isEmpty rest → not r ≡ false
+      → Less rows (λ a x. mem all a and p a x) left
+  own-end all rest r inv hr hn =
+      less-as rows left _ _
+      (λ a x la lx.
+      T-ext _ (mem all a and p a x)
+      (λ t.
+      let u = some-e width (λ v. mem all v and (eqb a v and p a x)) t in
+      let same = eqb→eq a (u .0) (and-l _ _ (and-r _ _ (u .2))) in
+      and-i _ _ (subst (λ (n : ℕ). T (mem all n)) (sym same) (and-l _ _ (u .2))) (and-r _ _ (and-r _ _ (u .2))))
+      (λ t. some-i width (λ v. mem all v and (eqb a v and p a x)) a la (and-i _ _ (and-l _ _ t) (and-i _ _ (eqb-refl a) (and-r _ _ t)))))
+      (lost-end (own p) rows left all rest r inv hr hn)
+
+-- what a row of a member has, the union of their rows has
+pub in-union : (F : Set) (rows : List ℕ) (r : Relation) → rows ≡ rowsOf r → (a x : ℕ) → a < width → x < width → T (mem F a) → T (r a x)
+    → T (someBelow width (λ v. mem F v and inRow (tableAt rows 0) v x))
+in-union F rows r hr a x la lx m t =
+    some-i width (λ v. mem F v and inRow (tableAt rows 0) v x) a la
+    (and-i _ _ m (T-eq (sym (ap (λ (l : List ℕ). inRow (tableAt l 0) a x) hr ∙ ap (λ (l : List ℕ). inRow l a x) (table-rowsOf r) ∙ in-rowsOf r a x la lx)) t))
+
+-- what a row has of a set
+pub asked-row : (asked row both : Set) (rows : List ℕ) (k : ℕ) → row ≡ rowAt rows k → both ≡ those (λ x. mem asked x and mem row x)
+    → both ≡ those (λ x. mem asked x and inRow rows k x)
+asked-row asked row both rows k hr = joined _and_ asked row both _ _ (λ x l. refl) (is-row row rows k hr)
+
+pub ruleset losing = (lost-start, lost-turn, own-row)
 
 -- ---- a loss in turn after turn: what is gone so far, with what the turns to come will take, is the whole
 
@@ -158,10 +167,3 @@ module _ (rows : List ℕ) (whole : Relation) where
   pub toward-end : (left : List ℕ) (rest : Relation) → Toward rows rest whole left → Same rest (λ a x. false) → Less rows whole left
   toward-end left rest (g, l, e) s =
       less-as rows left g whole (λ a x la lx. sym (or-false (g a x)) ∙ ap (λ (b : Bool). g a x or b) (sym (s a x la lx)) ∙ e a x la lx) l
-
--- ---- rows that are empty but for the members of a set
-
-module _ (F : Set) (rows : List ℕ) (whole : Relation) where
-  pub less-for : (left : List ℕ) → Less rows whole left → (r : Relation) → rows ≡ rowsFor F r → left ≡ rowsFor F (λ a x. r a x and non (whole a x))
-  unfolding rowsFor
-  less-for left l r hr = l (λ a x. mem F a and r a x) hr ∙ rowsOf-ext _ _ (λ a x la lx. and-assoc (mem F a) (r a x) (non (whole a x)))

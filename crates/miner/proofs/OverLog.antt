@@ -14,63 +14,14 @@ use Rattle.sets.proofs.RowLaws.{row-mem, in-rowsOf}
 use Rattle.engine.specs.Relations.{Relations}
 use Rattle.rules.specs.Traces.{Traces, _has_, atSomeFrom, atSome, someTrace}
 use Rattle.rules.specs.Mining.{event, someEvent, before, followed, between, letInBetween, includedAfter, neverMissed}
-use Rattle.rules.proofs.Places.{some-at, has-first, has-rest, has-past, some-of, some-trace}
+use Rattle.rules.proofs.Places.{has-first, has-past, some-place, at-place, places-ext}
 use Rattle.rules.proofs.Why.{Small, some-event, the-event}
 use Rattle.rules.proofs.InTurn.{is-event}
+use Rattle.rules.proofs.LogLaws.{non-every, before-later, middle-event, later-event}
 use Rattle.miner.specs.Facts.{letIn, letInSince, reopened, doubted, stillIncluded, missed}
 use Rattle.tally.proofs.Folds.{heard}
 use Rattle.tally.specs.Passes.{isLater}
-use Rattle.tally.proofs.LogLaws.{non-every, before-later}
 use Rattle.sets.proofs.Tautologies.{by2}
-
--- ---- the places of a log where an activity stands
-
-module _ (u : ℕ) (p : List ℕ → List ℕ → Bool) where
-  place-of : (past rest : List ℕ) → T (atSomeFrom u p past rest)
-      → (q : List ℕ) × (s : List ℕ) × (reverseAux q (u ∷ s) ≡ reverseAux past rest) × T (p q s)
-  unfolding atSomeFrom
-  place-of past [] h = absurd h
-  place-of past (x ∷ rest) h =
-      either (or-e _ _ h)
-      (λ k. (past, rest, ap (λ (y : ℕ). reverseAux past (y ∷ rest)) (eqb→eq u x (and-l _ _ k)), and-r _ _ k))
-      (λ k. place-of (x ∷ past) rest k)
-
-  pub some-place : (L : Traces) → T (someTrace L (atSome u p))
-      → (past : List ℕ) × (rest : List ℕ) × List·Memᴰ (reverseAux past (u ∷ rest)) L × T (p past rest)
-  some-place L h =
-      let σ = some-trace L (atSome u p) h in
-      let k = place-of [] (σ .0) (σ .2) in
-      (k .0, k .1, subst (λ (τ : List ℕ). List·Memᴰ τ L) (sym (k .2)) (σ .1), k .3)
-
-  pub at-place : (L : Traces) (past rest : List ℕ) → List·Memᴰ (reverseAux past (u ∷ rest)) L → T (p past rest)
-      → T (someTrace L (atSome u p))
-  at-place L past rest m h = some-of (atSome u p) m (some-at u p past rest h)
-
-  -- what stands there is an event, and so is what stands later
-  pub place-event : (L : Traces) → T (someTrace L (atSome u p)) → T (event L u)
-  place-event L h = let k = some-place L h in is-event L u (k .2) (has-rest u (k .0) (u ∷ k .1) (has-first u (k .1)))
-
-  pub rest-event : (t : ℕ) → ((past rest : List ℕ) → T (p past rest) → T (rest has t)) → (L : Traces) → T (someTrace L (atSome u p)) → T (event L t)
-  unfolding _has_
-  rest-event t f L h = let k = some-place L h in is-event L t (k .2) (has-rest t (k .0) (u ∷ k .1) (or-r _ _ (f _ _ (k .3))))
-
-module _ (L : Traces) (s u t : ℕ) (h : T (between L s u t)) where
-  pub middle-event : T (event L u)
-  unfolding between
-  middle-event = place-event u _ L h
-
-  pub later-event : T (event L t)
-  unfolding between
-  later-event = rest-event u _ t (λ past rest k. and-r _ _ k) L h
-
--- two tests that agree at every place of the log where u stands
-pub places-ext : (L : Traces) (u : ℕ) (p q : List ℕ → List ℕ → Bool)
-    → ((past rest : List ℕ) → List·Memᴰ (reverseAux past (u ∷ rest)) L → p past rest ≡ q past rest)
-    → someTrace L (atSome u p) ≡ someTrace L (atSome u q)
-places-ext L u p q e =
-    T-ext _ _
-    (λ h. let k = some-place u p L h in at-place u q L (k .0) (k .1) (k .2) (T-eq (e (k .0) (k .1) (k .2)) (k .3)))
-    (λ h. let k = some-place u q L h in at-place u p L (k .0) (k .1) (k .2) (T-eq (sym (e (k .0) (k .1) (k .2))) (k .3)))
 
 module _ (L : Traces) where
   -- ---- step 6

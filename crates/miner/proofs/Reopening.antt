@@ -1,169 +1,191 @@
 -- One turn of the pass of step 7 over a trace, and over a log: what was let in since a u, and which pairs are lost. Assumes nothing.
-use mathlib.Core.Path.{_≡_, refl, sym, ap, ap₂, _∙_}
-use mathlib.Core.Bool.{Bool, true, false}
+use mathlib.Core.Path.{_≡_, refl, sym, ap, ap₂, _∙_, subst}
+use mathlib.Core.Bool.{Bool, true, false, not}
 use mathlib.Core.List.{List, [], _∷_}
 use Prim.Native.Nat.{ℕ, _+_, _-_, _≤_, _<_}
-use lib.Dec.{eqb}
+use borrow.Author.Tests.{not-true}
+use lib.Dec.{T, eqb, ltb}
 use lib.ListN.{length, getD, drop, drop-of-length-le}
 use Rattle.sets.specs.Tests.{_and_, _or_, non}
-use Rattle.sets.specs.Members.{width, mem, those, someBelow, isEmpty, noSet}
-use Rattle.sets.specs.Rows.{Relation, rowAt, withRow, inRow, rowsOf, rowsFor}
+use Rattle.sets.specs.Members.{width, word, mem, those, someBelow, within, isEmpty, noSet}
+use Rattle.sets.specs.Rows.{Relation, rowAt, withRow, inRow, rowsOf}
 use Rattle.sets.specs.Tables.{tableAt}
 use Rattle.sets.specs.declared.set.Set.{Set}
-use Rattle.sets.proofs.Tests.{and-l, and-r, and-i, or-l, non-i, non-e, T-eq, true→T, F→false, false→F, neither, and-false, true-and, or-false, or-comm}
-use Rattle.sets.proofs.Members.{those-ext, mem-those, empty-e}
-use Rattle.sets.proofs.Below.{some-i}
+use Rattle.sets.proofs.Tests.{and-l, and-r, and-i, T-eq, T→true, true→T, F→false, and-false, or-true, or-false}
+use Rattle.sets.proofs.Tautologies.{by3, by4}
+use Rattle.sets.proofs.Members.{those-ext, mem-those, mem-none, empty-e, within-e}
 use Rattle.sets.proofs.MadeSets.{is-those, is-row, none}
-use Rattle.sets.proofs.RowLaws.{in-rowsOf, rowsOf-ext}
-use Rattle.sets.proofs.TableLaws.{table-rowsOf}
+use Rattle.sets.proofs.RowLaws.{in-rowsOf}
 use Rattle.calllog.specs.Logs.{partAt}
 use Rattle.rules.specs.Traces.{Traces, _has_, atSomeFrom, someTrace}
-use Rattle.tally.specs.Passes.{walked}
-use Rattle.tally.proofs.Somes.{eqb-sym}
+use Rattle.tally.specs.Passes.{walked, reaches}
+use Rattle.sets.proofs.Tests.{eqb-sym}
 use Rattle.tally.proofs.Turns.{pastAt, past-next, rest-next}
 use Rattle.tally.proofs.Walks.{walked-next, walked-end, walked-start}
 use Rattle.miner.specs.Facts.{Less, letInSince, reopenedIn, reopened}
-use Rattle.miner.proofs.Losing.{Same, Toward, less-none, less-row, toward-start, toward-next, toward-end, less-for}
+use Rattle.miner.proofs.Losing.{Toward, less-none, less-row, toward-start, toward-next, toward-end, in-union}
 
-module _ (includes : List ℕ) (u : ℕ) where
-  -- the set of what was let in
-  abbrev pub sinceIn : List ℕ → Set
-  sinceIn past = those (letInSince includes u past)
+module _ (wide : Bool) (includes : List ℕ) (u : ℕ) where
+  -- what was let in, and what the places from here on say, as far as the form holds it
+  abbrev sinceIn : List ℕ → ℕ → Bool
+  sinceIn past x = reaches wide x and letInSince includes u past x
 
-  -- before a u nothing was
-  not-yet : (past : List ℕ) → past has u ≡ false → (x : ℕ) → letInSince includes u past x ≡ false
-  unfolding letInSince _has_ _or_ _and_
-  not-yet [] n x = refl
-  not-yet (y ∷ past) n x =
-      let none-farther = neither (eqb u y) (past has u) n .1 in
-      ap₂ (λ (b c : Bool). b or c and inRow includes y x) (not-yet past none-farther x) none-farther
+  abbrev toCome : List ℕ → List ℕ → Relation
+  toCome past rest a x = reaches wide x and atSomeFrom a (λ q s. letInSince includes u q x) past rest
 
-  pub since-none : noSet ≡ sinceIn []
-  unfolding letInSince
-  since-none = none (letInSince includes u []) (λ x l. refl)
+  module _ (σ rows₀ : List ℕ) where
+    -- before place i: what was let in, whether a u has come, and what is lost so far
+    pub record Reopens (begun : Bool) (since : Set) (i : ℕ) (rows : List ℕ) : Type 0 where
+      pub kept : i < length σ → (since ≡ those (sinceIn (pastAt σ i))) × (pastAt σ i has u ≡ begun)
+      pub lost : Toward rows₀ (toCome (pastAt σ i) (drop i σ)) (toCome [] σ) rows
 
-  -- what the places from here on say
-  abbrev pub toCome : List ℕ → List ℕ → Relation
-  toCome past rest a x = atSomeFrom a (λ q s. letInSince includes u q x) past rest
+    pub reopen-start : Reopens false noSet 0 rows₀
+    unfolding letInSince _has_
+    reopen-start =
+        record {
+          kept = λ l. (none (sinceIn []) (λ x l. and-false (reaches wide x)), refl);
+          lost = toward-start rows₀ _ _ (λ a x la lx. refl);
+        }
 
-  module _ (σ : List ℕ) (i : ℕ) (h : i < length σ) (since : Set) (hs : since ≡ sinceIn (pastAt σ i)) where
-    abbrev e : ℕ
-    e = getD σ i 0
+    module _ (begun : Bool) (since : Set) (i : ℕ) (rows : List ℕ) (inv : Reopens begun since i rows) where
+      module _ (h : i < length σ) where
+        abbrev e : ℕ
+        e = getD σ i 0
 
-    come-next : Same (toCome (pastAt σ i) (drop i σ)) (λ a x. eqb a e and mem since x or toCome (pastAt σ (i + 1)) (drop (i + 1) σ) a x)
-    unfolding atSomeFrom
-    come-next a x la lx =
-        ap (λ (l : List ℕ). toCome (pastAt σ i) l a x) (rest-next σ i h)
-        ∙ ap₂ (λ (b : Bool) (l : List ℕ). eqb a e and b or toCome l (drop (i + 1) σ) a x)
-        (sym (is-those since (letInSince includes u (pastAt σ i)) hs x lx)) (sym (past-next σ i h))
+        same-since : (x : ℕ) → x < width → mem since x ≡ sinceIn (pastAt σ i) x
+        same-since = is-those since (sinceIn (pastAt σ i)) (inv .kept h .0)
 
-    has-next : pastAt σ (i + 1) has u ≡ (eqb u e or pastAt σ i has u)
-    unfolding _has_
-    has-next = ap (λ (l : List ℕ). l has u) (past-next σ i h)
+        place : (since′ : Set) (rows′ : List ℕ) → since′ ≡ those (λ x. reaches wide x and (mem since x or begun and inRow includes e x))
+            → Less rows (λ a x. eqb a e and mem since x) rows′ → Reopens (eqb u e or begun) since′ (i + 1) rows′
+        unfolding letInSince _has_ atSomeFrom
+        place since′ rows′ hs hl =
+            record {
+              kept = λ l. (
+                hs
+                    ∙ those-ext _ (sinceIn (e ∷ pastAt σ i))
+                    (λ x l.
+                    ap₂ (λ (m b : Bool). reaches wide x and (m or b and inRow includes e x)) (same-since x l) (sym (inv .kept h .1))
+                    ∙ by3 (λ r s k. r and (r and s or k)) (λ r s k. r and (s or k)) (unfold _and_ _or_ non in tt)
+                    (reaches wide x) (letInSince includes u (pastAt σ i) x) (pastAt σ i has u and inRow includes e x))
+                    ∙ ap (λ (l : List ℕ). those (sinceIn l)) (sym (past-next σ i h)),
+                ap (λ (l : List ℕ). l has u) (past-next σ i h) ∙ ap (λ (b : Bool). eqb u e or b) (inv .kept h .1),
+              );
+              lost =
+                  toward-next rows₀ _ rows rows′ _ _ _ (inv .lost) hl
+                  (λ a x la lx.
+                  ap (λ (l : List ℕ). toCome (pastAt σ i) l a x) (rest-next σ i h)
+                  ∙ by4 (λ r q s k. r and (q and s or k)) (λ r q s k. q and (r and s) or r and k) (unfold _and_ _or_ non in tt)
+                  (reaches wide x) (eqb a e) (letInSince includes u (pastAt σ i) x) _
+                  ∙ ap₂ (λ (b : Bool) (l : List ℕ). eqb a e and b or toCome l (drop (i + 1) σ) a x) (sym (same-since x lx)) (sym (past-next σ i h)));
+            }
 
-    -- what is kept after the place, where a u had come
-    module _ (begun : Bool) (hb : begun ≡ pastAt σ i has u) (yes : begun ≡ true) where
-      pub begun-still : begun ≡ pastAt σ (i + 1) has u
-      unfolding _or_
-      begun-still = yes ∙ sym (has-next ∙ ap (λ (b : Bool). eqb u e or b) (sym hb ∙ yes) ∙ or-comm (eqb u e) true)
+      pub reopen-end : length σ ≤ i → Less rows₀ (λ a x. reaches wide x and reopenedIn includes u σ a x) rows
+      unfolding atSomeFrom
+      reopen-end h =
+          toward-end rows₀ _ rows _ (inv .lost)
+          (λ a x la lx. ap (λ (l : List ℕ). toCome (pastAt σ i) l a x) (drop-of-length-le σ h) ∙ and-false (reaches wide x))
 
-      pub since-more : (row since′ : Set) → row ≡ rowAt includes e → since′ ≡ those (λ x. mem since x or mem row x) → since′ ≡ sinceIn (pastAt σ (i + 1))
-      unfolding letInSince
-      since-more row since′ hr h′ =
-          h′
-          ∙ those-ext _ (letInSince includes u (e ∷ pastAt σ i))
-          (λ x l.
-          ap₂ _or_ (is-those since _ hs x l)
-          (is-row row includes e hr x l ∙ sym (true-and (inRow includes e x)) ∙ ap (λ (b : Bool). b and inRow includes e x) (sym yes ∙ hb)))
-          ∙ ap sinceIn (sym (past-next σ i h))
+    -- a place before which no u has come
+    pub reopen-skip : (begun : Bool) (i : ℕ) (rows : List ℕ) → Reopens begun noSet i rows → i < length σ → not begun ≡ true
+        → Reopens (eqb (getD σ i 0) u) noSet (i + 1) rows
+    unfolding _or_ _and_
+    reopen-skip begun i rows inv h hb =
+        let no = not-true begun hb in
+        subst (λ (b : Bool). Reopens b noSet (i + 1) rows)
+        (ap (λ (b : Bool). eqb u (getD σ i 0) or b) no ∙ or-false _ ∙ eqb-sym u (getD σ i 0))
+        (place begun noSet i rows inv h noSet rows
+        (none _ (λ x l. ap₂ (λ (m b : Bool). reaches wide x and (m or b and inRow includes (getD σ i 0) x)) (mem-none x) no ∙ and-false (reaches wide x)))
+        (less-none rows rows _ refl (λ a x la lx. ap (λ (b : Bool). eqb a (getD σ i 0) and b) (mem-none x) ∙ and-false (eqb a (getD σ i 0)))))
 
-    -- and where none had
-    module _ (begun : Bool) (hb : begun ≡ pastAt σ i has u) (no : begun ≡ false) where
-      pub begun-now : (begun′ : Bool) → begun′ ≡ eqb e u → begun′ ≡ pastAt σ (i + 1) has u
-      unfolding _or_
-      begun-now begun′ h′ =
-          h′ ∙ eqb-sym e u ∙ sym (has-next ∙ ap (λ (b : Bool). eqb u e or b) (sym hb ∙ no) ∙ or-false (eqb u e))
+    -- past the last place it is as good as begun
+    pub reopen-from : (begun : Bool) (since : Set) (i : ℕ) (rows : List ℕ) → Reopens begun since i rows → (i < length σ → begun ≡ true)
+        → Reopens true since i rows
+    reopen-from begun since i rows inv h =
+        record { kept = λ l. (inv .kept l .0, inv .kept l .1 ∙ h l); lost = inv .lost }
 
-      pub since-still : since ≡ sinceIn (pastAt σ (i + 1))
-      unfolding letInSince _and_
-      since-still =
-          hs
-          ∙ those-ext _ (letInSince includes u (e ∷ pastAt σ i))
-          (λ x l. sym (ap (λ (b : Bool). letInSince includes u (pastAt σ i) x or b and inRow includes e x) (sym hb ∙ no)
-          ∙ or-false (letInSince includes u (pastAt σ i) x)))
-          ∙ ap sinceIn (sym (past-next σ i h))
-
-      pub lost-none : (rows₀ rows rows′ : List ℕ) (whole : Relation) → Toward rows₀ (toCome (pastAt σ i) (drop i σ)) whole rows
-          → rows′ ≡ rows → Toward rows₀ (toCome (pastAt σ (i + 1)) (drop (i + 1) σ)) whole rows′
-      lost-none rows₀ rows rows′ whole t h′ =
-          toward-next rows₀ whole rows rows′ _ _ _ t
-          (less-none rows rows′ (λ a x. eqb a e and mem since x) h′
-          (λ a x la lx. ap (λ (b : Bool). eqb a e and b) (is-those since _ hs x lx ∙ not-yet (pastAt σ i) (sym hb ∙ no) x) ∙ and-false (eqb a e)))
-          come-next
-
-    pub lost-next : (rows₀ rows rows′ : List ℕ) (whole : Relation) → Toward rows₀ (toCome (pastAt σ i) (drop i σ)) whole rows
-        → rows′ ≡ withRow rows e (those (λ b. mem (rowAt rows e) b and non (mem since b)))
-        → Toward rows₀ (toCome (pastAt σ (i + 1)) (drop (i + 1) σ)) whole rows′
-    lost-next rows₀ rows rows′ whole t h′ = toward-next rows₀ whole rows rows′ _ _ _ t (less-row rows rows′ e since h′) come-next
-
-  pub trace-end : (σ rows₀ rows : List ℕ) (i : ℕ) → length σ ≤ i → Toward rows₀ (toCome (pastAt σ i) (drop i σ)) (reopenedIn includes u σ) rows
-      → Less rows₀ (reopenedIn includes u σ) rows
-  unfolding atSomeFrom
-  trace-end σ rows₀ rows i h t =
-      toward-end rows₀ _ rows _ t (λ a x la lx. ap (λ (l : List ℕ). toCome (pastAt σ i) l a x) (drop-of-length-le σ h))
+    -- a place after it
+    pub reopen-next : (since row joined since′ : Set) (i : ℕ) (rows rows′ : List ℕ) → Reopens true since i rows → i < length σ
+        → rows′ ≡ withRow rows (getD σ i 0) (those (λ b. mem (rowAt rows (getD σ i 0)) b and non (mem since b)))
+        → row ≡ rowAt includes (getD σ i 0) → joined ≡ those (λ x. mem since x or mem row x)
+        → since′ ≡ those (λ x. reaches wide x and mem joined x) → Reopens true since′ (i + 1) rows′
+    unfolding _and_
+    reopen-next since row joined since′ i rows rows′ inv h hl hr hj hs =
+        subst (λ (b : Bool). Reopens b since′ (i + 1) rows′) (or-true _)
+        (place true since i rows inv h since′ rows′
+        (hs
+        ∙ those-ext _ _ (λ x l.
+        ap (λ (b : Bool). reaches wide x and b)
+        (is-those joined _ hj x l ∙ ap (λ (b : Bool). mem since x or b) (is-row row includes (getD σ i 0) hr x l))))
+        (less-row rows rows′ (getD σ i 0) since hl))
 
   -- ---- the log
 
   -- what the traces from k on say
-  abbrev pub tracesToCome : List ℕ → ℕ → ℕ → Relation
-  tracesToCome log n k = reopened includes u (walked log (n - k) k)
+  abbrev tracesToCome : List ℕ → ℕ → ℕ → Relation
+  tracesToCome log n k a x = reaches wide x and reopened includes u (walked log (n - k) k) a x
 
   module _ (log : List ℕ) (n : ℕ) (rows₀ : List ℕ) where
     abbrev pub Walking : ℕ → List ℕ → Type 0
-    Walking k rows = Toward rows₀ (tracesToCome log n k) (reopened includes u (walked log n 0)) rows
+    Walking k rows = Toward rows₀ (tracesToCome log n k) (λ a x. reaches wide x and reopened includes u (walked log n 0) a x) rows
 
     pub walk-start : Walking 0 rows₀
-    walk-start = toward-start rows₀ _ _ (λ a x la lx. ap (λ (L : Traces). reopened includes u L a x) (walked-start log n))
+    walk-start = toward-start rows₀ _ _ (λ a x la lx. ap (λ (L : Traces). reaches wide x and reopened includes u L a x) (walked-start log n))
 
-    pub walk-next : (k : ℕ) (σ rows rows′ : List ℕ) → k < n → σ ≡ partAt log k → Walking k rows
-        → Less rows (reopenedIn includes u σ) rows′ → Walking (k + 1) rows′
+    pub walk-next : (form : Bool) (k : ℕ) (σ rows rows′ : List ℕ) → wide ≡ form → k < n → σ ≡ partAt log k → Walking k rows
+        → Less rows (λ a x. reaches form x and reopenedIn includes u σ a x) rows′ → Walking (k + 1) rows′
     unfolding someTrace
-    walk-next k σ rows rows′ h e t l =
+    walk-next form k σ rows rows′ hw h e t l =
         toward-next rows₀ _ rows rows′ _ _ _ t l
         (λ a x la lx.
-        ap (λ (L : Traces). reopened includes u L a x) (walked-next log n k h)
-        ∙ ap (λ (l : List ℕ). reopenedIn includes u l a x or tracesToCome log n (k + 1) a x) (sym e))
+        ap (λ (L : Traces). reaches wide x and reopened includes u L a x) (walked-next log n k h)
+        ∙ by3 (λ r s k. r and (s or k)) (λ r s k. r and s or r and k) (unfold _and_ _or_ non in tt)
+        (reaches wide x) (reopenedIn includes u (partAt log k) a x) _
+        ∙ ap₂ (λ (b : Bool) (l : List ℕ). reaches b x and reopenedIn includes u l a x or tracesToCome log n (k + 1) a x) hw (sym e))
 
-    module _ (F : Set) (k : ℕ) (rows : List ℕ) (t : Walking k rows) where
-      pub walk-end : n ≤ k → (r : Relation) → rows₀ ≡ rowsFor F r
-          → rows ≡ rowsFor F (λ a x. r a x and non (reopened includes u (walked log n 0) a x))
-      unfolding someTrace
-      walk-end h = less-for F rows₀ _ rows (toward-end rows₀ _ rows _ t (λ a x la lx. ap (λ (L : Traces). reopened includes u L a x) (walked-end log n k h)))
+-- ---- the end of the walk: of the pairs that are asked for nothing is left that a trace to come could take
 
-      -- where nothing is in doubt any more, nothing more is lost
-      pub walk-short : (b c : Bool) → b ≡ (c and isEmpty (those (λ x. someBelow width (λ a. mem F a and inRow (tableAt rows 0) a x)))) → b ≡ true
-          → (r : Relation) → rows₀ ≡ rowsFor F r → rows ≡ rowsFor F (λ a x. r a x and non (reopened includes u (walked log n 0) a x))
-      unfolding rowsFor
-      walk-short b c hb done r hr = now ∙ rowsOf-ext _ _ (λ a x la lx. nothing a x la lx ∙ sym (nor a x la lx))
-        where
-          now : rows ≡ rowsOf (λ a x. mem F a and r a x and non (t .0 a x))
-          now = t .1 (λ a x. mem F a and r a x) hr
+spared : (l c : Bool) → (l and c) ≡ false → l ≡ (l and non c)
+unfolding _and_ non
+spared true true h = h
+spared true false h = refl
+spared false c h = refl
 
-          in-row : (a x : ℕ) → a < width → x < width → inRow (tableAt rows 0) a x ≡ (mem F a and r a x and non (t .0 a x))
-          in-row a x la lx =
-              ap (λ (l : List ℕ). inRow (tableAt l 0) a x) now ∙ ap (λ (l : List ℕ). inRow l a x) (table-rowsOf _) ∙ in-rowsOf _ a x la lx
+-- a form that holds all that is asked
+pub asked-held : (asked low : Set) (narrow : Bool) → low ≡ those (λ x. ltb x word) → narrow ≡ within asked low
+    → (x : ℕ) → x < width → T (mem asked x) → reaches (not narrow) x ≡ true
+unfolding reaches _or_
+asked-held asked low true hl hn x lx k = T→true _ (T-eq (is-those low _ hl x lx) (within-e asked low (true→T (sym hn)) x lx k))
+asked-held asked low false hl hn x lx k = refl
 
-          nothing : (a x : ℕ) → a < width → x < width → (mem F a and r a x and non (t .0 a x)) ≡ false
-          nothing a x la lx =
-              F→false _
-              (λ q. empty-e _ (and-r _ _ (true→T (sym hb ∙ done))) x lx
-              (T-eq (sym (mem-those _ x lx))
-              (some-i width (λ v. mem F v and inRow (tableAt rows 0) v x) a la
-              (and-i _ _ (and-l _ _ (and-l _ _ q)) (T-eq (sym (in-row a x la lx)) q)))))
+module _ (includes : List ℕ) (u : ℕ) (log : List ℕ) (n : ℕ) (rows₀ : List ℕ) (F asked low : Set) (narrow : Bool) (k : ℕ) (rows : List ℕ)
+    (hl : low ≡ those (λ x. ltb x word)) (hn : narrow ≡ within asked low) (t : Walking (not narrow) includes u log n rows₀ k rows) where
+  -- a test of each such pair
+  abbrev Each : (Relation → ℕ → ℕ → Type 0) → Type 0
+  Each P = (r : Relation) → rows₀ ≡ rowsOf r → (a x : ℕ) → a < width → x < width → T (mem F a and mem asked x) → P r a x
 
-          nor : (a x : ℕ) → a < width → x < width → (mem F a and (r a x and non (reopened includes u (walked log n 0) a x))) ≡ false
-          nor a x la lx =
-              F→false _
-              (λ q. false→F (nothing a x la lx)
-              (and-i _ _ (and-i _ _ (and-l _ _ q) (and-l _ _ (and-r _ _ q)))
-              (non-i _ (λ z. non-e _ (and-r _ _ (and-r _ _ q)) (T-eq (t .2 a x la lx) (or-l _ _ z))))))
+  settled : Each (λ r a x. (inRow rows a x and tracesToCome (not narrow) includes u log n k a x) ≡ false)
+      → Each (λ r a x. inRow rows a x ≡ (r a x and non (reopened includes u (walked log n 0) a x)))
+  unfolding _and_
+  settled h r hr a x la lx p =
+      spared _ _ (h r hr a x la lx p)
+      ∙ ap (λ (b : Bool). b and non (tracesToCome (not narrow) includes u log n k a x)) (ap (λ (l : List ℕ). inRow l a x) (t .1 r hr) ∙ in-rowsOf _ a x la lx)
+      ∙ by3 (λ r g c. r and non g and non c) (λ r g c. r and non (g or c)) (unfold _and_ _or_ non in tt) (r a x) (t .0 a x) _
+      ∙ ap (λ (b : Bool). r a x and non b)
+      (t .2 a x la lx ∙ ap (λ (b : Bool). b and reopened includes u (walked log n 0) a x) (asked-held asked low narrow hl hn x lx (and-r (mem F a) _ p)))
+
+  pub walk-end : n ≤ k → Each (λ r a x. inRow rows a x ≡ (r a x and non (reopened includes u (walked log n 0) a x)))
+  unfolding someTrace
+  walk-end h =
+      settled (λ r hr a x la lx p.
+      ap (λ (L : Traces). inRow rows a x and (reaches (not narrow) x and reopened includes u L a x)) (walked-end log n k h)
+      ∙ ap (λ (b : Bool). inRow rows a x and b) (and-false _) ∙ and-false _)
+
+  pub walk-short : (b c : Bool) → b ≡ (c and isEmpty (those (λ y. mem asked y and someBelow width (λ v. mem F v and inRow (tableAt rows 0) v y)))) → b ≡ true
+      → Each (λ r a x. inRow rows a x ≡ (r a x and non (reopened includes u (walked log n 0) a x)))
+  walk-short b c hb done =
+      settled (λ r hr a x la lx p.
+      F→false _
+      (λ q. empty-e _ (and-r _ _ (true→T (sym hb ∙ done))) x lx
+      (T-eq (sym (mem-those _ x lx))
+      (and-i _ _ (and-r _ _ p) (in-union F rows _ (t .1 r hr) a x la lx (and-l _ _ p)
+      (T-eq (ap (λ (l : List ℕ). inRow l a x) (t .1 r hr) ∙ in-rowsOf _ a x la lx) (and-l _ _ q)))))))

@@ -1,27 +1,25 @@
 -- What one u makes redundant, from what the calls of a stage of step 7 ensure. Assumes nothing.
 use mathlib.Core.Path.{_≡_, refl, sym, ap, ap₂, _∙_, subst}
-use mathlib.Core.Bool.{Bool, true, false, not}
+use mathlib.Core.Bool.{Bool, false, not}
 use mathlib.Core.List.{List}
 use Prim.Native.Nat.{ℕ, _<_}
 use borrow.Author.Tests.{eq-eqb, ne-eqb, not-false}
 use lib.Dec.{T, eqb}
 use Rattle.sets.specs.Tests.{_and_, _or_, non}
 use Rattle.sets.specs.Members.{width, mem, those, someBelow, isEmpty}
-use Rattle.sets.specs.Rows.{Relation, rowAt, inRow, rowsOf, rowsFor}
+use Rattle.sets.specs.Rows.{Relation, rowAt, inRow, rowsOf}
 use Rattle.sets.specs.Tables.{tableAt}
 use Rattle.sets.specs.declared.set.Set.{Set}
-use Rattle.sets.proofs.Tests.{and-l, and-r, and-i, T-eq, T→true, true→T, F→false, and-true, and-comm, and-assoc, true-and, false-and}
-use Rattle.sets.proofs.Tautologies.{by3, by4}
-use Rattle.sets.proofs.Below.{some-i, some-e, some-ext}
-use Rattle.sets.proofs.Members.{empty-e}
-use Rattle.sets.proofs.RowLaws.{in-rowsOf}
-use Rattle.sets.proofs.TableLaws.{table-rowsOf}
+use Rattle.sets.proofs.Tests.{and-l, and-r, T→true, true→T, F→false, and-true, and-comm, and-assoc, true-and, false-and}
+use Rattle.sets.proofs.Tautologies.{by4}
+use Rattle.sets.proofs.Below.{some-ext}
+use Rattle.sets.proofs.Members.{empty-e, those-of}
 use Rattle.sets.proofs.MadeSets.{Is, is-those, is-row}
 use Rattle.rules.specs.Traces.{Traces}
 use Rattle.tally.specs.Tallies.{beforeTable, laterTable}
 use Rattle.miner.specs.Facts.{Less, doubted, reopened}
 use Rattle.miner.specs.Stages.{followersOf, redundantBy}
-use Rattle.miner.proofs.Losing.{where-so, less-by, less-as, less-none, less-more, less-rows, byPassed, each-end}
+use Rattle.miner.proofs.Losing.{where-so, less-by, less-as, less-none, less-more, Lost, lost-end, in-union}
 
 -- what something after u and before a lets in
 pub doubted-is : (before includes : List ℕ) (a : ℕ) (later row between out : Set) → row ≡ rowAt before a
@@ -38,79 +36,35 @@ doubted-is before includes a later row between out hr hb ho x lx =
 pub not-asked : (n m : ℕ) (b : Bool) → (n ≡ m → ⊥) → false ≡ (eqb n m and b)
 not-asked n m b h = sym (ap (λ (t : Bool). t and b) (ne-eqb n m h) ∙ false-and b)
 
-pub asked-empty : (n m : ℕ) (s out : Set) (b : Bool) → n ≡ m → out ≡ s → b ≡ isEmpty out → b ≡ (eqb n m and isEmpty s)
-asked-empty n m s out b h ho hb = hb ∙ ap isEmpty ho ∙ sym (ap (λ (t : Bool). t and isEmpty s) (eq-eqb n m h) ∙ true-and (isEmpty s))
+pub asked-empty : (n m : ℕ) (asked out both : Set) (p : ℕ → Bool) (b : Bool) → n ≡ m → out ≡ those p → both ≡ those (λ x. mem asked x and mem out x)
+    → b ≡ isEmpty both → b ≡ (eqb n m and isEmpty (those (λ x. mem asked x and p x)))
+asked-empty n m asked out both p b h ho hj hb =
+    hb ∙ ap isEmpty (hj ∙ those-of out p (λ x t. mem asked x and t) ho)
+    ∙ sym (ap (λ (t : Bool). t and isEmpty (those (λ x. mem asked x and p x))) (eq-eqb n m h) ∙ true-and _)
 
--- ---- what is asked, of the members' rows
+-- what no trace lets in goes: of the pairs that are asked for what is left of a copy
+pub open-lost : (F asked : Set) (H : Relation) (rows left gone : List ℕ)
+    → ((r : Relation) → rows ≡ rowsOf r → (a x : ℕ) → a < width → x < width → T (mem F a and mem asked x) → inRow gone a x ≡ (r a x and non (H a x)))
+    → Less rows (λ a x. mem F a and (mem asked x and inRow gone a x)) left → Less rows (λ a x. mem F a and mem asked x and non (H a x)) left
+open-lost F asked H rows left gone hg l =
+    less-by rows left _ _
+    (λ r hr a x la lx.
+    ap (λ (b : Bool). r a x and non b) (sym (and-assoc (mem F a) (mem asked x) (inRow gone a x)) ∙ where-so (mem F a and mem asked x) _ _ (hg r hr a x la lx))
+    ∙ by4 (λ r f k h. r and non (f and k and (r and non h))) (λ r f k h. r and non (f and k and non h)) (unfold _and_ _or_ non in tt)
+    (r a x) (mem F a) (mem asked x) (H a x)) l
 
-module _ (F asked : Set) (rows left gone : List ℕ) where
-  -- all of it
-  pub asked-lost : gone ≡ rowsFor F (λ a x. inRow rows a x and mem asked x) → Less rows (λ a x. mem F a and inRow gone a x) left
-      → Less rows (λ a x. mem F a and mem asked x) left
-  asked-lost hg l =
-      less-rows rows left gone F _ _ hg l
-      (λ r hr a x la lx.
-      ap (λ (b : Bool). r a x and non (mem F a and (b and mem asked x))) (ap (λ (q : List ℕ). inRow q a x) hr ∙ in-rowsOf r a x la lx)
-      ∙ by3 (λ r f k. r and non (f and (r and k))) (λ r f k. r and non (f and k)) (unfold _and_ _or_ non in tt) (r a x) (mem F a) (mem asked x))
-
-  -- what is not in doubt
-  pub sure-lost : (D : Relation) → gone ≡ rowsFor F (λ a x. mem asked x and non (D a x)) → Less rows (λ a x. mem F a and inRow gone a x) left
-      → Less rows (λ a x. mem F a and mem asked x and non (D a x)) left
-  sure-lost D hg l =
-      less-rows rows left gone F _ _ hg l
-      (λ r hr a x la lx. ap (λ (b : Bool). r a x and non b) (sym (and-assoc (mem F a) (mem asked x) (non (D a x)))))
-
-  -- what no trace lets in
-  pub open-lost : (H : Relation) (doubts : List ℕ) → doubts ≡ rowsFor F (λ a x. inRow rows a x and mem asked x)
-      → ((r : Relation) → doubts ≡ rowsFor F r → gone ≡ rowsFor F (λ a x. r a x and non (H a x)))
-      → Less rows (λ a x. mem F a and inRow gone a x) left → Less rows (λ a x. mem F a and mem asked x and non (H a x)) left
-  open-lost H doubts hd hg l =
-      less-rows rows left gone F _ _ (hg _ hd) l
-      (λ r hr a x la lx.
-      ap (λ (b : Bool). r a x and non (mem F a and (b and mem asked x and non (H a x)))) (ap (λ (q : List ℕ). inRow q a x) hr ∙ in-rowsOf r a x la lx)
-      ∙ by4 (λ r f k h. r and non (f and (r and k and non h))) (λ r f k h. r and non (f and k and non h)) (unfold _and_ _or_ non in tt)
-      (r a x) (mem F a) (mem asked x) (H a x))
-
--- ---- with doubt and without
-
-surely : (f k d h : Bool) → (T k → d ≡ false) → (f and k) ≡ (f and k and non (d and h))
-unfolding _and_ non
-surely true true d h n = sym (ap (λ (b : Bool). non (b and h)) (n tt))
-surely true false d h n = refl
-surely false k d h n = refl
-
-module _ (before laters includes : List ℕ) (u : ℕ) (F asked later : Set) (H : Relation) (hl : later ≡ rowAt laters u) where
-  abbrev gone : Relation
-  gone a x = mem F a and mem asked x and non (doubted before includes (rowAt laters u) a x and H a x)
-
-  module _ (out doubt : Set) (b : Bool) (ho : out ≡ those (λ x. someBelow width (λ v. mem later v and inRow includes v x)))
-      (hd : doubt ≡ those (λ x. mem asked x and mem out x)) (hb : b ≡ isEmpty doubt) (done : b ≡ true) where
-    none-in : (a x : ℕ) → x < width → T (mem asked x) → doubted before includes (rowAt laters u) a x ≡ false
-    unfolding doubted
-    none-in a x lx t =
-        F→false _
-        (λ d.
-        let v = some-e width (λ w. mem (rowAt laters u) w and inRow before a w and inRow includes w x) d in
-        empty-e doubt (true→T (sym hb ∙ done)) x lx
-        (T-eq (sym (is-those doubt (λ y. mem asked y and mem out y) hd x lx))
-        (and-i _ _ t
-        (T-eq (sym (is-those out (λ y. someBelow width (λ w. mem later w and inRow includes w y)) ho x lx))
-        (some-i width (λ w. mem later w and inRow includes w x) (v .0) (v .1)
-        (and-i _ _ (T-eq (ap (λ (s : Set). mem s (v .0)) (sym hl)) (and-l _ _ (and-l _ _ (v .2)))) (and-r _ _ (v .2))))))))
-
-    pub no-doubt : (rows left : List ℕ) → Less rows (λ a x. mem F a and mem asked x) left → Less rows gone left
-    no-doubt rows left l =
-        less-as rows left _ _ (λ a x la lx. surely (mem F a) (mem asked x) _ (H a x) (none-in a x lx)) l
-
-  pub in-doubt : (rows between left : List ℕ) → Less rows (λ a x. mem F a and mem asked x and non (doubted before includes later a x)) between
-      → Less between (λ a x. mem F a and mem asked x and non (H a x)) left → Less rows gone left
-  in-doubt rows between left l m =
-      less-as rows left _ _
-      (λ a x la lx.
-      ap (λ (s : Set). mem F a and mem asked x and non (doubted before includes s a x) or mem F a and mem asked x and non (H a x)) hl
-      ∙ by4 (λ f k d h. f and k and non d or f and k and non h) (λ f k d h. f and k and non (d and h)) (unfold _and_ _or_ non in tt)
-      (mem F a) (mem asked x) (doubted before includes (rowAt laters u) a x) (H a x))
-      (less-more rows between left _ _ l m)
+-- what is not in doubt goes, and then this
+pub sure-then-open : (before laters includes : List ℕ) (u : ℕ) (F asked later : Set) (H : Relation) (rows between left : List ℕ) → later ≡ rowAt laters u
+    → Less rows (λ a x. mem F a and (mem asked x and non (doubted before includes later a x))) between
+    → Less between (λ a x. mem F a and mem asked x and non (H a x)) left
+    → Less rows (λ a x. mem F a and mem asked x and non (doubted before includes (rowAt laters u) a x and H a x)) left
+sure-then-open before laters includes u F asked later H rows between left hl l m =
+    less-as rows left _ _
+    (λ a x la lx.
+    ap (λ (s : Set). mem F a and (mem asked x and non (doubted before includes s a x)) or mem F a and mem asked x and non (H a x)) hl
+    ∙ by4 (λ f k d h. f and (k and non d) or f and k and non h) (λ f k d h. f and k and non (d and h)) (unfold _and_ _or_ non in tt)
+    (mem F a) (mem asked x) (doubted before includes (rowAt laters u) a x) (H a x))
+    (less-more rows between left _ _ l m)
 
 -- ---- all that one u makes redundant
 
@@ -127,14 +81,8 @@ module _ (tally followers includes excludes : List ℕ) (L : Traces) (u : ℕ) (
       → mem asked x ≡ (inRow excludes u x and non (inRow includes u x))
   asked-where r hr a x la lx t m =
       is-those asked _ ha x lx
-      ∙ ap₂ _and_ (is-those free _ hf x lx) (is-those out _ ho x lx ∙ T→true _ there)
+      ∙ ap₂ _and_ (is-those free _ hf x lx) (is-those out _ ho x lx ∙ T→true _ (in-union F rows r hr a x la lx m t))
       ∙ and-true _
-    where
-      there : T (someBelow width (λ v. mem F v and inRow (tableAt rows 0) v x))
-      there =
-          some-i width (λ v. mem F v and inRow (tableAt rows 0) v x) a la
-          (and-i _ _ m (T-eq (sym (ap (λ (l : List ℕ). inRow (tableAt l 0) a x) hr ∙ ap (λ (l : List ℕ). inRow l a x) (table-rowsOf r)
-          ∙ in-rowsOf r a x la lx)) t))
 
   same-gone : (r : Relation) → rows ≡ rowsOf r → (a x : ℕ) → a < width → x < width → T (r a x)
       → (mem F a and mem asked x and safe a x) ≡ redundantBy tally followers includes excludes L u a x
@@ -157,8 +105,8 @@ module _ (tally followers includes excludes : List ℕ) (L : Traces) (u : ℕ) (
 
 pub redundant-end : (tally followers includes excludes : List ℕ) (L : Traces) (rows left : List ℕ) (all rest : Set) (b : Bool)
     → followers ≡ followersOf all tally
-    → Less rows (byPassed (redundantBy tally followers includes excludes L) all rest) left → b ≡ isEmpty rest → not b ≡ false
+    → Lost (redundantBy tally followers includes excludes L) rows all rest left → b ≡ isEmpty rest → not b ≡ false
     → Less rows (λ a x. someBelow width (λ u. mem all u and redundantBy tally (followersOf all tally) includes excludes L u a x)) left
 redundant-end tally followers includes excludes L rows left all rest b hf l hb n =
     subst (λ (f : List ℕ). Less rows (λ a x. someBelow width (λ u. mem all u and redundantBy tally f includes excludes L u a x)) left) hf
-    (each-end (redundantBy tally followers includes excludes L) rows all left rest b l hb n)
+    (lost-end (redundantBy tally followers includes excludes L) rows left all rest b l hb n)

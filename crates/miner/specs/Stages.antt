@@ -17,7 +17,7 @@ use Rattle.rules.specs.declared.Profile.the-variants.{Full, Light}
 use Rattle.rules.specs.Traces.{Traces}
 use Rattle.rules.specs.Mining.{event}
 use Rattle.steps.specs.Rowwise.{unbroken, absent, excluders, inEither, reducedOf, waited}
-use Rattle.tally.specs.Passes.{gains, forward, through, eventIn, cut}
+use Rattle.tally.specs.Passes.{gains, gainsIn, forward, through, eventIn, cut}
 use Rattle.tally.specs.Tallies.{beforeTable, laterTable, unprecededTable, unansweredTable, unchainedTable, unalternatedTable, followedTable}
 use Rattle.tally.specs.Tallies.{tallied, talliedFor}
 use Rattle.miner.specs.Facts.{letIn, reopened, doubted, beforeFirst, missed}
@@ -111,10 +111,10 @@ includesIn wide Light events tally L = rowsOf (turned (chainsOf events tally))
 
 -- what step 9's replay puts into rows
 abbrev pub aheadOf : Bool → List ℕ → Traces → List ℕ
-aheadOf wide rows L = through (λ r σ. forward (gains (cut wide beforeFirst)) r [] σ) rows L
+aheadOf wide rows L = through (λ r σ. forward (gainsIn wide beforeFirst) r [] σ) rows L
 
 abbrev pub missedOf : Bool → Set → List ℕ → List ℕ → List ℕ → Traces → List ℕ
-missedOf wide events includes excludes rows L = through (λ r σ. forward (gains (cut wide (missed events includes excludes))) r [] σ) rows L
+missedOf wide events includes excludes rows L = through (λ r σ. forward (gainsIn wide (missed events includes excludes)) r [] σ) rows L
 
 abbrev pub waitedIn : Bool → Set → List ℕ → List ℕ → List ℕ → Traces → List ℕ
 waitedIn wide events eight includes excludes L =

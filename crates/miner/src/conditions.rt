@@ -1,14 +1,13 @@
 // The conditions of steps 8, 9 and 10, put into the tables that are lent. Step 9 asks for a replay by the includes and excludes after
 // step 7: a pass of its own over each trace, from the first place to the last, where `seen` is the set of what stands before the place.
 ghost use mathlib.Core.Path.{_≡_};
-ghost use mathlib.Core.Bool.{true, false};
 ghost use mathlib.Core.List.{[]};
 ghost use Rattle.sets.specs.Tests.{_and_, _or_, non};
 ghost use Rattle.sets.specs.Members.{mem, those};
 ghost use Rattle.sets.specs.Rows.{inRow, noRows, rowsFor};
 ghost use Rattle.sets.specs.Tables.{tableAt, withTable};
 ghost use Rattle.steps.specs.Rowwise.{reducedOf, waited};
-ghost use Rattle.tally.specs.Passes.{gained, gains, forward, walked, reaches, cut};
+ghost use Rattle.tally.specs.Passes.{gainedFor, gainsIn, forward, walked, reaches};
 ghost use Rattle.miner.specs.Facts.{beforeFirst, missed};
 ghost use Rattle.miner.specs.Stages.{conditionsOf, aheadOf, missedOf};
 use crate::includes::and_then;
@@ -24,6 +23,7 @@ use sets::tables;
 use steps::reduce;
 use steps::relations;
 use tally::Tally;
+use tally::holds;
 use tally::in_form;
 use tally::log;
 
@@ -52,6 +52,15 @@ fn at_first(seen: Set, e: Activity) -> Set
     seen
 }
 
+// The row of e gains a set, where the form can hold e.
+fn gain(rows: &mut Rows, e: Activity, s: Set, wide: bool)
+    ensures { λ _. ⌜ now (rows .exit) ≡ gainedFor wide (now (rows .entry)) (e .0) (mem s) ⌝ }
+{
+    if holds(e, wide) {
+        rows::join(rows, e, s);
+    }
+}
+
 // One place of e: its row of `first` gains what stands before its first place, its row of `unmet` what is included and not executed.
 fn note_waiting(
     e: Activity,
@@ -61,13 +70,13 @@ fn note_waiting(
     first: &mut Rows,
     unmet: &mut Rows,
 )
-    ensures before { λ _. ⌜ now (first .exit) ≡ gained (now (first .entry)) (e .0) (λ x. reaches wide x and (mem seen x and non (mem seen (e .0)))) ⌝ }
-    ensures left { λ _. ⌜ now (unmet .exit) ≡ gained (now (unmet .entry)) (e .0) (λ x. mem included x and non (mem seen x)) ⌝ }
+    ensures before { λ _. ⌜ now (first .exit) ≡ gainedFor wide (now (first .entry)) (e .0) (λ x. reaches wide x and (mem seen x and non (mem seen (e .0)))) ⌝ }
+    ensures left { λ _. ⌜ now (unmet .exit) ≡ gainedFor wide (now (unmet .entry)) (e .0) (λ x. mem included x and non (mem seen x)) ⌝ }
 {
     let early = in_form(at_first(seen, e), wide);
-    rows::join(first, e, early);
+    gain(first, e, early, wide);
     let waiting = included.difference(seen);
-    rows::join(unmet, e, waiting);
+    gain(unmet, e, waiting, wide);
 }
 
 // What is included after e, by the includes and excludes of the tables alone: e's excludes go, then its includes come, as far as the form
@@ -86,54 +95,29 @@ fn replay_trace<'a>(
     trace: &'a [u8],
     events: Set,
     held: &'a Relations,
+    wide: bool,
     first: &mut Rows,
     unmet: &mut Rows,
 )
-    ensures before { λ _. ⌜ now (first .exit) ≡ forward (gains (cut true beforeFirst)) (now (first .entry)) [] (now (trace .entry)) ⌝ }
+    ensures before { λ _. ⌜ now (first .exit) ≡ forward (gainsIn wide beforeFirst) (now (first .entry)) [] (now (trace .entry)) ⌝ }
     ensures left { λ _. ⌜ now (unmet .exit) ≡ forward
-        (gains (cut true (missed events (tableAt (now (held .entry)) 2) (tableAt (now (held .entry)) 3))))
+        (gainsIn wide (missed events (tableAt (now (held .entry)) 2) (tableAt (now (held .entry)) 3)))
         (now (unmet .entry)) [] (now (trace .entry)) ⌝ }
 {
     let mut seen = Set::EMPTY;
-    let mut included = in_form(events, true);
+    let mut included = in_form(events, wide);
     let mut i: usize = 0;
     while i < trace.len() {
         let e = Activity(trace[i]);
-        let then = included_after(included, held, e, true);
-        note_waiting(e, seen, included, true, first, unmet);
+        let then = included_after(included, held, e, wide);
+        note_waiting(e, seen, included, wide, first, unmet);
         included = then;
         seen = and_then(seen, e);
         i += 1;
     }
 }
 
-// The same in the narrow form: the form is written out in the loop, so that the compiler drops the second word.
-fn replay_trace_narrow<'a>(
-    trace: &'a [u8],
-    events: Set,
-    held: &'a Relations,
-    first: &mut Rows,
-    unmet: &mut Rows,
-)
-    ensures before { λ _. ⌜ now (first .exit) ≡ forward (gains (cut false beforeFirst)) (now (first .entry)) [] (now (trace .entry)) ⌝ }
-    ensures left { λ _. ⌜ now (unmet .exit) ≡ forward
-        (gains (cut false (missed events (tableAt (now (held .entry)) 2) (tableAt (now (held .entry)) 3))))
-        (now (unmet .entry)) [] (now (trace .entry)) ⌝ }
-{
-    let mut seen = Set::EMPTY;
-    let mut included = in_form(events, false);
-    let mut i: usize = 0;
-    while i < trace.len() {
-        let e = Activity(trace[i]);
-        let then = included_after(included, held, e, false);
-        note_waiting(e, seen, included, false, first, unmet);
-        included = then;
-        seen = and_then(seen, e);
-        i += 1;
-    }
-}
-
-// The same in a form.
+// The same, the form written out in either call: the compiler then makes a loop for each.
 fn replay_in<'a>(
     trace: &'a [u8],
     events: Set,
@@ -142,15 +126,15 @@ fn replay_in<'a>(
     first: &mut Rows,
     unmet: &mut Rows,
 )
-    ensures before { λ _. ⌜ now (first .exit) ≡ forward (gains (cut wide beforeFirst)) (now (first .entry)) [] (now (trace .entry)) ⌝ }
+    ensures before { λ _. ⌜ now (first .exit) ≡ forward (gainsIn wide beforeFirst) (now (first .entry)) [] (now (trace .entry)) ⌝ }
     ensures left { λ _. ⌜ now (unmet .exit) ≡ forward
-        (gains (cut wide (missed events (tableAt (now (held .entry)) 2) (tableAt (now (held .entry)) 3))))
+        (gainsIn wide (missed events (tableAt (now (held .entry)) 2) (tableAt (now (held .entry)) 3)))
         (now (unmet .entry)) [] (now (trace .entry)) ⌝ }
 {
     if wide {
-        replay_trace(trace, events, held, first, unmet);
+        replay_trace(trace, events, held, true, first, unmet);
     } else {
-        replay_trace_narrow(trace, events, held, first, unmet);
+        replay_trace(trace, events, held, false, first, unmet);
     }
 }
 

@@ -1,7 +1,7 @@
 // The includes of steps 3 and 6, put into the tables that are lent. What step 6 lets in needs the pairs that never follow, so it is asked of
 // the log in a pass of its own: over each trace from the first place to the last.
 ghost use mathlib.Core.Path.{_≡_};
-ghost use mathlib.Core.Bool.{true, false, cond};
+ghost use mathlib.Core.Bool.{cond};
 ghost use mathlib.Core.List.{[]};
 ghost use Prim.Native.Nat.{ℕ, _+_, _<_};
 ghost use lib.Dec.{eqb, ltb};
@@ -102,12 +102,13 @@ fn let_in_along<'a>(
     unfollowed: &'a Rows,
     last: &'a Places,
     all: Set,
+    wide: bool,
     out: &mut Rows,
 )
     requires { ⌜ all ≡ those (λ x. now trace has x) ⌝ }
     requires { ⌜ ((i : ℕ) → i < length (now trace) → getD (now trace) i 0 < width → eqb (getD (now last) (getD (now trace) i 0) 0) i
         ≡ non (drop (i + 1) (now trace) has getD (now trace) i 0)) ⌝ }
-    ensures { λ _. ⌜ now (out .exit) ≡ forward (gains (cut true (letIn (now (unfollowed .entry))))) (now (out .entry)) [] (now (trace .entry)) ⌝ }
+    ensures { λ _. ⌜ now (out .exit) ≡ forward (gains (cut wide (letIn (now (unfollowed .entry))))) (now (out .entry)) [] (now (trace .entry)) ⌝ }
 {
     let mut after = all;
     let mut barred = Set::EMPTY;
@@ -115,48 +116,23 @@ fn let_in_along<'a>(
     while i < trace.len() {
         let e = Activity(trace[i]);
         let later = left_after(after, last, e, Place(i));
-        barred = let_in_here(e, later, barred, unfollowed, true, out);
-        after = later;
-        i += 1;
-    }
-}
-
-// The same in the narrow form.
-fn let_in_along_narrow<'a>(
-    trace: &'a [u8],
-    unfollowed: &'a Rows,
-    last: &'a Places,
-    all: Set,
-    out: &mut Rows,
-)
-    requires { ⌜ all ≡ those (λ x. now trace has x) ⌝ }
-    requires { ⌜ ((i : ℕ) → i < length (now trace) → getD (now trace) i 0 < width → eqb (getD (now last) (getD (now trace) i 0) 0) i
-        ≡ non (drop (i + 1) (now trace) has getD (now trace) i 0)) ⌝ }
-    ensures { λ _. ⌜ now (out .exit) ≡ forward (gains (cut false (letIn (now (unfollowed .entry))))) (now (out .entry)) [] (now (trace .entry)) ⌝ }
-{
-    let mut after = all;
-    let mut barred = Set::EMPTY;
-    let mut i: usize = 0;
-    while i < trace.len() {
-        let e = Activity(trace[i]);
-        let later = left_after(after, last, e, Place(i));
-        barred = let_in_here(e, later, barred, unfollowed, false, out);
+        barred = let_in_here(e, later, barred, unfollowed, wide, out);
         after = later;
         i += 1;
     }
 }
 
 // Step 6: the row of each event gains what comes later in the trace and never directly follows something that stands before the event;
-// row s of `unfollowed` has what never directly follows s.
+// row s of `unfollowed` has what never directly follows s. The form is written out in either call: the compiler then makes a loop for each.
 fn let_in_trace<'a>(trace: &'a [u8], unfollowed: &'a Rows, wide: bool, out: &mut Rows)
     ensures { λ _. ⌜ now (out .exit) ≡ forward (gains (cut wide (letIn (now (unfollowed .entry))))) (now (out .entry)) [] (now (trace .entry)) ⌝ }
 {
     let mut last = [0usize; WIDTH];
     let all = last_places(trace, &mut last);
     if wide {
-        let_in_along(trace, unfollowed, &last, all, out);
+        let_in_along(trace, unfollowed, &last, all, true, out);
     } else {
-        let_in_along_narrow(trace, unfollowed, &last, all, out);
+        let_in_along(trace, unfollowed, &last, all, false, out);
     }
 }
 

@@ -2,13 +2,13 @@
 // for one event u after another, what u makes redundant. A pair whose target nothing lets in after the one and before the other is sure to
 // go; where something does, the traces are asked, and only until no such pair is in doubt any more.
 ghost use mathlib.Core.Path.{_≡_};
-ghost use Prim.Native.Nat.{_%_};
-ghost use lib.Dec.{eqb};
+ghost use Prim.Native.Nat.{ℕ, _<_, _%_};
+ghost use lib.Dec.{T, eqb};
 ghost use Rattle.sets.specs.Tests.{_and_, non};
 ghost use Rattle.sets.specs.Members.{width, mem, those, someBelow, isEmpty};
-ghost use Rattle.sets.specs.Rows.{Relation, rowAt, withRow, inRow, rowsOf, rowsFor};
+ghost use Rattle.sets.specs.Rows.{Relation, rowAt, inRow, rowsOf};
 ghost use Rattle.sets.specs.Tables.{tableAt, withTable};
-ghost use Rattle.tally.specs.Passes.{walked};
+ghost use Rattle.tally.specs.Passes.{walked, reaches};
 ghost use Rattle.tally.specs.Tallies.{beforeTable, laterTable};
 ghost use Rattle.miner.specs.Facts.{Less, reopenedIn, reopened, doubted};
 ghost use Rattle.miner.specs.Stages.{followersOf, redundantBy, sevenFrom};
@@ -18,100 +18,87 @@ use engine::graph::INCLUDES;
 use sets::Activity;
 use sets::Rows;
 use sets::Set;
+use sets::activity::WORD;
 use sets::rows;
 use sets::tables;
 use steps::relations;
 use tally::Tally;
+use tally::in_form;
 use tally::log;
-
-// The row of every member loses the same row of others.
-fn lose_rows(rows: &mut Rows, members: Set, gone: &Rows)
-    ensures { λ _. ⌜ Less (now (rows .entry)) (λ a x. mem members a and inRow (now (gone .entry)) a x) (now (rows .exit)) ⌝ }
-{
-    let mut rest = members;
-    while !rest.is_empty() {
-        let a = rest.least();
-        rows::lose(rows, a, rows::row(gone, a));
-        rest = rest.without_least();
-    }
-}
 
 // ---- the traces
 
-// From the first u of the trace on: row e of `doubts` loses, at every e, what was let in since. `since` is what that is.
-fn reopen_trace<'a>(trace: &'a [u8], u: Activity, held: &'a Relations, doubts: &mut Rows)
-    ensures { λ _. ⌜ Less (now (doubts .entry)) (reopenedIn (tableAt (now (held .entry)) 2) (u .0) (now (trace .entry))) (now (doubts .exit)) ⌝ }
+// After the first u of the trace: row e of `doubts` loses, at every e, what was let in since, as far as the form holds it. `since` is what
+// that is. The caller names each form by a literal, so that the compiler makes two passes of it and drops the second word in the narrow one.
+fn reopen_trace<'a>(
+    trace: &'a [u8],
+    u: Activity,
+    held: &'a Relations,
+    wide: bool,
+    doubts: &mut Rows,
+)
+    ensures { λ _. ⌜ Less (now (doubts .entry))
+        (λ e x. reaches wide x and reopenedIn (tableAt (now (held .entry)) 2) (u .0) (now (trace .entry)) e x) (now (doubts .exit)) ⌝ }
 {
-    let mut since = Set::EMPTY;
     let mut begun = false;
     let mut i: usize = 0;
+    while i < trace.len() && !begun {
+        begun = trace[i] == u.0;
+        i += 1;
+    }
+    let mut since = Set::EMPTY;
     while i < trace.len() {
         let e = Activity(trace[i]);
-        if begun {
-            rows::lose(doubts, e, since);
-            since = since.union(tables::row(held, INCLUDES, e));
-        } else {
-            begun = e.0 == u.0;
-        }
+        rows::lose(doubts, e, since);
+        since = in_form(since.union(tables::row(held, INCLUDES, e)), wide);
         i += 1;
     }
 }
 
-// Whether no pair of the members is in doubt any more. It is asked before every fourth trace only: a scan costs about as much as a trace.
-fn none_doubted(doubts: &Rows, members: Set, k: usize) -> bool
-    ensures { λ r. ⌜ r ≡ (eqb (k % 4) 0 and isEmpty (those (λ x. someBelow width (λ a. mem members a
+// Whether no pair from a member to what is asked is in doubt any more. It is asked before every fourth trace only: a scan costs about as
+// much as a trace.
+fn none_doubted(doubts: &Rows, members: Set, asked: Set, k: usize) -> bool
+    ensures { λ r. ⌜ r ≡ (eqb (k % 4) 0 and isEmpty (those (λ x. mem asked x and someBelow width (λ a. mem members a
         and inRow (tableAt (now (doubts .entry)) 0) a x)))) ⌝ }
 {
     if k % 4 != 0 {
         return false;
     }
-    relations::union_of(doubts, 0, members).is_empty()
+    let open = asked.intersection(relations::union_of(doubts, 0, members));
+    open.is_empty()
 }
 
-// The same of all traces, of rows that are empty but for the members.
+// The same of all traces, of the pairs from a member to what is asked. Where all that is asked lies below 64 the narrow form will do.
 fn reopen_log<'a>(
     log: &'a [u8],
     traces: usize,
     u: Activity,
     held: &'a Relations,
     members: Set,
+    asked: Set,
     doubts: &mut Rows,
 )
-    ensures { λ _. ⌜ ((r : Relation) → now (doubts .entry) ≡ rowsFor members r → now (doubts .exit) ≡ rowsFor members
-        (λ a x. r a x and non (reopened (tableAt (now (held .entry)) 2) (u .0) (walked (now (log .entry)) traces 0) a x))) ⌝ }
+    ensures { λ _. ⌜ ((r : Relation) → now (doubts .entry) ≡ rowsOf r → (a x : ℕ) → a < width → x < width → T (mem members a and mem asked x)
+        → inRow (now (doubts .exit)) a x ≡ (r a x and non
+        (reopened (tableAt (now (held .entry)) 2) (u .0) (walked (now (log .entry)) traces 0) a x))) ⌝ }
 {
+    let wide = !asked.is_within(Set::below(WORD));
     let mut k: usize = 0;
     while k < traces {
-        if none_doubted(doubts, members, k) {
+        if none_doubted(doubts, members, asked, k) {
             return;
         }
         let trace = calllog::trace::trace_at(log, k);
-        reopen_trace(trace, u, held, doubts);
         k += 1;
+        if wide {
+            reopen_trace(trace, u, held, true, doubts);
+        } else {
+            reopen_trace(trace, u, held, false, doubts);
+        }
     }
 }
 
 // ---- what one u makes redundant: of the pairs from a member to what is asked
-
-fn asked_row(asked: Set, left: &Rows, a: Activity) -> Set
-    ensures { λ r. ⌜ r ≡ those (λ x. inRow (now (left .entry)) (a .0) x and mem asked x) ⌝ }
-{
-    rows::row(left, a).intersection(asked)
-}
-
-// Those that are left.
-fn asked_rows(members: Set, asked: Set, left: &Rows) -> Rows
-    ensures { λ r. ⌜ r ≡ rowsFor members (λ a x. inRow (now (left .entry)) a x and mem asked x) ⌝ }
-{
-    let mut out = rows::empty();
-    let mut a = members.least();
-    while a.0 < Activity::LIMIT {
-        let row = asked_row(asked, left, a);
-        rows::put(&mut out, a, row);
-        a = members.next(a);
-    }
-    out
-}
 
 fn sure_row<'a>(asked: Set, later: Set, tally: &'a Tally, held: &'a Relations, a: Activity) -> Set
     ensures { λ r. ⌜ r ≡ those (λ x. mem asked x and non
@@ -121,36 +108,7 @@ fn sure_row<'a>(asked: Set, later: Set, tally: &'a Tally, held: &'a Relations, a
     asked.difference(relations::union_of(held, INCLUDES, between))
 }
 
-// Those that are not in doubt.
-fn sure_rows<'a>(
-    members: Set,
-    asked: Set,
-    later: Set,
-    tally: &'a Tally,
-    held: &'a Relations,
-) -> Rows
-    ensures { λ r. ⌜ r ≡ rowsFor members (λ a x. mem asked x and non
-        (doubted (tableAt (now (tally .entry)) beforeTable) (tableAt (now (held .entry)) 2) later a x)) ⌝ }
-{
-    let mut out = rows::empty();
-    let mut a = members.least();
-    while a.0 < Activity::LIMIT {
-        let row = sure_row(asked, later, tally, held, a);
-        rows::put(&mut out, a, row);
-        a = members.next(a);
-    }
-    out
-}
-
-// All that is asked goes.
-fn lose_asked(members: Set, asked: Set, left: &mut Rows)
-    ensures { λ _. ⌜ Less (now (left .entry)) (λ a x. mem members a and mem asked x) (now (left .exit)) ⌝ }
-{
-    let gone = asked_rows(members, asked, left);
-    lose_rows(left, members, &gone);
-}
-
-// What is not in doubt goes.
+// Those go that are not in doubt.
 fn lose_sure<'a>(
     members: Set,
     asked: Set,
@@ -159,14 +117,32 @@ fn lose_sure<'a>(
     held: &'a Relations,
     left: &mut Rows,
 )
-    ensures { λ _. ⌜ Less (now (left .entry)) (λ a x. mem members a and mem asked x and non
-        (doubted (tableAt (now (tally .entry)) beforeTable) (tableAt (now (held .entry)) 2) later a x)) (now (left .exit)) ⌝ }
+    ensures { λ _. ⌜ Less (now (left .entry)) (λ a x. mem members a and (mem asked x and non
+        (doubted (tableAt (now (tally .entry)) beforeTable) (tableAt (now (held .entry)) 2) later a x))) (now (left .exit)) ⌝ }
 {
-    let gone = sure_rows(members, asked, later, tally, held);
-    lose_rows(left, members, &gone);
+    let mut rest = members;
+    while !rest.is_empty() {
+        let a = rest.least();
+        let gone = sure_row(asked, later, tally, held, a);
+        rows::lose(left, a, gone);
+        rest = rest.without_least();
+    }
 }
 
-// What no trace lets in goes.
+// Those go that are still in doubt.
+fn lose_doubted(members: Set, asked: Set, doubts: &Rows, left: &mut Rows)
+    ensures { λ _. ⌜ Less (now (left .entry)) (λ a x. mem members a and (mem asked x and inRow (now (doubts .entry)) a x)) (now (left .exit)) ⌝ }
+{
+    let mut rest = members;
+    while !rest.is_empty() {
+        let a = rest.least();
+        let gone = asked.intersection(rows::row(doubts, a));
+        rows::lose(left, a, gone);
+        rest = rest.without_least();
+    }
+}
+
+// Those go that no trace lets in: a copy of what is left loses what the traces let in, and what stays in the copy goes.
 fn lose_open<'a>(
     log: &'a [u8],
     traces: usize,
@@ -179,12 +155,12 @@ fn lose_open<'a>(
     ensures { λ _. ⌜ Less (now (left .entry)) (λ a x. mem members a and mem asked x and non
         (reopened (tableAt (now (held .entry)) 2) (u .0) (walked (now (log .entry)) traces 0) a x)) (now (left .exit)) ⌝ }
 {
-    let mut doubts = asked_rows(members, asked, left);
-    reopen_log(log, traces, u, held, members, &mut doubts);
-    lose_rows(left, members, &doubts);
+    let mut doubts = *left;
+    reopen_log(log, traces, u, held, members, asked, &mut doubts);
+    lose_doubted(members, asked, &doubts, left);
 }
 
-// What is not in doubt goes, and of the rest what no trace lets in. Where nothing after u lets in what is asked, there is no doubt.
+// Those go that are not in doubt, and of the rest those that no trace lets in.
 fn settle<'a>(
     log: &'a [u8],
     traces: usize,
@@ -200,13 +176,8 @@ fn settle<'a>(
         and reopened (tableAt (now (held .entry)) 2) (u .0) (walked (now (log .entry)) traces 0) a x)) (now (left .exit)) ⌝ }
 {
     let later = tables::row(tally, log::LATER, u);
-    let doubt = asked.intersection(relations::union_of(held, INCLUDES, later));
-    if doubt.is_empty() {
-        lose_asked(members, asked, left);
-    } else {
-        lose_sure(members, asked, later, tally, held, left);
-        lose_open(log, traces, u, held, members, asked, left);
-    }
+    lose_sure(members, asked, later, tally, held, left);
+    lose_open(log, traces, u, held, members, asked, left);
 }
 
 // What u excludes and does not include.

@@ -30,9 +30,8 @@ use Rattle.miner.specs.Stages.{conditionsOf, responsesOf, chainsOf, neverOf, ex
 use Rattle.miner.proofs.RowReadings.{turned-rows, absent-rows}
 use Rattle.miner.proofs.EarlySteps.{events, chains-read}
 use Rattle.miner.proofs.Exclusions.{first-too, never-read, excludes-six, six-events}
-use Rattle.miner.proofs.LaterSteps.{conditions-eight, responses-mined}
 use Rattle.miner.proofs.Losing.{where-so}
-use Rattle.miner.proofs.PairForPair.{four-tables}
+use Rattle.miner.proofs.PairForPair.{four-tables, conditions-eight, responses-mined}
 use Rattle.miner.proofs.AtEvents.{AgreeAt, conditions-at, responses-at, chains-at, never-at, alternating-at, excludes-six-at}
 use Rattle.months.specs.Layout.{tallyWidth, setCount, firstRow, rowsEnd, firstPair, rowSet, pairSet, setIn}
 use Rattle.months.specs.Tallies.{asked, held, tallyOf}

@@ -91,7 +91,7 @@ module _ (L : Traces) where
   narrow-answers : Answered (talliedFor false L)
   unfolding reaches _or_
   narrow-answers k a x lk la lx =
-      form-agrees false L k a x lk (omega arith) (omega arith) (lt-ltb x tallyWidth lx)
+      form-agrees false L k a x lk (omega arith) (omega arith) (lt-ltb a tallyWidth la) (lt-ltb x tallyWidth lx)
       ∙ ap (λ (rows : List ℕ). inRow rows a x) (table-asked k lk)
       ∙ in-rowsOf (asked L k) a x (omega arith) (omega arith)
 

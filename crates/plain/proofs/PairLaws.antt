@@ -1,14 +1,14 @@
 -- Lists of pairs: what stands in one, and a walk through it. Assumes nothing.
-use mathlib.Core.Path.{_≡_, refl, sym, ap, _∙_, subst}
+use mathlib.Core.Path.{_≡_, sym, ap, _∙_, subst}
 use mathlib.Core.Bool.{Bool, true, false, not}
 use mathlib.Core.List.{List}
-use Prim.Native.Nat.{ℕ, zero, suc, _<_}
+use Prim.Native.Nat.{ℕ, _<_}
 use native.Mathlib.Omega.{arith}
 use borrow.Author.Tests.{eq-eqb, ne-eqb}
 use lib.Dec.{T, eqb, eqb→eq, eqb-refl}
 use lib.ListN.{length, getD}
-use Rattle.sets.specs.Tests.{_and_, _or_, non}
-use Rattle.sets.specs.Members.{mem, someBelow}
+use Rattle.sets.specs.Tests.{_and_, non}
+use Rattle.sets.specs.Members.{mem}
 use Rattle.sets.specs.declared.set.Set.{Set}
 use Rattle.sets.proofs.Tests.{and-l, and-r, and-i, T-ext, eqb-of, not-non}
 use Rattle.sets.proofs.Below.{some-i, some-e, every-i, every-e}
@@ -73,18 +73,3 @@ module _ (pairs : List ℕ) where
       let at = some-e (length pairs) (λ i. eqb (getD pairs i 0) n) t in
       subst (λ (k : ℕ). T (p k)) (eqb→eq (getD pairs (at .0) 0) n (at .2))
       (every-e (length pairs) (λ i. p (getD pairs i 0)) h (at .0) (at .1))
-
--- ---- one more number
-
-pub some-last : (w : ℕ) (p : ℕ → Bool) → someBelow (suc w) p ≡ (someBelow w p or p w)
-unfolding someBelow _or_
-some-last zero p = or-none (p 0)
-  where
-    or-none : (a : Bool) → (a or false) ≡ a
-    or-none true = refl
-    or-none false = refl
-some-last (suc w) p = ap (λ (t : Bool). p 0 or t) (some-last w (λ a. p (suc a))) ∙ assoc (p 0) (someBelow w (λ a. p (suc a))) (p (suc w))
-  where
-    assoc : (a b c : Bool) → (a or (b or c)) ≡ (a or b or c)
-    assoc true b c = refl
-    assoc false b c = refl

@@ -16,13 +16,12 @@ use Rattle.sets.specs.Tables.{tableAt}
 use Rattle.sets.specs.declared.set.Set.{Set}
 use Rattle.sets.specs.declared.answer.Answer.the-variants.{Done, BufferTooSmall}
 use Rattle.sets.proofs.Tests.{and-l, and-r, and-i, T-ext, T→true, F→false, eqb-of, split, either, or-false}
-use Rattle.sets.proofs.Below.{some-i, some-e}
+use Rattle.sets.proofs.Below.{some-i, some-e, some-last}
 use Rattle.sets.proofs.Bits.{digit-le}
 use Rattle.plain.specs.declared.fill.Filled.{Filled}
 use Rattle.plain.specs.Pairs.{mostPairs, pairOf, sourceOf, targetOf, someIn, isAmong}
 use Rattle.plain.specs.Filling.{relationAt, questions, numbered, isPair, pairsBelow, pairsOf, putDown, filledOf, memoryAfter}
 use Rattle.plain.specs.Same.{pairIn, Holds}
-use Rattle.plain.proofs.PairLaws.{some-last}
 
 -- ---- one pair of the relation
 

@@ -15,6 +15,7 @@ use Rattle.sets.specs.Sizes.{longestTrace}
 use Rattle.sets.proofs.Asking.{done-is, ask-stop}
 use Rattle.sets.specs.Tables.{noTables}
 use Rattle.engine.specs.Relations.{relationCount, inTables, graphOf, emptyGraph}
+use Rattle.engine.specs.Few.{gainsFor, stateFor}
 use Rattle.engine.specs.Replay.{walkedOf, replayFrom, replayOf, steppedOf, steppedOn}
 use Rattle.engine.proofs.Acceptable.{stepped-on, replay-judged, replay-long, empty-judged}
 use Rattle.engine.specs.Judged.{judged}
@@ -45,7 +46,7 @@ use Rattle.report.specs.declared.writer.Listed.{Listed}
 use Rattle.port.specs.Port.{packedOf, verdictOf, blockedOf, stepNumber, storedOf, putNumber, putBuffer, profileOf, inProfile, inProfileBuffer}
 use Rattle.port.specs.Port.{replayNumber, refusedStep, stepOf, openingAnswer, openingBytes}
 use Rattle.port.proofs.Lending.{short-of, room-for}
-use Rattle.port.proofs.BareReading.{bare-answer, file-done, bare-events, bare-state, bare-relations, bare-graph, read-judged}
+use Rattle.port.proofs.BareReading.{bare-answer, file-done, bare-events, bare-state, bare-relations, bare-graph, bare-walk, read-judged}
 
 pub packed-is : (a : Answer) (n low : ℕ) → low ≡ numberOf a → low + 256 * (n % 16777216) ≡ packedOf a n
 unfolding packedOf
@@ -188,13 +189,15 @@ module _ (file trace : List ℕ) (r : Bare) (hr : r ≡ bareOf file) (d : Bool) 
       ∙ sym (ap shown (file-done file r hr d hd true (not-false d h)))
 
   pub replay-run : (n : ℕ) (h : not d ≡ false) → Bytes file → (tables : List ℕ) → tables ≡ bareTables file (noTables relationCount)
-      → length trace ≤ longestTrace → (p : Walked)
-      → p ≡ walkedOf (replayFrom (r .events) (inTables tables) (r .state) 0 trace) → n ≡ said p → n ≡ replayNumber file trace
+      → length trace ≤ longestTrace → (w : Bool) → w ≡ wideIn file
+      → (p : Walked) → p ≡ walkedOf (replayFrom (r .events) (gainsFor w (inTables tables)) (stateFor w (r .state)) 0 trace) → n ≡ said p
+      → n ≡ replayNumber file trace
   unfolding replayNumber
-  replay-run n h small tables ht l p hp e =
+  replay-run n h small tables ht l w hw p hp e =
       e
       ∙ ap said
       (hp
+      ∙ ap walkedOf (bare-walk file r hr d hd h small tables ht w hw trace)
       ∙ (λ j.
       walkedOf
       (replayFrom (bare-events file r hr d hd h j) (inTables (bare-relations file r hr d hd h tables ht j)) (bare-state file r hr d hd h j) 0 trace))

@@ -186,7 +186,13 @@ pub extern "C" fn skelfora_replay(file: &[u8], trace: &[u8]) -> u64
     if Place::LIMIT < trace.len() {
         return packed_blocker(Answer::AboveLimit, 0, false);
     }
-    let p = engine::replay::walk(r.events, &relations, r.state, trace);
+    let p = engine::replay::walk_in(
+        r.events,
+        &relations,
+        r.state,
+        trace,
+        graphfile::is_wide(file),
+    );
     let a = p.answer;
     let place = p.place.0;
     packed_blocker(a, place, p.accepting)

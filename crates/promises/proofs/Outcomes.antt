@@ -70,6 +70,7 @@ use Rattle.engine.proofs.step.step.Reads as step
 use Rattle.engine.proofs.step.step_on.Reads as step-on
 use Rattle.engine.proofs.step.accepting.Reads as accepting
 use Rattle.engine.proofs.replay.walk.Reads as walk
+use Rattle.engine.proofs.replay.walk_in.Reads as walk-in
 use Rattle.engine.proofs.replay.run.Reads as run
 use Rattle.engine.proofs.replay.replay.Reads as replay
 use Rattle.engine.proofs.judge.head_within.Reads as head-within
@@ -122,6 +123,7 @@ use Rattle.steps.proofs.relations.waited.Reads as waited
 use Rattle.steps.proofs.reduce.reduced.Reads as reduced
 use Rattle.tally.proofs.log.empty.Reads as log-empty
 use Rattle.tally.proofs.in_form.Reads as in-form
+use Rattle.tally.proofs.holds.Reads as holds
 use Rattle.tally.proofs.log.note_traces_in.Reads as log-note-traces-in
 use Rattle.miner.proofs.conditions_eight.Reads as conditions-eight
 use Rattle.miner.proofs.excluded_five.Reads as excluded-five
@@ -407,6 +409,9 @@ executed-once κ a r r′ s s′ h h′ = h ∙ sym h′
 pub walk-once : Once walk.Post
 walk-once κ a r r′ s s′ h h′ = h ∙ sym h′
 
+pub walk-in-once : Once walk-in.Post
+walk-in-once κ a r r′ s s′ h h′ = h ∙ sym h′
+
 pub run-once : Once run.Post
 run-once κ a r r′ s s′ h h′ = h ∙ sym h′
 
@@ -591,6 +596,9 @@ log-empty-once κ a r r′ s s′ h h′ = h ∙ sym h′
 
 pub in-form-once : Once in-form.Post
 in-form-once κ a r r′ s s′ h h′ = h ∙ sym h′
+
+pub holds-once : Once holds.Post
+holds-once κ a r r′ s s′ h h′ = h ∙ sym h′
 
 pub log-note-traces-in-once : OnceLent log-note-traces-in.Post (λ κ s. now (s .1 .1 .1 .0))
 log-note-traces-in-once κ a r r′ s s′ h h′ = (h .0 ∙ sym (h′ .0), h .1 ∙ sym (h′ .1))

@@ -2,6 +2,7 @@
 pub mod Places
 pub mod Why
 pub mod InTurn
+pub mod LogLaws
 pub mod Acceptable
 pub mod Demand3
 pub mod Listed

@@ -1,11 +1,11 @@
 -- Places of a trace. The trace `reverseAux past (t ∷ rest)` has at one of its places a t, with this past and this rest; what a test says of
 -- every place it says of this one, and what holds here holds at some place. Assumes nothing.
-use mathlib.Core.Path.{refl, sym, subst}
+use mathlib.Core.Path.{_≡_, refl, sym, ap, subst}
 use mathlib.Core.Bool.{Bool}
 use mathlib.Core.List.{List, [], _∷_, reverseAux, List·Memᴰ, List·Memᴰ·head, List·Memᴰ·tail}
 use Prim.Native.Nat.{ℕ}
-use lib.Dec.{T, eqb-refl}
-use Rattle.sets.proofs.Tests.{and-l, and-r, and-i, or-e, or-l, or-r, imp-e, either}
+use lib.Dec.{T, eqb→eq, eqb-refl}
+use Rattle.sets.proofs.Tests.{and-l, and-r, and-i, or-e, or-l, or-r, imp-e, T-ext, T-eq, either}
 use Rattle.rules.specs.Traces.{Traces, _has_, atEachFrom, atEach, atSomeFrom, atSome, everyTrace, someTrace}
 
 module _ (t : ℕ) (p : List ℕ → List ℕ → Bool) where
@@ -59,3 +59,35 @@ unfolding someTrace
 some-trace [] p h = absurd h
 some-trace (σ ∷ L) p h =
     either (or-e _ _ h) (λ k. (σ, List·Memᴰ·head refl, k)) (λ k. let r = some-trace L p k in (r .0, List·Memᴰ·tail (r .1), r .2))
+
+-- ---- the places of a log where an activity stands
+
+module _ (u : ℕ) (p : List ℕ → List ℕ → Bool) where
+  place-of : (past rest : List ℕ) → T (atSomeFrom u p past rest)
+      → (q : List ℕ) × (s : List ℕ) × (reverseAux q (u ∷ s) ≡ reverseAux past rest) × T (p q s)
+  unfolding atSomeFrom
+  place-of past [] h = absurd h
+  place-of past (x ∷ rest) h =
+      either (or-e _ _ h)
+      (λ k. (past, rest, ap (λ (y : ℕ). reverseAux past (y ∷ rest)) (eqb→eq u x (and-l _ _ k)), and-r _ _ k))
+      (λ k. place-of (x ∷ past) rest k)
+
+  pub some-place : (L : Traces) → T (someTrace L (atSome u p))
+      → (past : List ℕ) × (rest : List ℕ) × List·Memᴰ (reverseAux past (u ∷ rest)) L × T (p past rest)
+  some-place L h =
+      let σ = some-trace L (atSome u p) h in
+      let k = place-of [] (σ .0) (σ .2) in
+      (k .0, k .1, subst (λ (τ : List ℕ). List·Memᴰ τ L) (sym (k .2)) (σ .1), k .3)
+
+  pub at-place : (L : Traces) (past rest : List ℕ) → List·Memᴰ (reverseAux past (u ∷ rest)) L → T (p past rest)
+      → T (someTrace L (atSome u p))
+  at-place L past rest m h = some-of (atSome u p) m (some-at u p past rest h)
+
+-- two tests that agree at every place of the log where u stands
+pub places-ext : (L : Traces) (u : ℕ) (p q : List ℕ → List ℕ → Bool)
+    → ((past rest : List ℕ) → List·Memᴰ (reverseAux past (u ∷ rest)) L → p past rest ≡ q past rest)
+    → someTrace L (atSome u p) ≡ someTrace L (atSome u q)
+places-ext L u p q e =
+    T-ext _ _
+    (λ h. let k = some-place u p L h in at-place u q L (k .0) (k .1) (k .2) (T-eq (e (k .0) (k .1) (k .2)) (k .3)))
+    (λ h. let k = some-place u q L h in at-place u p L (k .0) (k .1) (k .2) (T-eq (sym (e (k .0) (k .1) (k .2))) (k .3)))

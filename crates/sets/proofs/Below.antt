@@ -1,5 +1,5 @@
 -- Some, every, how many, and the least, of the numbers below any width. Assumes nothing.
-use mathlib.Core.Path.{_≡_, refl, sym, ap, ap₂, _∙_}
+use mathlib.Core.Path.{_≡_, refl, sym, ap, ap₂, _∙_, subst}
 use mathlib.Core.Bool.{Bool, true, false}
 use mathlib.Core.Logic.{_⊎_, inl, inr}
 use Prim.Native.Nat.{ℕ, zero, suc, _+_, _-_, _*_, _/_, _%_, _^_, _≤_, _<_, suc-le-suc}
@@ -7,12 +7,12 @@ use native.Mathlib.Nat.{not-suc-le-zero, le-of-suc-le-suc, mod-lt, zero-lt-suc, 
 use native.Mathlib.Omega.{arith}
 use borrow.Author.Tests.{ne-eqb, eqb-true, eqb-false, lt-ltb, ltb-true, ltb-false}
 use lib.Arith.{lt-one, lt-of-le-ne}
-use lib.Dec.{T, eqb, ltb, eqb·suc-zero, eqb·zero-suc, eqb·suc-suc}
+use lib.Dec.{T, eqb, ltb, eqb→eq, eqb-refl, eqb·suc-zero, eqb·zero-suc, eqb·suc-suc}
 use lib.Bits.{bitAnd, and-shr}
 use lib.Count.{ones, ones-step, trailingZeros, under}
 use Rattle.sets.specs.Tests.{_and_, _or_, non, when_then_else_}
 use Rattle.sets.specs.Members.{digit, bit, bitsOf, someBelow, everyBelow, countBelow, leastBelow, endBelow, orNext}
-use Rattle.sets.proofs.Tests.{and-l, and-r, and-i, or-e, or-l, or-r, T-ext, non-i, non-e, and-true, and-assoc, T→true, true→T, F→false, false→F, split, either}
+use Rattle.sets.proofs.Tests.{and-l, and-r, and-i, or-e, or-l, or-r, T-ext, non-i, non-e, and-true, and-assoc, or-comm, or-assoc, T→true, true→T, F→false, false→F, split, either}
 use Rattle.sets.proofs.Bits.{bit-first, bit-next, bit-and, digit-first, half-lt}
 
 -- ---- some and every, number by number
@@ -48,6 +48,28 @@ pub some-ext : (w : ℕ) (p q : ℕ → Bool) → ((a : ℕ) → a < w → p a �
 unfolding someBelow
 some-ext zero p q e = refl
 some-ext (suc w) p q e = ap₂ _or_ (e 0 (zero-lt-suc w)) (some-ext w (λ a. p (suc a)) (λ a. q (suc a)) (λ a l. e (suc a) (suc-le-suc l)))
+
+-- the last by itself
+pub some-last : (w : ℕ) (p : ℕ → Bool) → someBelow (suc w) p ≡ (someBelow w p or p w)
+unfolding someBelow
+some-last zero p = or-comm (p 0) false
+some-last (suc w) p =
+    ap (λ (t : Bool). p 0 or t) (some-last w (λ a. p (suc a))) ∙ sym (or-assoc (p 0) (someBelow w (λ a. p (suc a))) (p (suc w)))
+
+-- with one number more
+pub some-more : (w : ℕ) (p q : ℕ → Bool) (k : ℕ) → (T (q k) → k < w)
+    → someBelow w (λ a. (p a or eqb a k) and q a) ≡ (someBelow w (λ a. p a and q a) or q k)
+some-more w p q k l =
+    T-ext _ _
+    (λ t.
+    let r = some-e w (λ a. (p a or eqb a k) and q a) t in
+    either (or-e _ _ (and-l _ _ (r .2)))
+    (λ h. or-l _ _ (some-i w _ (r .0) (r .1) (and-i _ _ h (and-r _ _ (r .2)))))
+    (λ e. or-r _ _ (subst (λ (n : ℕ). T (q n)) (eqb→eq (r .0) k e) (and-r _ _ (r .2)))))
+    (λ t.
+    either (or-e _ _ t)
+    (λ h. let r = some-e w (λ a. p a and q a) h in some-i w _ (r .0) (r .1) (and-i _ _ (or-l _ _ (and-l _ _ (r .2))) (and-r _ _ (r .2))))
+    (λ h. some-i w _ k (l h) (and-i _ _ (or-r _ _ (eqb-refl k)) h)))
 
 pub every-ext : (w : ℕ) (p q : ℕ → Bool) → ((a : ℕ) → a < w → p a ≡ q a) → everyBelow w p ≡ everyBelow w q
 unfolding everyBelow

@@ -6,17 +6,17 @@ use mathlib.Core.Logic.{_⊎_, inl, inr}
 use mathlib.Core.List.{List}
 use Prim.Native.Nat.{ℕ, _<_}
 use borrow.Author.Tests.{not-true, not-false}
-use lib.Dec.{T, eqb, eqb→eq, eqb-refl}
+use lib.Dec.{T, eqb, eqb→eq}
 use Rattle.sets.specs.Tests.{_and_, _or_, non}
 use Rattle.sets.specs.Members.{width, mem, those, someBelow, countBelow, leastBelow, isEmpty}
 use Rattle.sets.specs.Rows.{Relation, rowAt, withRow, inRow, rowsOf}
 use Rattle.sets.specs.declared.set.Set.{Set}
 use Rattle.sets.proofs.Tests.{and-l, and-r, and-i, or-e, or-l, or-r, non-i, non-e, T-ext, T-eq, true→T, F→false, false→F, false-and, or-false, non-false, split, either}
-use Rattle.sets.proofs.Below.{some-i, some-e, some-ext, least-is, least-lt}
+use Rattle.sets.proofs.Below.{some-e, some-ext, some-more, least-is, least-lt}
 use Rattle.sets.proofs.Members.{those-ext, those-of, empty-e, empty-none, fewer}
 use Rattle.sets.proofs.RowLaws.{gain-rowsOf, rowsOf-ext}
 use Rattle.sets.proofs.Tautologies.{by3, by4}
-use Rattle.sets.proofs.MadeSets.{Is, is-those, is-row, joined, none}
+use Rattle.sets.proofs.MadeSets.{is-those, is-row, joined, none}
 
 regroup : (q p e g : Bool) → (q or p and g or e and g) ≡ (q or (p or e) and g)
 unfolding _and_ _or_ non
@@ -81,6 +81,13 @@ module _ (rest rest′ : Set) (r : Bool) (hr : r ≡ isEmpty rest) (hn : not r �
           and-i _ _ (h a l (subst (λ (n : ℕ). T (mem rest n)) (sym (eqb→eq a _ e)) least-in))
           (non-i _ (λ m. non-e _ (and-r _ _ (T-eq (left a l) m)) e))
 
+  -- some member that was passed passes a test: it was passed before, or it is the least
+  pub some-passed : (all : Set) → Part all rest → (q : ℕ → Bool) → someBelow width (λ u. passed all rest′ u and q u)
+      ≡ (someBelow width (λ u. passed all rest u and q u) or q (leastBelow width (mem rest)))
+  some-passed all h q =
+      some-ext width _ _ (λ u l. ap (λ (t : Bool). t and q u) (passed-turn all h u l))
+      ∙ some-more width (passed all rest) q (leastBelow width (mem rest)) (λ t. least-low)
+
 -- ---- rows that gain a set at each member passed
 
 abbrev pub Shared : List ℕ → Set → Set → List ℕ → Set → Type 0
@@ -139,28 +146,11 @@ module _ (rows : List ℕ) (all : Set) where
     part-turn rest rest′ r hr hn hm all hp,
     joined _or_ out row out′ (inSome rows (passed all rest)) (inRow rows k) (is-those out (inSome rows (passed all rest)) ho) (is-row row rows k hw) hu
         ∙ those-ext (λ x. inSome rows (passed all rest) x or inRow rows k x) (inSome rows (passed all rest′))
-        (λ x lx. T-ext (inSome rows (passed all rest) x or inRow rows k x) (inSome rows (passed all rest′) x) (λ t. more x (or-e _ _ t)) (λ t. less x (some-e width _ t))),
+        (λ x lx. sym (some-passed rest rest′ r hr hn hm all hp (λ u. inRow rows u x))),
   )
     where
       k : ℕ
       k = leastBelow width (mem rest)
-
-      turn : (a : ℕ) → a < width → passed all rest′ a ≡ (passed all rest a or eqb a (leastBelow width (mem rest)))
-      turn = passed-turn rest rest′ r hr hn hm all hp
-
-      more : (x : ℕ) → T (inSome rows (passed all rest) x) ⊎ T (inRow rows k x) → T (inSome rows (passed all rest′) x)
-      more x (inl t) =
-          let u = some-e width (λ v. passed all rest v and inRow rows v x) t in
-          some-i width (λ v. passed all rest′ v and inRow rows v x) (u .0) (u .1)
-          (and-i _ _ (T-eq (sym (turn (u .0) (u .1))) (or-l _ _ (and-l _ _ (u .2)))) (and-r _ _ (u .2)))
-      more x (inr t) =
-          some-i width (λ v. passed all rest′ v and inRow rows v x) k (least-low rest rest′ r hr hn hm)
-          (and-i _ _ (T-eq (sym (turn k (least-low rest rest′ r hr hn hm))) (or-r _ _ (eqb-refl k))) t)
-
-      less : (x : ℕ) → (u : ℕ) × (u < width) × T (passed all rest′ u and inRow rows u x) → T (inSome rows (passed all rest) x or inRow rows k x)
-      less x (u, l, t) = either (or-e _ _ (T-eq (turn u l) (and-l _ _ t)))
-          (λ p. or-l _ _ (some-i width (λ v. passed all rest v and inRow rows v x) u l (and-i _ _ p (and-r _ _ t))))
-          (λ e. or-r _ _ (subst (λ (n : ℕ). T (inRow rows n x)) (eqb→eq u _ e) (and-r _ _ t)))
 
   pub union-end : (out rest : Set) (r : Bool) → out ≡ those (inSome rows (passed all rest)) → r ≡ isEmpty rest → not r ≡ false
       → out ≡ those (inSome rows (mem all))

@@ -4,12 +4,12 @@ use mathlib.Core.Bool.{Bool, true, false}
 use mathlib.Core.List.{List, [], _∷_}
 use Prim.Native.Nat.{ℕ}
 use lib.Dec.{T, eqb, eqb→eq}
-use Rattle.sets.specs.Tests.{_and_, _or_}
+use Rattle.sets.specs.Tests.{_and_, _or_, when_then_else_}
 use Rattle.sets.specs.Rows.{Relation, noRows, rowsOf}
-use Rattle.sets.proofs.Tests.{and-i, and-l, and-r, or-assoc, or-comm, or-false, false-or, T-ext}
+use Rattle.sets.proofs.Tests.{and-i, and-l, and-r, or-assoc, or-comm, or-false, false-or, and-false, T-ext}
 use Rattle.sets.proofs.RowLaws.{rowsOf-ext, gain-rowsOf, empty-rowsOf}
 use Rattle.rules.specs.Traces.{Traces, atSomeFrom, atSome, someTrace}
-use Rattle.tally.specs.Passes.{Fact, gained, gains, forward, backward, through, reaches, cut}
+use Rattle.tally.specs.Passes.{Fact, Turn, gained, gains, gainedFor, gainsIn, forward, backward, through, reaches, cut}
 
 -- of two that are the same it may be said of either
 pub at-same : (a e : ℕ) (f : ℕ → Bool) → (eqb a e and f e) ≡ (eqb a e and f a)
@@ -18,49 +18,70 @@ at-same a e f =
     (λ t. and-i _ _ (and-l _ _ t) (subst (λ (n : ℕ). T (f n)) (sym (eqb→eq a e (and-l _ _ t))) (and-r _ _ t)))
     (λ t. and-i _ _ (and-l _ _ t) (subst (λ (n : ℕ). T (f n)) (eqb→eq a e (and-l _ _ t)) (and-r _ _ t)))
 
-module _ (p : Fact) where
-  -- what the places of a say, in the rest of a trace
-  abbrev pub said : List ℕ → List ℕ → Relation
-  said past rest a x = atSomeFrom a (λ q s. p a q s x) past rest
+-- what the places of a say, in the rest of a trace
+abbrev pub said : Fact → List ℕ → List ℕ → Relation
+said p past rest a x = atSomeFrom a (λ q s. p a q s x) past rest
 
-  gains-rowsOf : (r : Relation) (e : ℕ) (past rest : List ℕ) → gains p (rowsOf r) e past rest
-      ≡ rowsOf (λ a x. r a x or eqb a e and p e past rest x)
-  unfolding gains gained
-  gains-rowsOf r e past rest = gain-rowsOf r e (p e past rest)
-
-  pub forward-rowsOf : (r : Relation) (past rest : List ℕ) → forward (gains p) (rowsOf r) past rest
-      ≡ rowsOf (λ a x. r a x or said past rest a x)
+-- a pass whose turn puts the fact into a relation's rows
+module _ (p : Fact) (turn : Turn)
+    (one : (r : Relation) (e : ℕ) (past rest : List ℕ) → turn (rowsOf r) e past rest ≡ rowsOf (λ a x. r a x or eqb a e and p e past rest x)) where
+  pub forward-by : (r : Relation) (past rest : List ℕ) → forward turn (rowsOf r) past rest ≡ rowsOf (λ a x. r a x or said p past rest a x)
   unfolding forward atSomeFrom
-  forward-rowsOf r past [] = rowsOf-ext r (λ a x. r a x or false) (λ a x ha hx. sym (or-false (r a x)))
-  forward-rowsOf r past (e ∷ rest) =
-      ap (λ (l : List ℕ). forward (gains p) l (e ∷ past) rest) (gains-rowsOf r e past rest)
-      ∙ forward-rowsOf (λ a x. r a x or eqb a e and p e past rest x) (e ∷ past) rest
-      ∙ rowsOf-ext (λ a x. r a x or eqb a e and p e past rest x or said (e ∷ past) rest a x) (λ a x. r a x or said past (e ∷ rest) a x)
+  forward-by r past [] = rowsOf-ext r (λ a x. r a x or false) (λ a x ha hx. sym (or-false (r a x)))
+  forward-by r past (e ∷ rest) =
+      ap (λ (l : List ℕ). forward turn l (e ∷ past) rest) (one r e past rest)
+      ∙ forward-by (λ a x. r a x or eqb a e and p e past rest x) (e ∷ past) rest
+      ∙ rowsOf-ext (λ a x. r a x or eqb a e and p e past rest x or said p (e ∷ past) rest a x) (λ a x. r a x or said p past (e ∷ rest) a x)
       (λ a x ha hx.
-      or-assoc (r a x) (eqb a e and p e past rest x) (said (e ∷ past) rest a x)
-      ∙ ap (λ (b : Bool). r a x or (b or said (e ∷ past) rest a x)) (at-same a e (λ n. p n past rest x)))
+      or-assoc (r a x) (eqb a e and p e past rest x) (said p (e ∷ past) rest a x)
+      ∙ ap (λ (b : Bool). r a x or (b or said p (e ∷ past) rest a x)) (at-same a e (λ n. p n past rest x)))
 
-  pub backward-rowsOf : (r : Relation) (past rest : List ℕ) → backward (gains p) (rowsOf r) past rest
-      ≡ rowsOf (λ a x. r a x or said past rest a x)
+  pub backward-by : (r : Relation) (past rest : List ℕ) → backward turn (rowsOf r) past rest ≡ rowsOf (λ a x. r a x or said p past rest a x)
   unfolding backward atSomeFrom
-  backward-rowsOf r past [] = rowsOf-ext r (λ a x. r a x or false) (λ a x ha hx. sym (or-false (r a x)))
-  backward-rowsOf r past (e ∷ rest) =
-      ap (λ (l : List ℕ). gains p l e past rest) (backward-rowsOf r (e ∷ past) rest)
-      ∙ gains-rowsOf (λ a x. r a x or said (e ∷ past) rest a x) e past rest
-      ∙ rowsOf-ext (λ a x. r a x or said (e ∷ past) rest a x or eqb a e and p e past rest x) (λ a x. r a x or said past (e ∷ rest) a x)
+  backward-by r past [] = rowsOf-ext r (λ a x. r a x or false) (λ a x ha hx. sym (or-false (r a x)))
+  backward-by r past (e ∷ rest) =
+      ap (λ (l : List ℕ). turn l e past rest) (backward-by r (e ∷ past) rest)
+      ∙ one (λ a x. r a x or said p (e ∷ past) rest a x) e past rest
+      ∙ rowsOf-ext (λ a x. r a x or said p (e ∷ past) rest a x or eqb a e and p e past rest x) (λ a x. r a x or said p past (e ∷ rest) a x)
       (λ a x ha hx.
-      or-assoc (r a x) (said (e ∷ past) rest a x) (eqb a e and p e past rest x)
-      ∙ ap (λ (b : Bool). r a x or b) (or-comm (said (e ∷ past) rest a x) (eqb a e and p e past rest x))
-      ∙ ap (λ (b : Bool). r a x or (b or said (e ∷ past) rest a x)) (at-same a e (λ n. p n past rest x)))
+      or-assoc (r a x) (said p (e ∷ past) rest a x) (eqb a e and p e past rest x)
+      ∙ ap (λ (b : Bool). r a x or b) (or-comm (said p (e ∷ past) rest a x) (eqb a e and p e past rest x))
+      ∙ ap (λ (b : Bool). r a x or (b or said p (e ∷ past) rest a x)) (at-same a e (λ n. p n past rest x)))
 
+pub forward-rowsOf : (p : Fact) (r : Relation) (past rest : List ℕ) → forward (gains p) (rowsOf r) past rest ≡ rowsOf (λ a x. r a x or said p past rest a x)
+unfolding gains gained
+forward-rowsOf p = forward-by p (gains p) (λ r e past rest. gain-rowsOf r e (p e past rest))
+
+-- the fact of a place, as far as a form holds its activity and what is put there
+abbrev pub formed : Bool → Fact → Fact
+formed wide p e past rest x = reaches wide e and cut wide p e past rest x
+
+pub gains-in : (wide : Bool) (p : Fact) (r : Relation) (e : ℕ) (past rest : List ℕ) → gainsIn wide p (rowsOf r) e past rest
+    ≡ rowsOf (λ a x. r a x or eqb a e and formed wide p e past rest x)
+unfolding gainsIn gainedFor gained _and_
+gains-in wide p r e past rest = by (reaches wide e)
+  where
+    by : (b : Bool) → (when b then gained (rowsOf r) e (cut wide p e past rest) else rowsOf r) ≡ rowsOf (λ a x. r a x or eqb a e and (b and cut wide p e past rest x))
+    by true = gain-rowsOf r e (cut wide p e past rest)
+    by false = rowsOf-ext r _ (λ a x ha hx. sym (ap (λ (t : Bool). r a x or t) (and-false (eqb a e)) ∙ or-false (r a x)))
+
+pub forward-in : (wide : Bool) (p : Fact) (r : Relation) (past rest : List ℕ)
+    → forward (gainsIn wide p) (rowsOf r) past rest ≡ rowsOf (λ a x. r a x or said (formed wide p) past rest a x)
+forward-in wide p = forward-by (formed wide p) (gainsIn wide p) (gains-in wide p)
+
+module _ (p : Fact) where
   -- what some trace says
   abbrev pub heard : Traces → Relation
   heard L a x = someTrace L (atSome a (λ q s. p a q s x))
 
 -- what is heard in a form of what the form can hold
-pub heard-in : (wide : Bool) (p : Fact) (L : Traces) (a x : ℕ) → reaches wide x ≡ true → heard (cut wide p) L a x ≡ heard p L a x
+pub heard-cut : (wide : Bool) (p : Fact) (L : Traces) (a x : ℕ) → reaches wide x ≡ true → heard (cut wide p) L a x ≡ heard p L a x
 unfolding cut _and_
-heard-in wide p L a x h = ap (λ (b : Bool). someTrace L (atSome a (λ q s. b and p a q s x))) h
+heard-cut wide p L a x h = ap (λ (b : Bool). someTrace L (atSome a (λ q s. b and p a q s x))) h
+
+pub heard-in : (wide : Bool) (p : Fact) (L : Traces) (a x : ℕ) → reaches wide a ≡ true → reaches wide x ≡ true → heard (formed wide p) L a x ≡ heard p L a x
+unfolding _and_
+heard-in wide p L a x ha hx = ap (λ (b : Bool). someTrace L (atSome a (λ q s. b and cut wide p a q s x))) ha ∙ heard-cut wide p L a x hx
 
 -- one pass after another, over all traces: `pass` takes rows and a trace
 module _ (p : Fact) (pass : List ℕ → List ℕ → List ℕ)

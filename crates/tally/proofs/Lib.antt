@@ -1,13 +1,8 @@
 -- The modules of `proofs/` that belong to no one function.
 pub mod Turns
-pub mod Somes
 pub mod Folds
-pub mod Since
-pub mod Blocks
-pub mod Fused
+pub mod LookBack
 pub mod Alternate
-pub mod Onward
-pub mod Homeward
+pub mod Loops
 pub mod Walks
-pub mod LogLaws
 pub mod Tallying

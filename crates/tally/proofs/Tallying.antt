@@ -14,12 +14,12 @@ use Rattle.sets.proofs.RowLaws.{rowsOf-ext, in-rowsOf}
 use Rattle.sets.proofs.TableLaws.{table-put-same, table-put-other, table-none}
 use Rattle.rules.specs.Traces.{Traces, _has_, _beginsWith_, atSome}
 use Rattle.rules.specs.Mining.{precedes, answers, chained, before, followed, alternates}
-use Rattle.tally.specs.Passes.{Fact, Turn, gained, gains, notedIn, forward, backward, through, isEarlier, notEarlier, notDirectly}
+use Rattle.rules.proofs.LogLaws.{non-every, some-ext, next-from, before-later}
+use Rattle.tally.specs.Passes.{Fact, Turn, gained, gainedFor, gainsIn, notedIn, forward, backward, through, isEarlier, notEarlier, notDirectly}
 use Rattle.tally.specs.Passes.{notSince, isLater, notLater, isNext, reaches, cut}
 use Rattle.tally.specs.Tallies.{tableCount, beforeTable, laterTable, unprecededTable, unansweredTable, unchainedTable, unalternatedTable}
-use Rattle.tally.specs.Tallies.{followedTable, notePastIn, noteSinceIn, noteRestIn, notedFor, talliedFor, notePast, noteSince, noteRest, noted, tallied}
-use Rattle.tally.proofs.Folds.{said, heard, heard-in, forward-rowsOf, backward-rowsOf, through-all}
-use Rattle.tally.proofs.LogLaws.{non-every, some-ext, next-from, before-later}
+use Rattle.tally.specs.Tallies.{followedTable, notePastIn, noteRestIn, notedFor, talliedFor, notePast, noteRest, noted, tallied}
+use Rattle.tally.proofs.Folds.{said, heard, heard-in, formed, gains-in, forward-in, backward-by, through-all}
 
 -- ---- a table of a pass is a pass over the table
 
@@ -61,33 +61,47 @@ thrice-table tally i j l e p q r k =
     noted-table (notedIn (notedIn tally i e p) j e q) l e r k
     ∙ ap (inOne k l e r) (noted-table (notedIn tally i e p) j e q k ∙ ap (inOne k j e q) (noted-table tally i e p k))
 
+-- the table of what a form leaves of a tally
+held-table : (b : Bool) (t tally rows : List ℕ) (k : ℕ) → tableAt t k ≡ rows → tableAt (when b then t else tally) k ≡ (when b then rows else tableAt tally k)
+held-table true t tally rows k h = h
+held-table false t tally rows k h = refl
+
 module _ (wide : Bool) (k : ℕ) where
   abbrev pastIn : Turn
   pastIn rows e past rest =
-      inOne k unchainedTable e (cut wide notDirectly e past rest)
-      (inOne k unprecededTable e (cut wide notEarlier e past rest) (inOne k beforeTable e (cut wide isEarlier e past rest) rows))
-
-  abbrev sinceIn : Turn
-  sinceIn rows e past rest = inOne k unalternatedTable e (cut wide notSince e past rest) rows
+      when reaches wide e then
+      inOne k unalternatedTable e (cut wide notSince e past rest)
+      (inOne k unchainedTable e (cut wide notDirectly e past rest)
+      (inOne k unprecededTable e (cut wide notEarlier e past rest) (inOne k beforeTable e (cut wide isEarlier e past rest) rows)))
+      else rows
 
   abbrev restIn : Turn
   restIn rows e past rest =
+      when reaches wide e then
       inOne k followedTable e (cut wide isNext e past rest)
       (inOne k unansweredTable e (cut wide notLater e past rest) (inOne k laterTable e (cut wide isLater e past rest) rows))
+      else rows
 
-  -- the three passes over a trace
+  past-at : (t : List ℕ) (e : ℕ) (past rest : List ℕ) → tableAt (notePastIn wide t e past rest) k ≡ pastIn (tableAt t k) e past rest
+  unfolding notePastIn
+  past-at t e past rest =
+      held-table (reaches wide e) _ t _ k
+      (noted-table _ unalternatedTable e (cut wide notSince e past rest) k
+      ∙ ap (inOne k unalternatedTable e (cut wide notSince e past rest)) (thrice-table t _ _ _ e _ _ _ k))
+
+  rest-at : (t : List ℕ) (e : ℕ) (past rest : List ℕ) → tableAt (noteRestIn wide t e past rest) k ≡ restIn (tableAt t k) e past rest
+  unfolding noteRestIn
+  rest-at t e past rest = held-table (reaches wide e) _ t _ k (thrice-table t _ _ _ e _ _ _ k)
+
+  -- the passes over a trace
   abbrev notedAt : List ℕ → List ℕ → List ℕ
-  notedAt rows σ = backward restIn (forward sinceIn (forward pastIn rows [] σ) [] σ) [] σ
+  notedAt rows σ = backward restIn (forward pastIn rows [] σ) [] σ
 
   noted-at : (tally σ : List ℕ) → tableAt (notedFor wide tally σ) k ≡ notedAt (tableAt tally k) σ
   unfolding notedFor
   noted-at tally σ =
-      backward-table k (noteRestIn wide) restIn (λ t e past rest. unfold noteRestIn in thrice-table t _ _ _ e _ _ _ k)
-      (forward (noteSinceIn wide) (forward (notePastIn wide) tally [] σ) [] σ) [] σ
-      ∙ ap (λ (rows : List ℕ). backward restIn rows [] σ)
-      (forward-table k (noteSinceIn wide) sinceIn (λ t e past rest. unfold noteSinceIn in noted-table t _ e _ k) (forward (notePastIn wide) tally [] σ) [] σ
-      ∙ ap (λ (rows : List ℕ). forward sinceIn rows [] σ)
-      (forward-table k (notePastIn wide) pastIn (λ t e past rest. unfold notePastIn in thrice-table t _ _ _ e _ _ _ k) tally [] σ))
+      backward-table k (noteRestIn wide) restIn rest-at (forward (notePastIn wide) tally [] σ) [] σ
+      ∙ ap (λ (rows : List ℕ). backward restIn rows [] σ) (forward-table k (notePastIn wide) pastIn past-at tally [] σ)
 
   through-table : (tally : List ℕ) (L : Traces) → tableAt (through (notedFor wide) tally L) k ≡ through notedAt (tableAt tally k) L
   unfolding through
@@ -105,28 +119,32 @@ module _ (wide : Bool) (k : ℕ) where
 
 -- ---- a table that a pass does not touch stays
 
-abbrev still : Turn
-still rows e past rest = rows
+module _ (wide : Bool) where
+  abbrev still : Turn
+  still rows e past rest = when reaches wide e then rows else rows
 
-forward-still : (rows past rest : List ℕ) → forward still rows past rest ≡ rows
-unfolding forward
-forward-still rows past [] = refl
-forward-still rows past (e ∷ rest) = forward-still rows (e ∷ past) rest
+  stays : (b : Bool) (rows : List ℕ) → (when b then rows else rows) ≡ rows
+  stays true rows = refl
+  stays false rows = refl
 
-backward-still : (rows past rest : List ℕ) → backward still rows past rest ≡ rows
-unfolding backward
-backward-still rows past [] = refl
-backward-still rows past (e ∷ rest) = backward-still rows (e ∷ past) rest
+  forward-still : (rows past rest : List ℕ) → forward still rows past rest ≡ rows
+  unfolding forward
+  forward-still rows past [] = refl
+  forward-still rows past (e ∷ rest) = forward-still (still rows e past rest) (e ∷ past) rest ∙ stays (reaches wide e) rows
 
-module _ (p : Fact) (r : Relation) (σ : List ℕ) where
-  past-alone : backward still (forward still (forward (gains p) (rowsOf r) [] σ) [] σ) [] σ ≡ rowsOf (λ a x. r a x or said p [] σ a x)
-  past-alone = backward-still _ [] σ ∙ forward-still _ [] σ ∙ forward-rowsOf p r [] σ
+  backward-still : (rows past rest : List ℕ) → backward still rows past rest ≡ rows
+  unfolding backward
+  backward-still rows past [] = refl
+  backward-still rows past (e ∷ rest) = stays (reaches wide e) _ ∙ backward-still rows (e ∷ past) rest
 
-  since-alone : backward still (forward (gains p) (forward still (rowsOf r) [] σ) [] σ) [] σ ≡ rowsOf (λ a x. r a x or said p [] σ a x)
-  since-alone = backward-still _ [] σ ∙ ap (λ (rows : List ℕ). forward (gains p) rows [] σ) (forward-still _ [] σ) ∙ forward-rowsOf p r [] σ
+  module _ (p : Fact) (r : Relation) (σ : List ℕ) where
+    past-alone : backward still (forward (gainsIn wide p) (rowsOf r) [] σ) [] σ ≡ rowsOf (λ a x. r a x or said (formed wide p) [] σ a x)
+    past-alone = backward-still _ [] σ ∙ forward-in wide p r [] σ
 
-  rest-alone : backward (gains p) (forward still (forward still (rowsOf r) [] σ) [] σ) [] σ ≡ rowsOf (λ a x. r a x or said p [] σ a x)
-  rest-alone = ap (λ (rows : List ℕ). backward (gains p) rows [] σ) (forward-still _ [] σ ∙ forward-still _ [] σ) ∙ backward-rowsOf p r [] σ
+    rest-alone : backward (gainsIn wide p) (forward still (rowsOf r) [] σ) [] σ ≡ rowsOf (λ a x. r a x or said (formed wide p) [] σ a x)
+    rest-alone =
+        ap (λ (rows : List ℕ). backward (gainsIn wide p) rows [] σ) (forward-still _ [] σ)
+        ∙ backward-by (formed wide p) (gainsIn wide p) (gains-in wide p) r [] σ
 
 -- ---- the seven, in a form
 
@@ -140,22 +158,22 @@ factAt (suc (suc (suc (suc zero)))) = notDirectly
 factAt (suc (suc (suc (suc (suc zero))))) = notSince
 factAt (suc (suc (suc (suc (suc (suc k)))))) = isNext
 
-table-heard : (wide : Bool) (L : Traces) (k : ℕ) → k < tableCount → tableAt (talliedFor wide L) k ≡ rowsOf (heard (cut wide (factAt k)) L)
-unfolding gains
-table-heard wide L zero l = table-is wide 0 l _ L (past-alone (cut wide isEarlier))
-table-heard wide L (suc zero) l = table-is wide 1 l _ L (rest-alone (cut wide isLater))
-table-heard wide L (suc (suc zero)) l = table-is wide 2 l _ L (past-alone (cut wide notEarlier))
-table-heard wide L (suc (suc (suc zero))) l = table-is wide 3 l _ L (rest-alone (cut wide notLater))
-table-heard wide L (suc (suc (suc (suc zero)))) l = table-is wide 4 l _ L (past-alone (cut wide notDirectly))
-table-heard wide L (suc (suc (suc (suc (suc zero))))) l = table-is wide 5 l _ L (since-alone (cut wide notSince))
-table-heard wide L (suc (suc (suc (suc (suc (suc zero)))))) l = table-is wide 6 l _ L (rest-alone (cut wide isNext))
+table-heard : (wide : Bool) (L : Traces) (k : ℕ) → k < tableCount → tableAt (talliedFor wide L) k ≡ rowsOf (heard (formed wide (factAt k)) L)
+unfolding gainsIn gainedFor
+table-heard wide L zero l = table-is wide 0 l _ L (past-alone wide isEarlier)
+table-heard wide L (suc zero) l = table-is wide 1 l _ L (rest-alone wide isLater)
+table-heard wide L (suc (suc zero)) l = table-is wide 2 l _ L (past-alone wide notEarlier)
+table-heard wide L (suc (suc (suc zero))) l = table-is wide 3 l _ L (rest-alone wide notLater)
+table-heard wide L (suc (suc (suc (suc zero)))) l = table-is wide 4 l _ L (past-alone wide notDirectly)
+table-heard wide L (suc (suc (suc (suc (suc zero))))) l = table-is wide 5 l _ L (past-alone wide notSince)
+table-heard wide L (suc (suc (suc (suc (suc (suc zero)))))) l = table-is wide 6 l _ L (rest-alone wide isNext)
 table-heard wide L (suc (suc (suc (suc (suc (suc (suc k))))))) l = absurd (omega (arith, l))
 
 -- ---- over the whole width
 
 -- the wide form leaves nothing out
 pub through-whole : (t : List ℕ) (L : Traces) → through (notedFor true) t L ≡ through noted t L
-unfolding notedFor noted notePastIn notePast noteSinceIn noteSince noteRestIn noteRest cut reaches _and_ _or_
+unfolding notedFor noted notePastIn notePast noteRestIn noteRest cut reaches _and_ _or_
 through-whole t L = refl
 
 module _ (L : Traces) where
@@ -163,7 +181,7 @@ module _ (L : Traces) where
   whole-is k l R h =
       ap (λ (x : List ℕ). tableAt x k) (sym (through-whole (noTables tableCount) L))
       ∙ table-heard true L k l
-      ∙ rowsOf-ext _ R (λ a x la lx. heard-in true (factAt k) L a x (unfold reaches _or_ in refl) ∙ h a x)
+      ∙ rowsOf-ext _ R (λ a x la lx. heard-in true (factAt k) L a x (unfold reaches _or_ in refl) (unfold reaches _or_ in refl) ∙ h a x)
 
   pub before-table : tableAt (tallied L) beforeTable ≡ rowsOf (λ t s. before L s t)
   unfolding isEarlier before
@@ -198,11 +216,11 @@ module _ (L : Traces) where
 
 -- ---- either form says the same of what it can hold
 
-pub form-agrees : (wide : Bool) (L : Traces) (k a x : ℕ) → k < tableCount → a < width → x < width → reaches wide x ≡ true
+pub form-agrees : (wide : Bool) (L : Traces) (k a x : ℕ) → k < tableCount → a < width → x < width → reaches wide a ≡ true → reaches wide x ≡ true
     → inRow (tableAt (talliedFor wide L) k) a x ≡ inRow (tableAt (tallied L) k) a x
-form-agrees wide L k a x lk la lx h =
+form-agrees wide L k a x lk la lx ha hx =
     ap (λ (rows : List ℕ). inRow rows a x) (table-heard wide L k lk)
-    ∙ in-rowsOf (heard (cut wide (factAt k)) L) a x la lx
-    ∙ heard-in wide (factAt k) L a x h
+    ∙ in-rowsOf (heard (formed wide (factAt k)) L) a x la lx
+    ∙ heard-in wide (factAt k) L a x ha hx
     ∙ sym (in-rowsOf (heard (factAt k) L) a x la lx)
     ∙ ap (λ (rows : List ℕ). inRow rows a x) (sym (whole-is L k lk _ (λ b y. refl)))

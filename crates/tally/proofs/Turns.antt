@@ -1,15 +1,15 @@
 -- One turn of a pass over a trace: what stands before place i, the set of it, and what the row of the event gains. Assumes nothing.
 use Rattle.sets.specs.Members.{noSet, width, word, mem, those}
 use mathlib.Core.Path.{_≡_, refl, sym, ap, _∙_}
-use mathlib.Core.Bool.{Bool, true, false}
+use mathlib.Core.Bool.{Bool, true, false, not}
 use mathlib.Core.List.{List, [], _∷_, _++_, reverseAux}
 use Prim.Native.Nat.{ℕ, _+_, _≤_, _<_}
 use native.Mathlib.Numerals.{add-one}
-use borrow.Author.Tests.{ltb-true, ltb-false}
+use borrow.Author.Tests.{lt-ltb, le-ltb, ltb-true, ltb-false, not-true, not-false}
 use lib.Dec.{eqb, ltb}
 use lib.ListN.{length, getD, take, drop, drop-of-length-le}
 use lib.Seq.{take-suc, take-all, drop-cons, drop-length}
-use Rattle.sets.specs.Tests.{_and_, _or_, non}
+use Rattle.sets.specs.Tests.{_and_, _or_, non, when_then_else_}
 use Rattle.sets.specs.Rows.{rowAt, withRow}
 use Rattle.sets.specs.Tables.{tableAt, withRowIn, gainedIn}
 use Rattle.sets.specs.declared.set.Set.{Set}
@@ -20,10 +20,10 @@ use Rattle.sets.proofs.MadeSets.{Is, is-those}
 use Rattle.sets.proofs.RowLaws.{put-out}
 use Rattle.sets.proofs.TableLaws.{table-put-above}
 use Rattle.rules.specs.Traces.{_has_, _beginsWith_}
-use Rattle.tally.specs.Passes.{Fact, Turn, gained, gains, notedIn, forward, backward, reaches, cut, isEarlier, notEarlier, notDirectly}
+use Rattle.tally.specs.Passes.{Fact, Turn, gained, gains, gainedFor, gainsIn, notedIn, forward, backward, reaches, cut, isEarlier, notEarlier, notDirectly}
 use Rattle.tally.specs.Passes.{isLater, notLater, isNext}
-use Rattle.tally.specs.Tallies.{beforeTable, laterTable, unprecededTable, unansweredTable, unchainedTable, followedTable, notePastIn}
-use Rattle.tally.specs.Tallies.{noteRestIn, pastBy, restBy}
+use Rattle.tally.specs.Tallies.{beforeTable, laterTable, unprecededTable, unansweredTable, unchainedTable, followedTable, noteRestIn}
+use Rattle.tally.specs.Tallies.{pastBy, restBy}
 
 -- what stands before place i, the nearest first
 abbrev pub pastAt : List ℕ → ℕ → List ℕ
@@ -92,21 +92,15 @@ pub with-one : (seen one r : Set) (e : ℕ) → one ≡ those (λ b. eqb b e) �
     ≡ those (λ x. mem seen x or eqb x e)
 with-one seen one r e ho hr = hr ∙ those-of one (λ b. eqb b e) (λ a t. mem seen a or t) ho
 
--- a set of what was seen gains an event
-pub seen-one : (past : List ℕ) (e : ℕ) (seen r : Set) → seen ≡ seenIn past → r ≡ those (λ x. mem seen x or eqb x e) → r ≡ seenIn (e ∷ past)
-unfolding _has_
-seen-one past e seen r hs hr =
-    hr ∙ those-of seen (λ x. past has x) (λ a t. t or eqb a e) hs
-    ∙ those-ext (λ a. past has a or eqb a e) (λ a. (e ∷ past) has a) (λ a l. or-comm (past has a) (eqb a e))
-
 -- what was seen, one place further
 pub seen-next : (σ : List ℕ) (i : ℕ) (h : i < length σ) (seen : Set) → seen ≡ seenIn (pastAt σ i) → (r : Set)
     → r ≡ those (λ x. mem seen x or eqb x (getD σ i 0)) → r ≡ seenIn (pastAt σ (i + 1))
-seen-next σ i h seen hs r hr = seen-one (pastAt σ i) (getD σ i 0) seen r hs hr ∙ ap seenIn (sym (past-next σ i h))
-
-pub seen-more : (past : List ℕ) (e : ℕ) (seen one seen′ : Set) → seen ≡ seenIn past → one ≡ those (λ b. eqb b e)
-    → seen′ ≡ those (λ a. mem seen a or mem one a) → seen′ ≡ seenIn (e ∷ past)
-seen-more past e seen one seen′ hs ho hu = seen-one past e seen seen′ hs (with-one seen one seen′ e ho hu)
+unfolding _has_
+seen-next σ i h seen hs r hr =
+    hr
+    ∙ those-of seen (λ x. pastAt σ i has x) (λ x t. t or eqb x (getD σ i 0)) hs
+    ∙ those-ext _ (λ x. (getD σ i 0 ∷ pastAt σ i) has x) (λ x l. or-comm (pastAt σ i has x) (eqb x (getD σ i 0)))
+    ∙ ap seenIn (sym (past-next σ i h))
 
 -- the same of what a form holds
 pub held-more : (wide : Bool) (past : List ℕ) (e : ℕ) (seen one both seen′ : Set) → seen ≡ heldIn wide past → one ≡ those (λ b. eqb b e)
@@ -119,11 +113,17 @@ held-more wide past e seen one both seen′ hs ho hb h =
     ∙ those-ext (λ x. reaches wide x and (reaches wide x and past has x or eqb x e)) (λ x. reaches wide x and (e ∷ past) has x)
     (λ x l. by3 (λ r p o. r and (r and p or o)) (λ r p o. r and (o or p)) (unfold _and_ _or_ non in tt) (reaches wide x) (past has x) (eqb x e))
 
--- a row joined with a set that is known
-pub joined-by : (rows : List ℕ) (e : ℕ) (q : ℕ → Bool) (s : Set) (rows′ : List ℕ) → s ≡ those q
+-- a row that gained a set that is known
+pub joined-by : (wide : Bool) (rows : List ℕ) (e : ℕ) (q : ℕ → Bool) (s : Set) (rows′ : List ℕ) → s ≡ those q → rows′ ≡ gainedFor wide rows e (mem s)
+    → rows′ ≡ gainedFor wide rows e q
+unfolding gainedFor gained
+joined-by wide rows e q s rows′ hs h =
+    h ∙ ap (λ (row : Set). when reaches wide e then withRow rows e row else rows) (those-of s q (λ b t. mem (rowAt rows e) b or t) hs)
+
+pub joined-row : (rows : List ℕ) (e : ℕ) (q : ℕ → Bool) (s : Set) (rows′ : List ℕ) → s ≡ those q
     → rows′ ≡ withRow rows e (those (λ b. mem (rowAt rows e) b or mem s b)) → rows′ ≡ gained rows e q
 unfolding gained
-joined-by rows e q s rows′ hs h = h ∙ ap (withRow rows e) (those-of s q (λ b t. mem (rowAt rows e) b or t) hs)
+joined-row rows e q s rows′ hs h = h ∙ ap (withRow rows e) (those-of s q (λ b t. mem (rowAt rows e) b or t) hs)
 
 -- a row for e is put only where e is below the width: what it gains may be said otherwise there
 pub put-where : (e : ℕ) (row : Set) (old : List ℕ) (put : Set → List ℕ) → ((s : Set) → width ≤ e → old ≡ put s) → (p q : ℕ → Bool)
@@ -134,11 +134,16 @@ put-where e row old put out p q h =
     (λ f. let g = ltb-false e width (F→false _ f) in sym (out _ g) ∙ out _ g)
 
 -- the row of the event gains what passes, and below the width that is the fact; a number past it has no row
-pub gains-below : (p : Fact) (rows : List ℕ) (e : ℕ) (past rest : List ℕ) (q : ℕ → Bool) (rows′ : List ℕ)
+pub gains-row : (p : Fact) (rows : List ℕ) (e : ℕ) (past rest : List ℕ) (q : ℕ → Bool) (rows′ : List ℕ)
     → (e < width → (x : ℕ) → x < width → q x ≡ p e past rest x) → rows′ ≡ gained rows e q → rows′ ≡ gains p rows e past rest
 unfolding gains gained
-gains-below p rows e past rest q rows′ f h =
-    h ∙ put-where e (rowAt rows e) rows (withRow rows e) (put-out rows e) q (p e past rest) f
+gains-row p rows e past rest q rows′ f h = h ∙ put-where e (rowAt rows e) rows (withRow rows e) (put-out rows e) q (p e past rest) f
+
+pub gains-below : (wide : Bool) (p : Fact) (rows : List ℕ) (e : ℕ) (past rest : List ℕ) (q : ℕ → Bool) (rows′ : List ℕ)
+    → (e < width → (x : ℕ) → x < width → q x ≡ cut wide p e past rest x) → rows′ ≡ gainedFor wide rows e q → rows′ ≡ gainsIn wide p rows e past rest
+unfolding gainsIn gainedFor gains
+gains-below wide p rows e past rest q rows′ f h =
+    h ∙ ap (λ (l : List ℕ). when reaches wide e then l else rows) (gains-row (cut wide p) rows e past rest q _ f refl)
 
 -- ---- the same of tables
 
@@ -157,7 +162,7 @@ module _ (tables : List ℕ) (k e : ℕ) where
 
 -- three of them, one after another
 module _ (tables : List ℕ) (j k l e : ℕ) where
-  abbrev thrice : (ℕ → Bool) → (ℕ → Bool) → (ℕ → Bool) → List ℕ
+  abbrev pub thrice : (ℕ → Bool) → (ℕ → Bool) → (ℕ → Bool) → List ℕ
   thrice p q r = notedIn (notedIn (notedIn tables j e p) k e q) l e r
 
   pub joined-thrice : (s u v : Set) (p q r : ℕ → Bool) (one two out : List ℕ) → Is s p → Is u q → Is v r
@@ -191,8 +196,34 @@ low-held wide s low r t hl hr =
     ∙ ap (λ (b : Bool). those (λ x. (b or ltb x word) and mem s x)) (sym t)
 
 -- what the form holds of a set that is known
-formed : (wide : Bool) (s c : Set) (p : ℕ → Bool) → Is s p → c ≡ those (λ x. reaches wide x and mem s x) → Is c (λ x. reaches wide x and p x)
-formed wide s c p hs hc x l = is-those c _ hc x l ∙ ap (λ (t : Bool). reaches wide x and t) (hs x l)
+pub held-of : (wide : Bool) (s c : Set) (p : ℕ → Bool) → Is s p → c ≡ those (λ x. reaches wide x and mem s x) → Is c (λ x. reaches wide x and p x)
+held-of wide s c p hs hc x l = is-those c _ hc x l ∙ ap (λ (t : Bool). reaches wide x and t) (hs x l)
+
+-- a place that the form holds, and one that it does not
+pub held : (x y : List ℕ) (b : Bool) → b ≡ true → x ≡ (when b then x else y)
+held x y b h = ap (λ (t : Bool). when t then x else y) (sym h)
+
+pub unheld : (x y : List ℕ) (b : Bool) → b ≡ false → y ≡ (when b then x else y)
+unheld x y b h = ap (λ (t : Bool). when t then x else y) (sym h)
+
+pub where-held : (x z y : List ℕ) (b : Bool) → (b ≡ true → x ≡ z) → (when b then x else y) ≡ (when b then z else y)
+where-held x z y true h = h refl
+where-held x z y false h = refl
+
+pub all-reached : (e : ℕ) → reaches true e ≡ true
+unfolding reaches _or_
+all-reached e = refl
+
+pub low-reached : (e : ℕ) → e < word → reaches false e ≡ true
+unfolding reaches _or_
+low-reached e l = lt-ltb e word l
+
+pub high-unreached : (e : ℕ) → word ≤ e → reaches false e ≡ false
+unfolding reaches _or_
+high-unreached e l = le-ltb e word l
+
+twice-held : (r p : Bool) → (r and (r and p)) ≡ (r and p)
+twice-held = by2 (λ r p. r and (r and p)) (λ r p. r and p) (unfold _and_ _or_ non in tt)
 
 -- in the form, what it does not hold of a list does not stand there
 pub not-held : (r p : Bool) → (r and non (r and p)) ≡ (r and non p)
@@ -207,42 +238,52 @@ module _ (wide : Bool) (tables : List ℕ) (e : ℕ) where
   unfolding pastBy
   past-put seen last s c c′ d d′ one two out hs h1 hc hc′ h2 hd hd′ h3 =
       joined-thrice tables beforeTable unprecededTable unchainedTable e s c′ d′ _ _ _ one two out (is-those s _ hs)
-      (formed wide c c′ _ (is-those c _ hc) hc′) (formed wide d d′ _ (is-those d _ hd) hd′) h1 h2 h3
+      (held-of wide c c′ _ (is-those c _ hc) hc′) (held-of wide d d′ _ (is-those d _ hd) hd′) h1 h2 h3
 
-  pub rest-put : (after next s c c′ n : Set) (one two out : List ℕ) → s ≡ those (λ x. reaches wide x and mem after x)
-      → one ≡ gainedIn tables laterTable e s → c ≡ those (λ a. non (mem after a)) → c′ ≡ those (λ x. reaches wide x and mem c x)
-      → two ≡ gainedIn one unansweredTable e c′ → n ≡ those (λ x. reaches wide x and mem next x)
+  pub rest-put : (after next : Set) (h : Bool) → h ≡ reaches wide e → not h ≡ false → (s c c′ n : Set) (one two out : List ℕ)
+      → s ≡ those (λ x. reaches wide x and mem after x) → one ≡ gainedIn tables laterTable e s → c ≡ those (λ a. non (mem after a))
+      → c′ ≡ those (λ x. reaches wide x and mem c x) → two ≡ gainedIn one unansweredTable e c′ → n ≡ those (λ x. reaches wide x and mem next x)
       → out ≡ gainedIn two followedTable e n → out ≡ restBy wide tables e after next
   unfolding restBy
-  rest-put after next s c c′ n one two out hs h1 hc hc′ h2 hn h3 =
+  rest-put after next h hh hn s c c′ n one two out hs h1 hc hc′ h2 hx h3 =
       joined-thrice tables laterTable unansweredTable followedTable e s c′ n _ _ _ one two out (is-those s _ hs)
-      (formed wide c c′ _ (is-those c _ hc) hc′) (is-those n _ hn) h1 h2 h3
+      (held-of wide c c′ _ (is-those c _ hc) hc′) (is-those n _ hx) h1 h2 h3
+      ∙ held _ tables (reaches wide e) (sym hh ∙ not-false h hn)
+
+  pub rest-left : (after next : Set) (h : Bool) → h ≡ reaches wide e → not h ≡ true → tables ≡ restBy wide tables e after next
+  unfolding restBy
+  rest-left after next h hh hn = unheld _ tables (reaches wide e) (sym hh ∙ not-true h hn)
 
   -- by sets of what stands there, it is what the place says
   module _ (past rest : List ℕ) where
-    pub past-is : (seen last : Set) → seen ≡ heldIn wide past → last ≡ lastIn past → pastBy wide tables e seen last ≡ notePastIn wide tables e past rest
-    unfolding pastBy notePastIn cut isEarlier notEarlier notDirectly
+    pub past-is : (seen last : Set) → seen ≡ heldIn wide past → last ≡ lastIn past → pastBy wide tables e seen last
+        ≡ thrice tables beforeTable unprecededTable unchainedTable e (cut wide isEarlier e past rest) (cut wide notEarlier e past rest)
+        (cut wide notDirectly e past rest)
+    unfolding pastBy cut isEarlier notEarlier notDirectly
     past-is seen last hs hl =
         let seen-in = is-those seen _ hs in
         let last-in = is-those last _ hl in
         thrice-as tables beforeTable unprecededTable unchainedTable e _ _ _ _ _ _
-        (λ x l.
-        ap (λ (t : Bool). reaches wide x and t) (seen-in x l)
-        ∙ by2 (λ r p. r and (r and p)) (λ r p. r and p) (unfold _and_ _or_ non in tt) (reaches wide x) (past has x))
+        (λ x l. ap (λ (t : Bool). reaches wide x and t) (seen-in x l) ∙ twice-held (reaches wide x) (past has x))
         (λ x l. ap (λ (t : Bool). reaches wide x and non t) (seen-in x l) ∙ not-held (reaches wide x) (past has x)) (λ x l. ap (λ (t : Bool). reaches wide x and non t) (last-in x l))
 
-    pub rest-is : (after next : Set) → after ≡ seenIn rest → next ≡ lastIn rest → restBy wide tables e after next ≡ noteRestIn wide tables e past rest
+    pub rest-is : (after next : Set) → after ≡ heldIn wide rest → next ≡ lastIn rest → restBy wide tables e after next ≡ noteRestIn wide tables e past rest
     unfolding restBy noteRestIn cut isLater notLater isNext
     rest-is after next ha hn =
         let after-in = is-those after _ ha in
         let next-in = is-those next _ hn in
-        thrice-as tables laterTable unansweredTable followedTable e _ _ _ _ _ _ (λ x l. ap (λ (t : Bool). reaches wide x and t) (after-in x l))
-        (λ x l. ap (λ (t : Bool). reaches wide x and non t) (after-in x l)) (λ x l. ap (λ (t : Bool). reaches wide x and t) (next-in x l))
+        ap (λ (l : List ℕ). when reaches wide e then l else tables) (thrice-as tables laterTable unansweredTable followedTable e _ _ _ _ _ _
+        (λ x l. ap (λ (t : Bool). reaches wide x and t) (after-in x l) ∙ twice-held (reaches wide x) (rest has x))
+        (λ x l. ap (λ (t : Bool). reaches wide x and non t) (after-in x l) ∙ not-held (reaches wide x) (rest has x)) (λ x l. ap (λ (t : Bool). reaches wide x and t) (next-in x l)))
 
 -- the pass in the form that was asked for
-pub as-asked : (wide form : Bool) (p : Fact) (rows rows′ σ : List ℕ) → wide ≡ form → rows′ ≡ forward (gains (cut form p)) rows [] σ
+pub as-asked-cut : (wide form : Bool) (p : Fact) (rows rows′ σ : List ℕ) → wide ≡ form → rows′ ≡ forward (gains (cut form p)) rows [] σ
     → rows′ ≡ forward (gains (cut wide p)) rows [] σ
-as-asked wide form p rows rows′ σ h e = e ∙ ap (λ (b : Bool). forward (gains (cut b p)) rows [] σ) (sym h)
+as-asked-cut wide form p rows rows′ σ h e = e ∙ ap (λ (b : Bool). forward (gains (cut b p)) rows [] σ) (sym h)
+
+pub as-asked : (wide form : Bool) (p : Fact) (rows rows′ σ : List ℕ) → wide ≡ form → rows′ ≡ forward (gainsIn form p) rows [] σ
+    → rows′ ≡ forward (gainsIn wide p) rows [] σ
+as-asked wide form p rows rows′ σ h e = e ∙ ap (λ (b : Bool). forward (gainsIn b p) rows [] σ) (sym h)
 
 -- the forward loop: before the first turn, one turn further, after the last
 module _ (turn : Turn) (σ all : List ℕ) where
@@ -258,18 +299,3 @@ module _ (turn : Turn) (σ all : List ℕ) where
   pub forward-end : (i : ℕ) (rows : List ℕ) → length σ ≤ i → forward turn rows (pastAt σ i) (drop i σ) ≡ all → rows ≡ all
   unfolding forward
   forward-end i rows h inv = ap (forward turn rows (pastAt σ i)) (sym (drop-of-length-le σ h)) ∙ inv
-
--- the backward loop: before the first turn, one turn further
-module _ (turn : Turn) (σ rows₀ : List ℕ) where
-  pub backward-start : rows₀ ≡ backward turn rows₀ (pastAt σ (length σ)) (drop (length σ) σ)
-  unfolding backward
-  backward-start = ap (backward turn rows₀ (pastAt σ (length σ))) (sym (drop-length σ))
-
-  pub backward-next : (i : ℕ) (rows rows′ : List ℕ) → i < length σ → rows′ ≡ turn rows (getD σ i 0) (pastAt σ i) (drop (i + 1) σ)
-      → rows ≡ backward turn rows₀ (pastAt σ (i + 1)) (drop (i + 1) σ) → rows′ ≡ backward turn rows₀ (pastAt σ i) (drop i σ)
-  unfolding backward
-  backward-next i rows rows′ h hr inv =
-      hr
-      ∙ ap (λ (r : List ℕ). turn r (getD σ i 0) (pastAt σ i) (drop (i + 1) σ))
-      (inv ∙ ap (λ (l : List ℕ). backward turn rows₀ l (drop (i + 1) σ)) (past-next σ i h))
-      ∙ ap (backward turn rows₀ (pastAt σ i)) (sym (rest-next σ i h))

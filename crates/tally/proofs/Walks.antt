@@ -54,13 +54,6 @@ Left pass log n k rows₀ rows = through pass rows (walked log (n - k) k) ≡ th
 abbrev pub eventsFrom : Bool → Set → Traces → Set
 eventsFrom wide events L = those (λ x. mem events x or eventIn wide L x)
 
-pub union-seen : (wide form : Bool) (σ : List ℕ) (events seen r : Set) → wide ≡ form → seen ≡ those (λ x. reaches form x and σ has x)
-    → r ≡ those (λ a. mem events a or mem seen a) → r ≡ those (λ x. mem events x or reaches wide x and σ has x)
-union-seen wide form σ events seen r hw hs h =
-    h
-    ∙ those-of seen (λ x. reaches form x and σ has x) (λ a t. mem events a or t) hs
-    ∙ ap (λ (b : Bool). those (λ x. mem events x or reaches b x and σ has x)) (sym hw)
-
 module _ (wide : Bool) (log : List ℕ) (n k : ℕ) (all : Set) where
   pub events-next : (σ : List ℕ) (events events′ : Set) → k < n → σ ≡ partAt log k → events′ ≡ those (λ x. mem events x or reaches wide x and σ has x)
       → eventsFrom wide events (walked log (n - k) k) ≡ all → eventsFrom wide events′ (walked log (n - (k + 1)) (k + 1)) ≡ all
@@ -76,9 +69,6 @@ module _ (wide : Bool) (log : List ℕ) (n k : ℕ) (all : Set) where
       (partAt log k has x) (someTrace L (λ σ. σ has x)))
       ∙ ap (eventsFrom wide events) (sym (walked-next log n k h))
       ∙ inv
-
-  pub events-set : (σ : List ℕ) (events events′ : Set) → events′ ≡ those (λ x. mem events x or reaches wide x and σ has x) → those (mem events′) ≡ events′
-  events-set σ events events′ h = those-of events′ (λ x. mem events x or reaches wide x and σ has x) (λ a t. t) h ∙ sym h
 
   pub events-end : (events : Set) → those (mem events) ≡ events → n ≤ k → eventsFrom wide events (walked log (n - k) k) ≡ all → events ≡ all
   unfolding someTrace eventIn

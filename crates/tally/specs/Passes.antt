@@ -6,7 +6,7 @@ use mathlib.Core.List.{List, [], _∷_, reverseAux}
 use Prim.Native.Nat.{ℕ, zero, suc, _/_, _≤_}
 use lib.Dec.{eqb, ltb}
 use lib.ListN.{length, getD, take, drop}
-use Rattle.sets.specs.Tests.{_and_, _or_, non}
+use Rattle.sets.specs.Tests.{_and_, _or_, non, when_then_else_}
 use Rattle.sets.specs.Members.{word, mem, those, someBelow}
 use Rattle.sets.specs.Rows.{Relation, rowAt, withRow}
 use Rattle.sets.specs.Tables.{tableAt, withRowIn}
@@ -97,6 +97,14 @@ eventIn wide L x = reaches wide x and someTrace L (λ σ. σ has x)
 -- the fact, of what the form can hold
 unfoldable pub cut : Bool → Fact → Fact
 cut wide p e past rest x = reaches wide x and p e past rest x
+
+-- row e gains what passes, where the form can hold e
+unfoldable pub gainedFor : Bool → List ℕ → ℕ → (ℕ → Bool) → List ℕ
+gainedFor wide rows e p = when reaches wide e then gained rows e p else rows
+
+-- the row of e gains what the place puts into it, as far as the form can hold either
+unfoldable pub gainsIn : Bool → Fact → Turn
+gainsIn wide p rows e past rest = gainedFor wide rows e (cut wide p e past rest)
 
 -- ---- a look back
 

@@ -4,9 +4,8 @@
 use mathlib.Core.Bool.{Bool}
 use mathlib.Core.List.{List, [], reverseAux}
 use Prim.Native.Nat.{ℕ}
-use lib.Dec.{ltb}
 use Rattle.sets.specs.Tests.{_and_, _or_, non, when_then_else_}
-use Rattle.sets.specs.Members.{width, mem}
+use Rattle.sets.specs.Members.{mem}
 use Rattle.sets.specs.Tables.{noTables}
 use Rattle.sets.specs.declared.set.Set.{Set}
 use Rattle.rules.specs.Traces.{Traces}
@@ -47,12 +46,10 @@ followedTable = 6
 -- what a place puts down of its past
 unfoldable pub notePast : Turn
 notePast tally e past rest =
-    notedIn (notedIn (notedIn tally beforeTable e (isEarlier e past rest)) unprecededTable e (notEarlier e past rest))
-    unchainedTable e (notDirectly e past rest)
-
--- of its past since the same activity
-unfoldable pub noteSince : Turn
-noteSince tally e past rest = notedIn tally unalternatedTable e (notSince e past rest)
+    notedIn
+    (notedIn (notedIn (notedIn tally beforeTable e (isEarlier e past rest)) unprecededTable e (notEarlier e past rest))
+    unchainedTable e (notDirectly e past rest))
+    unalternatedTable e (notSince e past rest)
 
 -- of its rest
 unfoldable pub noteRest : Turn
@@ -62,30 +59,33 @@ noteRest tally e past rest =
 
 -- the tally after one trace more
 unfoldable pub noted : List ℕ → List ℕ → List ℕ
-noted tally σ = backward noteRest (forward noteSince (forward notePast tally [] σ) [] σ) [] σ
+noted tally σ = backward noteRest (forward notePast tally [] σ) [] σ
 
 -- the tally of a log
 abbrev pub tallied : Traces → List ℕ
 tallied L = through noted (noTables tableCount) L
 
--- ---- the same in a form: in the narrow one the columns from 64 on are left as they are. That the stages ask a tally at events alone is a
--- theorem of the miner (AtEvents)
+-- ---- the same in a form: in the narrow one the rows and columns from 64 on are left as they are. That the stages ask a tally at events alone
+-- is a theorem of the miner (AtEvents)
 
 unfoldable pub notePastIn : Bool → Turn
 notePastIn wide tally e past rest =
-    notedIn (notedIn (notedIn tally beforeTable e (cut wide isEarlier e past rest)) unprecededTable e (cut wide notEarlier e past rest))
-    unchainedTable e (cut wide notDirectly e past rest)
-
-unfoldable pub noteSinceIn : Bool → Turn
-noteSinceIn wide tally e past rest = notedIn tally unalternatedTable e (cut wide notSince e past rest)
+    when reaches wide e then
+    notedIn
+    (notedIn (notedIn (notedIn tally beforeTable e (cut wide isEarlier e past rest)) unprecededTable e (cut wide notEarlier e past rest))
+    unchainedTable e (cut wide notDirectly e past rest))
+    unalternatedTable e (cut wide notSince e past rest)
+    else tally
 
 unfoldable pub noteRestIn : Bool → Turn
 noteRestIn wide tally e past rest =
+    when reaches wide e then
     notedIn (notedIn (notedIn tally laterTable e (cut wide isLater e past rest)) unansweredTable e (cut wide notLater e past rest))
     followedTable e (cut wide isNext e past rest)
+    else tally
 
 unfoldable pub notedFor : Bool → List ℕ → List ℕ → List ℕ
-notedFor wide tally σ = backward (noteRestIn wide) (forward (noteSinceIn wide) (forward (notePastIn wide) tally [] σ) [] σ) [] σ
+notedFor wide tally σ = backward (noteRestIn wide) (forward (notePastIn wide) tally [] σ) [] σ
 
 abbrev pub talliedFor : Bool → Traces → List ℕ
 talliedFor wide L = through (notedFor wide) (noTables tableCount) L
@@ -97,17 +97,20 @@ pastBy wide tally e seen last =
     notedIn (notedIn (notedIn tally beforeTable e (λ x. reaches wide x and mem seen x)) unprecededTable e (λ x. reaches wide x and non (mem seen x)))
     unchainedTable e (λ x. reaches wide x and non (mem last x))
 
--- a place of e looks back: an e was seen, or the form cannot tell
-unfoldable pub looksBack : Bool → Set → ℕ → Bool
-looksBack wide seen e = mem seen e or non (reaches wide e) and ltb e width
-
+-- where an e was seen, by a look back
 unfoldable pub sinceBy : Bool → List ℕ → ℕ → List ℕ → Set → List ℕ
 sinceBy wide tally e past seen =
     notedIn tally unalternatedTable e
-    (λ x. reaches wide x and (when looksBack wide seen e then notSince e (reverseAux past []) [] x else non (mem seen x)))
+    (λ x. reaches wide x and (when mem seen e then notSince e (reverseAux past []) [] x else non (mem seen x)))
+
+-- both, of a place that the form holds
+unfoldable pub placeBy : Bool → List ℕ → ℕ → List ℕ → Set → Set → List ℕ
+placeBy wide tally e past seen last = when reaches wide e then sinceBy wide (pastBy wide tally e seen last) e past seen else tally
 
 -- `after` stands after the place, `next` directly after it
 unfoldable pub restBy : Bool → List ℕ → ℕ → Set → Set → List ℕ
 restBy wide tally e after next =
+    when reaches wide e then
     notedIn (notedIn (notedIn tally laterTable e (λ x. reaches wide x and mem after x)) unansweredTable e (λ x. reaches wide x and non (mem after x)))
     followedTable e (λ x. reaches wide x and mem next x)
+    else tally

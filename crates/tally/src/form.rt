@@ -4,6 +4,7 @@ ghost use mathlib.Core.Path.{_≡_};
 ghost use Rattle.sets.specs.Tests.{_and_};
 ghost use Rattle.sets.specs.Members.{mem, those};
 ghost use Rattle.tally.specs.Passes.{reaches};
+use sets::Activity;
 use sets::Set;
 use sets::activity::WORD;
 
@@ -15,4 +16,14 @@ pub fn in_form(s: Set, wide: bool) -> Set
         return s;
     }
     s.intersection(Set::below(WORD))
+}
+
+// Whether the form can hold an activity. A pass in the narrow form asks it once a place: then no row and no set is asked for again.
+pub fn holds(e: Activity, wide: bool) -> bool
+    ensures { λ r. ⌜ r ≡ reaches wide (e .0) ⌝ }
+{
+    if wide {
+        return true;
+    }
+    e.0 < WORD
 }

@@ -4,5 +4,6 @@ pub mod log;
 mod look_back;
 mod passes;
 
+pub use form::holds;
 pub use form::in_form;
 pub use log::Tally;

@@ -3,12 +3,15 @@
 ghost use mathlib.Core.Path.{_≡_};
 ghost use Rattle.sets.specs.Tests.{_and_, _or_};
 ghost use Rattle.sets.specs.Members.{mem, those};
+ghost use Rattle.sets.specs.Rows.{noRows};
 ghost use Rattle.sets.specs.Tables.{noTables};
 ghost use Rattle.rules.specs.Traces.{_has_};
 ghost use Rattle.tally.specs.Passes.{through, walked, reaches, eventIn};
 ghost use Rattle.tally.specs.Tallies.{tableCount, notedFor};
 use crate::passes;
+use sets::Rows;
 use sets::Set;
+use sets::rows;
 use sets::rows::WORDS;
 
 // Row t: what stands before some t.
@@ -36,18 +39,20 @@ pub fn empty() -> Tally
     [0; 7 * WORDS]
 }
 
-// The facts of one trace. It gives the events so far with those of the trace that the form holds.
-fn note_trace(trace: &[u8], events: Set, wide: bool, tally: &mut Tally) -> Set
+// The facts of one trace. The rows of its blocks are lent, so that not each trace clears them all. It gives the events so far with those of the trace that the form holds.
+fn note_trace(trace: &[u8], events: Set, wide: bool, blocks: &mut Rows, tally: &mut Tally) -> Set
+    requires { ⌜ now blocks ≡ noRows ⌝ }
     ensures { λ r. ⌜ r ≡ those (λ x. mem events x or reaches wide x and now (trace .entry) has x) ⌝ }
+    ensures { λ _. ⌜ now (blocks .exit) ≡ noRows ⌝ }
     ensures { λ _. ⌜ now (tally .exit) ≡ notedFor wide (now (tally .entry)) (now (trace .entry)) ⌝ }
 {
     if wide {
-        let seen = passes::forward(trace, tally);
-        passes::backward(trace, tally);
+        let seen = passes::forward(trace, blocks, tally);
+        passes::backward(trace, true, tally);
         return events.union(seen);
     }
-    let seen = passes::forward_narrow(trace, tally);
-    passes::backward_narrow(trace, tally);
+    let seen = passes::forward_narrow(trace, blocks, tally);
+    passes::backward(trace, false, tally);
     events.union(seen)
 }
 
@@ -56,11 +61,12 @@ pub fn note_traces_in(log: &[u8], traces: usize, wide: bool, tally: &mut Tally) 
     ensures { λ r. ⌜ r ≡ those (eventIn wide (walked (now (log .entry)) traces 0)) ⌝ }
     ensures { λ _. ⌜ now (tally .exit) ≡ through (notedFor wide) (now (tally .entry)) (walked (now (log .entry)) traces 0) ⌝ }
 {
+    let mut blocks = rows::empty();
     let mut events = Set::EMPTY;
     let mut k: usize = 0;
     while k < traces {
         let trace = calllog::trace::trace_at(log, k);
-        events = note_trace(trace, events, wide, tally);
+        events = note_trace(trace, events, wide, &mut blocks, tally);
         k += 1;
     }
     events

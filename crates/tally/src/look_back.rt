@@ -7,10 +7,10 @@ ghost use lib.Dec.{eqb};
 ghost use lib.ListN.{length};
 ghost use Rattle.sets.specs.Tests.{_and_, _or_, non};
 ghost use Rattle.sets.specs.Members.{width, mem, those, isEmpty};
-ghost use Rattle.sets.specs.Rows.{Relation, rowsOf};
+ghost use Rattle.sets.specs.Rows.{Relation, noRows, rowsOf};
 ghost use Rattle.sets.specs.Sizes.{longestTrace};
 ghost use Rattle.tally.specs.Passes.{notSince, inBlock, PassedTo};
-ghost use Rattle.tally.specs.Tallies.{looksBack, sinceBy};
+ghost use Rattle.tally.specs.Tallies.{sinceBy};
 use crate::form::in_form;
 use crate::log::Tally;
 use crate::log::UNALTERNATED;
@@ -19,7 +19,6 @@ use sets::Place;
 use sets::Rows;
 use sets::Set;
 use sets::activity::WIDTH;
-use sets::activity::WORD;
 use sets::rows;
 use sets::tables;
 
@@ -101,20 +100,6 @@ fn unmet_by<'a>(past: &'a [u8], blocks: &'a Rows, e: Activity, wanted: Set) -> S
     unmet(&past[0..end], e, at.left)
 }
 
-// Whether a place of e looks back: an e was seen, or the form cannot tell. What was seen is kept in the form, and the narrow one holds nothing
-// from 64 on.
-fn looks_back(seen: Set, e: Activity, wide: bool) -> bool
-    ensures { λ r. ⌜ r ≡ looksBack wide seen (e .0) ⌝ }
-{
-    if wide {
-        return seen.has(e);
-    }
-    if e.0 < WORD {
-        return seen.has(e);
-    }
-    e.0 < Activity::LIMIT
-}
-
 // One place: what does not stand since the last e. At the first e of a trace that is what was not seen. A row that has all can gain
 // nothing, and that is the first question, since the answer is mostly the same.
 pub(crate) fn note_since<'a>(
@@ -132,7 +117,7 @@ pub(crate) fn note_since<'a>(
     if wanted.is_empty() {
         return;
     }
-    if looks_back(seen, e, wide) {
+    if seen.has(e) {
         let left = unmet_by(past, blocks, e, wanted);
         tables::join(tally, UNALTERNATED, e, left);
     } else {
@@ -147,5 +132,19 @@ pub fn put_down(blocks: &mut Rows, e: Activity, at: usize)
     if at < PLACES {
         let j = at / BLOCK;
         rows::join(blocks, Activity(j as u8), Set::one(e));
+    }
+}
+
+// The rows that a trace of so many places put down are empty again: a short trace has few.
+pub fn take_up(blocks: &mut Rows, places: usize)
+    ensures { λ _. ⌜ ((past : List ℕ) → now (blocks .entry) ≡ rowsOf (inBlock past) → length past ≡ places → now (blocks .exit) ≡ noRows) ⌝ }
+{
+    let mut j: usize = 0;
+    while j < WIDTH {
+        if places <= j * BLOCK {
+            return;
+        }
+        rows::put(blocks, Activity(j as u8), Set::EMPTY);
+        j += 1;
     }
 }

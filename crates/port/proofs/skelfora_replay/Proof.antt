@@ -6,12 +6,13 @@ use Rattle.port.proofs.skelfora_replay.Tie as tie
 returns-3 : tie.Need-returns-3
 returns-3 c =
     let run = c .before in
-    let short = run .before .before in
+    let short = run .before .before .before in
     let left = short .before in
     let read = left .before .before in
     let known = read .before .before .before in
     replay-run _ _ _ (read .read-bare .ensures .0) _ (left .before .is-done .ensures) _ (left .if1 .left) (λ k. known .shared-slice-known .given k .fits) _
-    (read .read-bare .ensures .1) (short .if2 .left) _ (run .walk .ensures) (c .packed-blocker3 .ensures)
+    (read .read-bare .ensures .1) (short .if2 .left) _ (run .before .is-wide .ensures) _ (run .walk-in .ensures)
+    (c .packed-blocker3 .ensures)
 
 returns : tie.Need-returns
 returns c = search (replaying, needs)
@@ -29,6 +30,7 @@ skelfora-replay-spec =
     returns
     (λ c κs. search needs)
     returns-2
+    (λ c κs. search needs)
     (λ c κs. search needs)
     (λ c κs. search needs)
     returns-3)

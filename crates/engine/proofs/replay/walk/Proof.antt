@@ -9,9 +9,7 @@ fits : (c : tie.Start) → Fits (c .args .opening .executed) × (Fits (c .args .
 fits c = search needs
 
 returns : tie.Need-returns
-returns c = let f = fits (c .before .before .before .before .before) in search (walk-cut, f, needs)
+returns c = let f = fits (c .before .before .before .before) in search (walk-cut, f, needs)
 
 pub walk-spec : {M : Type 1} → statement M
-walk-spec =
-    tie.close
-    (tie.spec (λ c κs. search needs) (λ c κs. search needs) (λ c κs. search needs) returns (λ c κs. search needs) (λ c. search needs))
+walk-spec = tie.close (tie.spec (λ c κs. search needs) (λ c κs. search needs) returns (λ c κs. search needs) (λ c. search needs))

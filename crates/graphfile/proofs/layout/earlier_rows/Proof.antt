@@ -7,10 +7,10 @@ use Rattle.graphfile.proofs.layout.earlier_rows.Statement.{statement}
 use Rattle.graphfile.proofs.layout.earlier_rows.Tie as tie
 
 abbrev Inv-loop : tie.InvT-loop
-Inv-loop bytes r rows₀ i₀ rows i = (i ≤ r) × (rows ≡ earlierRows bytes i) × (rows ≤ 65536 * i)
+Inv-loop bytes r wide rows₀ i₀ rows i = (i ≤ r) × (rows ≡ earlierRows bytes i) × (rows ≤ 65536 * i)
 
 abbrev μ-loop : tie.MeasureT-loop
-μ-loop bytes r rows₀ i₀ rows i = r - i
+μ-loop bytes r wide rows₀ i₀ rows i = r - i
 
 pub earlier-rows-spec : {M : Type 1} → statement M
 earlier-rows-spec =

@@ -3,20 +3,17 @@ use Rattle.graphfile.proofs.Forms.{forms}
 use Rattle.graphfile.proofs.layout.offset_in.Statement.{statement}
 use Rattle.graphfile.proofs.layout.offset_in.Tie as tie
 
-is-wide-requires : tie.Need-is-wide-requires
-is-wide-requires c κs = search needs
-
 entries-place-requires : tie.Need-entries-place-requires
 entries-place-requires c κs = search needs
 
-mul-number-at : tie.Need-mul-number-at
-mul-number-at c = search needs
+mul-number-in : tie.Need-mul-number-in
+mul-number-in c = search needs
 
-add-number-at : tie.Need-add-number-at
-add-number-at c = search needs
+add-number-in : tie.Need-add-number-in
+add-number-in c = search needs
 
-number-at-requires : tie.Need-number-at-requires
-number-at-requires c κs = search needs
+number-in-requires : tie.Need-number-in-requires
+number-in-requires c κs = search (forms, needs)
 
 cast-result : tie.Need-cast-result
 cast-result c = search needs
@@ -28,10 +25,9 @@ pub offset-in-spec : {M : Type 1} → statement M
 offset-in-spec =
     tie.close
     (tie.spec
-    is-wide-requires
     entries-place-requires
-    mul-number-at
-    add-number-at
-    number-at-requires
+    mul-number-in
+    add-number-in
+    number-in-requires
     cast-result
     returns)

@@ -1,5 +1,5 @@
 use borrow.Author.Needs.{needs}
-use Rattle.graphfile.proofs.Forms.{forms}
+use Rattle.graphfile.proofs.Forms.{fitting, forms}
 use Rattle.graphfile.proofs.layout.state_in.Statement.{statement}
 use Rattle.graphfile.proofs.layout.state_in.Tie as tie
 
@@ -7,10 +7,10 @@ length-requires : tie.Need-length-requires
 length-requires c κs = search needs
 
 add-state-at : tie.Need-add-state-at
-add-state-at c = search needs
+add-state-at c = search (fitting, needs)
 
 state-at-requires : tie.Need-state-at-requires
-state-at-requires c κs = search needs
+state-at-requires c κs = search (fitting, needs)
 
 returns : tie.Need-returns
 returns c = search (forms, needs)

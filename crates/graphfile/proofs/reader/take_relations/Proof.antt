@@ -12,11 +12,11 @@ use Rattle.graphfile.proofs.reader.take_relations.Statement.{statement}
 use Rattle.graphfile.proofs.reader.take_relations.Tie as tie
 
 abbrev Inv-loop : tie.InvT-loop
-Inv-loop bytes held₀ r₀ held r =
+Inv-loop bytes held₀ wide r₀ held r =
     (r ≤ relationCount) × (firstRefusal r (judgedRelation bytes) ≡ Done) × (held ≡ withRelations bytes held₀ r)
 
 abbrev μ-loop : tie.MeasureT-loop
-μ-loop bytes held₀ r₀ held r = relationCount - r
+μ-loop bytes held₀ wide r₀ held r = relationCount - r
 
 returns : tie.Need-returns Inv-loop μ-loop
 returns c = (search (turns, needs), nothing-due _ _ (c .before .is-done .ensures) (c .if1 .taken))

@@ -9,5 +9,5 @@ take-rows-wide-requires c κs = search (form-known, needs)
 pub take-rows-spec : {M : Type 1} → statement M
 take-rows-spec =
     tie.close
-    (tie.spec (λ c κs. search needs) take-rows-wide-requires (λ c. c .take-rows-wide .ensures) (λ c κs. search (form-known, needs))
+    (tie.spec take-rows-wide-requires (λ c. c .take-rows-wide .ensures) (λ c κs. search (form-known, needs))
     (λ c. c .take-rows-narrow .ensures))

@@ -1,6 +1,6 @@
 use borrow.Author.Needs.{needs}
 use Prim.Native.Nat.{_-_}
-use Rattle.graphfile.proofs.Filling.{Taken, taking, nothing-due}
+use Rattle.graphfile.proofs.Filling.{Taken, taking, row-stops}
 use Rattle.graphfile.proofs.Forms.{walking}
 use Rattle.graphfile.proofs.reader.take_rows_wide.Statement.{statement}
 use Rattle.graphfile.proofs.reader.take_rows_wide.Tie as tie
@@ -12,7 +12,7 @@ abbrev μ-loop : tie.MeasureT-loop
 μ-loop bytes r count first held₀ events j₀ held j = count - j
 
 returns : tie.Need-returns Inv-loop μ-loop
-returns c = (search (taking, needs), nothing-due _ _ (c .before .is-done .ensures) (c .if1 .taken))
+returns c = (search (taking, needs), row-stops _ _ _ _ _ (c .before .before .is-right .ensures) _ (c .refused-row .ensures) (c .before .if1 .taken))
 
 loop-again : tie.Need-loop-again Inv-loop μ-loop
 loop-again c = (search needs, search needs, search (taking, needs), search (taking, needs))

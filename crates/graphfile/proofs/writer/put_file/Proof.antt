@@ -1,5 +1,5 @@
 use borrow.Author.Needs.{needs}
-use Rattle.graphfile.proofs.Stores.{file-stored}
+use Rattle.graphfile.proofs.Stores.{entries-by, file-stored}
 use Rattle.graphfile.proofs.writer.put_file.Statement.{statement}
 use Rattle.graphfile.proofs.writer.put_file.Tie as tie
 
@@ -16,7 +16,7 @@ same-length : tie.Need-same-length
 same-length c = search needs
 
 returns : tie.Need-returns
-returns c = search (file-stored, needs)
+returns c = search (entries-by, file-stored, needs)
 
 pub put-file-spec : {M : Type 1} → statement M
 put-file-spec =

@@ -10,6 +10,6 @@ note-waiting-spec =
     (tie.spec (λ c κs. search needs) (λ c κs. search needs) (λ c κs. search needs) (λ c κs. search needs) (λ c κs. search needs)
     (λ c. (
       formed-by _ _ _ _ _ _ _ (c .before .before .before .before .before .before .at-first .ensures)
-          (c .before .before .before .before .before .in-form .ensures) (c .before .before .before .join .ensures),
+          (c .before .before .before .before .before .in-form .ensures) (c .before .before .before .gain .ensures),
       search (joined-by, needs),
     )))

@@ -5,17 +5,17 @@ use Prim.Native.Nat.{ℕ, _-_, _≤_}
 use borrow.Author.Needs.{needs}
 use Rattle.sets.specs.Tables.{tableAt}
 use Rattle.sets.specs.declared.set.Set.{Set}
-use Rattle.tally.specs.Passes.{gains, forward, cut}
+use Rattle.tally.specs.Passes.{gainsIn, forward}
 use Rattle.miner.specs.Facts.{beforeFirst, missed}
 use Rattle.tally.proofs.Walks.{Left, through-start, through-next, through-end}
 use Rattle.miner.proofs.conditions.replay_log.Statement.{statement}
 use Rattle.miner.proofs.conditions.replay_log.Tie as tie
 
 abbrev ahead : Bool → List ℕ → List ℕ → List ℕ
-ahead wide r σ = forward (gains (cut wide beforeFirst)) r [] σ
+ahead wide r σ = forward (gainsIn wide beforeFirst) r [] σ
 
 abbrev waiting : Bool → Set → List ℕ → List ℕ → List ℕ → List ℕ
-waiting wide events held r σ = forward (gains (cut wide (missed events (tableAt held 2) (tableAt held 3)))) r [] σ
+waiting wide events held r σ = forward (gainsIn wide (missed events (tableAt held 2) (tableAt held 3))) r [] σ
 
 abbrev Inv-loop : tie.InvT-loop
 Inv-loop log traces events held wide first₀ unmet₀ k₀ first unmet k =

@@ -1,4 +1,3 @@
-use mathlib.Core.Bool.{true}
 use mathlib.Core.Path.{_≡_}
 use Prim.Native.Nat.{_-_}
 use borrow.Author.Needs.{needs}
@@ -13,22 +12,17 @@ use Rattle.miner.proofs.conditions.replay_trace.Statement.{statement}
 use Rattle.miner.proofs.conditions.replay_trace.Tie as tie
 
 abbrev Inv-loop : tie.InvT-loop
-Inv-loop trace held first₀ unmet₀ seen₀ included₀ i₀ first unmet seen included i =
-    (events : Set) → included₀ ≡ those (λ x. reaches true x and mem events x) → Replayed true trace events (tableAt held 2) (tableAt held 3) first₀ unmet₀ first unmet seen included i
+Inv-loop trace held wide first₀ unmet₀ seen₀ included₀ i₀ first unmet seen included i =
+    (events : Set) → included₀ ≡ those (λ x. reaches wide x and mem events x) → Replayed wide trace events (tableAt held 2) (tableAt held 3) first₀ unmet₀ first unmet seen included i
 
 abbrev μ-loop : tie.MeasureT-loop
-μ-loop trace held first₀ unmet₀ seen₀ included₀ i₀ first unmet seen included i = length trace - i
-
-loop-again : tie.Need-loop-again Inv-loop μ-loop
-loop-again c =
-    let t = c .before .before .before .before .before .before .loop-test .taken in
-    let v = c .before .before .before .before .before .before .before .loop .inv in
-    let turn = c .before .note-waiting .ensures in
-    λ events h. replay-turn (v events h) t _ _ _ _ (c .before .before .before .before .included-after .ensures) (turn .0) (turn .1) (c .and-then .ensures)
+μ-loop trace held wide first₀ unmet₀ seen₀ included₀ i₀ first unmet seen included i = length trace - i
 
 pub replay-trace-spec : {M : Type 1} → statement M
-replay-trace-spec =
-    tie.close
-    (tie.spec Inv-loop μ-loop (λ c κs. search needs) (λ c events h. replay-start _ _ _ _ _ _ _ _ h) (λ c. search needs) (λ c κs. search needs)
-    (λ c κs. search needs) (λ c κs. search needs) (λ c. search needs) (λ c. search needs) loop-again
-    (λ c. replay-end (c .before .loop .inv _ (c .before .before .in-form .ensures)) (c .loop-test .left)))
+replay-trace-spec {M} =
+    let told = tie.spec {M = M} Inv-loop μ-loop (λ c κs. search needs) (λ c events h. replay-start _ _ _ _ _ _ _ _ h) (λ c. search needs) (λ c κs. search needs)
+    (λ c κs. search needs) (λ c κs. search needs) (λ c. search needs) (λ c. search needs)
+    (λ c events h. replay-turn (c .before .before .before .before .before .before .before .loop .inv events h) (c .before .before .before .before .before .before .loop-test .taken)
+    _ _ _ _ (c .before .before .before .before .included-after .ensures) (c .before .note-waiting .ensures) (c .and-then .ensures))
+    (λ c. replay-end (c .before .loop .inv _ (c .before .before .in-form .ensures)) (c .loop-test .left)) in
+    tie.close told

@@ -22,8 +22,8 @@ loop-again c =
     (search needs, seen-next _ _ t _ (v .1) _ (c .and-then .ensures), places-next _ _ _ _ (v .2) _ t (c .before .put-place .ensures))
 
 pub last-places-spec : {M : Type 1} → statement M
-last-places-spec =
-    tie.close
-    (tie.spec Inv-loop μ-loop (λ c. (search needs, seen-none, refl)) (λ c. search needs) (λ c κs. search needs) (λ c κs. search needs)
+last-places-spec {M} =
+    let told = tie.spec {M = M} Inv-loop μ-loop (λ c. (search needs, seen-none, refl)) (λ c. search needs) (λ c κs. search needs) (λ c κs. search needs)
     (λ c. search needs) (λ c. search needs) loop-again
-    (λ c. let v = c .before .loop .inv in (seen-all _ _ _ (c .loop-test .left) (v .1), places-end _ _ _ _ (v .2) (c .loop-test .left))))
+    (λ c. let v = c .before .loop .inv in (seen-all _ _ _ (c .loop-test .left) (v .1), places-end _ _ _ _ (v .2) (c .loop-test .left))) in
+    tie.close told

@@ -18,5 +18,6 @@ returns c =
     (ap (λ (g : Graph). g .head) found, ap (λ (g : Graph). g .relations) found)
 
 pub graph-found-spec : {M : Type 1} → statement M
-graph-found-spec =
-    tie.close (tie.spec (λ c κs. search needs) (λ c κs. search needs) (λ c κs. search needs) (λ c κs. search needs) (λ c κs. search needs) returns)
+graph-found-spec {M} =
+    let told = tie.spec {M = M} (λ c κs. search needs) (λ c κs. search needs) (λ c κs. search needs) (λ c κs. search needs) (λ c κs. search needs) returns in
+    tie.close told

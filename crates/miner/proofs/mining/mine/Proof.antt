@@ -7,4 +7,6 @@ returns : tie.Need-returns
 returns c = search (whole-by, needs)
 
 pub mine-spec : {M : Type 1} → statement M
-mine-spec = tie.close (tie.spec (λ c κs. search needs) returns)
+mine-spec {M} =
+    let told = tie.spec {M = M} (λ c κs. search needs) returns in
+    tie.close told

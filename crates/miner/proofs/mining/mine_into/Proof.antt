@@ -10,4 +10,6 @@ returns-2 : tie.Need-returns-2
 returns-2 c = search (lent, needs)
 
 pub mine-into-spec : {M : Type 1} → statement M
-mine-into-spec = tie.close (tie.spec (λ c κs. search needs) (λ c κs. search needs) returns (λ c κs. search needs) returns-2)
+mine-into-spec {M} =
+    let told = tie.spec {M = M} (λ c κs. search needs) (λ c κs. search needs) returns (λ c κs. search needs) returns-2 in
+    tie.close told

@@ -4,21 +4,6 @@ use Rattle.miner.proofs.Composed.{six-length, six-includes, six-exclude
 use Rattle.miner.proofs.mining.put_six.Statement.{statement}
 use Rattle.miner.proofs.mining.put_six.Tie as tie
 
-returns : tie.Need-returns
-returns c =
-    let excludes = c .put-six2 .ensures in
-    let let-in = c .before .before in
-    let includes = let-in .put-six .ensures in
-    let barred = let-in .before .before in
-    let never = barred .put-never .ensures in
-    let profile = barred .before .before .before .before .before .args .profile in (
-      six-length _ _ _ _ _ _ _ _ never includes excludes,
-      (
-        six-includes _ _ _ _ _ _ _ _ never includes excludes profile (search needs),
-        six-excludes _ _ _ _ _ _ _ _ never includes excludes profile (search needs),
-      ),
-    )
-
 returns-2 : tie.Need-returns-2
 returns-2 c =
     let a = c .before .before .before .args in
@@ -27,4 +12,6 @@ returns-2 c =
 
 pub put-six-spec : {M : Type 1} → statement M
 put-six-spec =
-    tie.close (tie.spec (λ c. search needs) (λ c κs. search needs) (λ c κs. search needs) (λ c κs. search needs) (λ c. search needs) returns returns-2)
+    tie.close
+    (tie.spec (λ c. search needs) (λ c κs. search needs) (λ c κs. search needs) (λ c κs. search needs) (λ c. search needs)
+    (λ c. (search (six-length, needs), (search (six-includes, needs), search (six-excludes, needs)))) returns-2)

@@ -3,9 +3,8 @@ use Rattle.miner.proofs.Settling.{open-lost}
 use Rattle.miner.proofs.redundant.lose_open.Statement.{statement}
 use Rattle.miner.proofs.redundant.lose_open.Tie as tie
 
-returns : tie.Need-returns
-returns c =
-    open-lost _ _ _ _ _ _ _ (c .before .before .before .before .before .asked-rows .ensures) (c .before .before .before .reopen-log .ensures) (c .lose-rows .ensures)
-
 pub lose-open-spec : {M : Type 1} → statement M
-lose-open-spec = tie.close (tie.spec (λ c κs. search needs) (λ c κs. search needs) (λ c κs. search needs) returns)
+lose-open-spec =
+    tie.close
+    (tie.spec (λ c κs. search needs) (λ c κs. search needs)
+    (λ c. open-lost _ _ _ _ _ _ (c .before .before .before .reopen-log .ensures) (c .lose-doubted .ensures)))

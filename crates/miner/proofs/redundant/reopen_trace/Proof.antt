@@ -1,50 +1,48 @@
-use mathlib.Core.Path.{_≡_, refl, _∙_}
+use mathlib.Core.Bool.{true}
 use mathlib.Core.Logic.{⊎-elim}
-use Prim.Native.Nat.{_≤_, _-_}
+use Prim.Native.Nat.{ℕ, _-_}
+use native.Mathlib.Omega.{arith}
 use borrow.Author.Needs.{needs}
-use lib.ListN.{length, drop}
+use borrow.Author.Tests.{not-false}
+use lib.ListN.{length}
+use Rattle.sets.specs.Members.{noSet}
 use Rattle.sets.specs.Tables.{tableAt}
-use Rattle.rules.specs.Traces.{_has_}
-use Rattle.tally.proofs.Turns.{pastAt}
-use Rattle.miner.specs.Facts.{reopenedIn}
-use Rattle.miner.proofs.Losing.{Toward, toward-start}
-use Rattle.miner.proofs.Reopening.{sinceIn, since-none, toCome, begun-still, since-more, begun-now, since-still, lost-none, lost-next, trace-end}
+use Rattle.miner.proofs.Reopening.{Reopens, reopen-start, reopen-skip, reopen-from, reopen-next, reopen-end}
 use Rattle.miner.proofs.redundant.reopen_trace.Statement.{statement}
 use Rattle.miner.proofs.redundant.reopen_trace.Tie as tie
 
 abbrev Inv-loop : tie.InvT-loop
-Inv-loop trace u held doubts₀ since₀ begun₀ i₀ doubts since begun i =
-    (i ≤ length trace) × (since ≡ sinceIn (tableAt held 2) (u .0) (pastAt trace i)) × (begun ≡ pastAt trace i has u .0)
-    × Toward doubts₀ (toCome (tableAt held 2) (u .0) (pastAt trace i) (drop i trace)) (reopenedIn (tableAt held 2) (u .0) trace) doubts
+Inv-loop trace u held wide doubts begun₀ i₀ begun i = Reopens wide (tableAt held 2) (u .0) trace doubts begun noSet i doubts
 
 abbrev μ-loop : tie.MeasureT-loop
-μ-loop trace u held doubts₀ since₀ begun₀ i₀ doubts since begun i = length trace - i
+μ-loop trace u held wide doubts begun₀ i₀ begun i = length trace - i
 
-loop-holds : tie.Need-loop-holds Inv-loop μ-loop
-unfolding _has_
-loop-holds c = (search needs, since-none _ _, refl, toward-start _ _ _ (λ a x la lx. refl))
+-- u is named no more
+abbrev Inv-loop2 : tie.InvT-loop2
+Inv-loop2 trace held wide doubts₀ begun i₀ since₀ doubts i since =
+    (u : ℕ) → Reopens wide (tableAt held 2) u trace doubts₀ true since₀ i₀ doubts₀ → Reopens wide (tableAt held 2) u trace doubts₀ true since i doubts
 
-loop-again : tie.Need-loop-again Inv-loop μ-loop
-loop-again c =
-    let t = c .before .before .loop-test .taken in
-    let v = c .before .before .before .loop .inv in
-    ⊎-elim
-    (λ w. (
-      search needs,
-      w .7 ∙ since-more _ _ _ _ t _ (v .1) _ (v .2) (w .0 .taken) _ _ (w .4 .ensures) (w .5 .ensures),
-      w .8 ∙ begun-still _ _ _ _ t _ (v .1) _ (v .2) (w .0 .taken),
-      lost-next _ _ _ _ t _ (v .1) _ _ _ _ (v .3) (w .6 ∙ w .2 .ensures),
-    ))
-    (λ w. (
-      search needs,
-      w .4 ∙ since-still _ _ _ _ t _ (v .1) _ (v .2) (w .0 .left),
-      begun-now _ _ _ _ t _ (v .1) _ (v .2) (w .0 .left) _ (w .5),
-      lost-none _ _ _ _ t _ (v .1) _ (v .2) (w .0 .left) _ _ _ _ (v .3) (w .3),
-    ))
-    (c .if1 .came)
+abbrev μ-loop2 : tie.MeasureT-loop2
+μ-loop2 trace held wide doubts₀ begun i₀ since₀ doubts i since = length trace - i
+
+loop-again : tie.Need-loop-again Inv-loop μ-loop Inv-loop2 μ-loop2
+loop-again c = search (reopen-skip, needs)
+
+loop2-again : tie.Need-loop2-again Inv-loop μ-loop Inv-loop2 μ-loop2
+loop2-again c u h =
+    let place = c .before .before .before .before in
+    reopen-next _ _ _ _ _ _ _ _ _ _ _ _ (place .before .before .before .before .loop2 .inv u h) (place .before .before .before .loop2-test .taken)
+    (place .lose .ensures) (c .before .before .row .ensures) (c .before .union .ensures) (c .in-form .ensures)
+
+returns : tie.Need-returns Inv-loop μ-loop Inv-loop2 μ-loop2
+returns c =
+    let first = c .before .before in
+    reopen-end _ _ _ _ _ _ _ _ _ (c .before .loop2 .inv _ (reopen-from _ _ _ _ _ _ _ _ _ (first .before .loop .inv)
+    (λ l. ⊎-elim (λ w. not-false _ (w .1 .left)) (λ w. absurd (omega (arith, w .left))) (first .loop-test .came)))) (c .loop2-test .left)
 
 pub reopen-trace-spec : {M : Type 1} → statement M
-reopen-trace-spec =
-    tie.close
-    (tie.spec Inv-loop μ-loop loop-holds (λ c. search needs) (λ c κs. search needs) (λ c κs. search needs) (λ c κs. search needs) (λ c. search needs)
-    (λ c. search needs) loop-again (λ c. trace-end _ _ _ _ _ _ (c .loop-test .left) (c .before .loop .inv .3)))
+reopen-trace-spec {M} =
+    let told = tie.spec {M = M} Inv-loop μ-loop Inv-loop2 μ-loop2 (λ c. reopen-start _ _ _ _ _) (λ c. search needs) (λ c. search needs) (λ c. search needs)
+    loop-again (λ c u h. h) (λ c. search needs) (λ c κs. search needs) (λ c κs. search needs) (λ c κs. search needs)
+    (λ c κs. search needs) (λ c. search needs) (λ c. search needs) loop2-again returns in
+    tie.close told

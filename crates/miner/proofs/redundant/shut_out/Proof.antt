@@ -7,4 +7,6 @@ returns : tie.Need-returns
 returns c = less _ _ _ _ _ (is-row _ _ _ (c .before .before .before .row .ensures)) (is-row _ _ _ (c .before .row2 .ensures)) (c .difference .ensures)
 
 pub shut-out-spec : {M : Type 1} → statement M
-shut-out-spec = tie.close (tie.spec (λ c κs. search needs) (λ c κs. search needs) (λ c κs. search needs) returns)
+shut-out-spec {M} =
+    let told = tie.spec {M = M} (λ c κs. search needs) (λ c κs. search needs) (λ c κs. search needs) returns in
+    tie.close told

@@ -12,4 +12,6 @@ returns c =
     (c .difference .ensures)
 
 pub sure-row-spec : {M : Type 1} → statement M
-sure-row-spec = tie.close (tie.spec (λ c κs. search needs) (λ c κs. search needs) (λ c κs. search needs) (λ c κs. search needs) returns)
+sure-row-spec {M} =
+    let told = tie.spec {M = M} (λ c κs. search needs) (λ c κs. search needs) (λ c κs. search needs) (λ c κs. search needs) returns in
+    tie.close told

@@ -5,6 +5,4 @@ use Rattle.steps.proofs.relations.excludes_itself.Tie as tie
 
 pub excludes-itself-spec : {M : Type 1} → statement M
 excludes-itself-spec =
-    tie.close
-    (tie.spec (λ c κs. search needs) (λ c κs. search needs) (λ c. search (never-again, needs)) (λ c κs. search needs) (λ c κs. search needs)
-    (λ c. search (only-after, needs)))
+    tie.close (tie.spec (λ _ _. tt) (λ _ _. tt) (λ c. search (never-again, needs)) (λ _ _. tt) (λ _ _. tt) (λ c. search (only-after, needs)))

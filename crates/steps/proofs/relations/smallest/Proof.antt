@@ -5,4 +5,4 @@ use Rattle.steps.proofs.relations.smallest.Tie as tie
 
 pub smallest-spec : {M : Type 1} → statement M
 smallest-spec =
-    tie.close (tie.spec (λ c κs. search needs) (λ c κs. search needs) (λ c. search (smallest-is, needs)))
+    tie.close (tie.spec (λ _ _. tt) (λ _ _. tt) (λ c. search (smallest-is, needs)))

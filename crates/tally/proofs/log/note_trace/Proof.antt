@@ -1,34 +1,33 @@
-use mathlib.Core.Path.{_≡_, sym, ap, _∙_}
+use mathlib.Core.Path.{_≡_, ap, _∙_}
 use mathlib.Core.Bool.{Bool, true, false}
 use mathlib.Core.List.{List, []}
 use Prim.Native.Nat.{ℕ}
 use borrow.Author.Needs.{needs}
-use Rattle.tally.specs.Passes.{forward, backward}
-use Rattle.tally.specs.Tallies.{notePastIn, noteSinceIn, noteRestIn, notedFor}
-use Rattle.tally.proofs.Walks.{union-seen}
+use Rattle.sets.specs.Tests.{_and_, _or_}
+use Rattle.sets.specs.Members.{mem, those}
+use Rattle.sets.specs.Rows.{noRows}
+use Rattle.sets.specs.declared.set.Set.{Set}
+use Rattle.sets.proofs.Members.{those-of}
+use Rattle.rules.specs.Traces.{_has_}
+use Rattle.tally.specs.Passes.{forward, backward, reaches}
+use Rattle.tally.specs.Tallies.{notePastIn, noteRestIn, notedFor}
 use Rattle.tally.proofs.log.note_trace.Statement.{statement}
 use Rattle.tally.proofs.log.note_trace.Tie as tie
 
 -- the passes, one after another, in the form that was asked for
-passed : (wide form : Bool) (σ t one out : List ℕ) → wide ≡ form → one ≡ forward (noteSinceIn form) (forward (notePastIn form) t [] σ) [] σ
-    → out ≡ backward (noteRestIn form) one [] σ → out ≡ notedFor wide t σ
+passed : (wide form : Bool) (σ t one out blocks : List ℕ) (events seen r : Set) → wide ≡ form
+    → (seen ≡ those (λ x. reaches form x and σ has x)) × ((blocks ≡ noRows) × (one ≡ forward (notePastIn form) t [] σ))
+    → out ≡ backward (noteRestIn form) one [] σ → r ≡ those (λ a. mem events a or mem seen a)
+    → (r ≡ those (λ x. mem events x or reaches wide x and σ has x)) × ((blocks ≡ noRows) × (out ≡ notedFor wide t σ))
 unfolding notedFor
-passed wide form σ t one out hw h1 h2 = h2 ∙ ap (λ (x : List ℕ). backward (noteRestIn form) x [] σ) h1 ∙ ap (λ (b : Bool). notedFor b t σ) (sym hw)
-
-returns : tie.Need-returns
-returns c =
-    let past = c .before .before .before .forward .ensures in
-    let form = c .before .before .before .before .before .if1 .taken in
-    (union-seen _ true _ _ _ _ form (past .0) (c .union .ensures), passed _ true _ _ _ _ form (past .1) (c .before .backward .ensures))
-
-returns-2 : tie.Need-returns-2
-returns-2 c =
-    let past = c .before .before .before .forward-narrow .ensures in
-    let form = c .before .before .before .before .before .if1 .left in
-    (union-seen _ false _ _ _ _ form (past .0) (c .union2 .ensures), passed _ false _ _ _ _ form (past .1) (c .before .backward-narrow .ensures))
+passed wide form σ t one out blocks events seen r hw (hs, (hb, h1)) h2 h =
+    rw hw (h ∙ those-of seen _ (λ a t. mem events a or t) hs, (hb, h2 ∙ ap (λ (x : List ℕ). backward (noteRestIn form) x [] σ) h1))
 
 pub note-trace-spec : {M : Type 1} → statement M
-note-trace-spec =
-    tie.close
-    (tie.spec (λ c κs. search needs) (λ c κs. search needs) (λ c κs. search needs) returns (λ c κs. search needs) (λ c κs. search needs)
-    (λ c κs. search needs) returns-2)
+note-trace-spec {M} =
+    let told = tie.spec {M = M} (λ c κs. search needs) (λ c κs. search needs) (λ c κs. search needs)
+    (λ c. passed _ true _ _ _ _ _ _ _ _ (search needs) (c .before .before .before .forward .ensures) (c .before .backward .ensures) (c .union .ensures))
+    (λ c κs. search needs) (λ c κs. search needs) (λ c κs. search needs)
+    (λ c. passed _ false _ _ _ _ _ _ _ _ (search needs) (c .before .before .before .forward-narrow .ensures) (c .before .backward2 .ensures)
+    (c .union2 .ensures)) in
+    tie.close told

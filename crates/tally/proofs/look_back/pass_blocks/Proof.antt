@@ -11,8 +11,7 @@ use Rattle.sets.specs.Rows.{rowsOf}
 use Rattle.sets.specs.Sizes.{longestTrace}
 use Rattle.sets.proofs.Members.{those-mem}
 use Rattle.tally.specs.Passes.{inBlock}
-use Rattle.tally.proofs.Since.{Looked, look-start, look-passed}
-use Rattle.tally.proofs.Blocks.{look-block}
+use Rattle.tally.proofs.LookBack.{Looked, look-start, look-passed, look-block}
 use Rattle.tally.proofs.look_back.pass_blocks.Statement.{statement}
 use Rattle.tally.proofs.look_back.pass_blocks.Tie as tie
 
@@ -36,9 +35,9 @@ loop-again c =
     )
 
 pub pass-blocks-spec : {M : Type 1} → statement M
-pass-blocks-spec =
-    tie.close
-    (tie.spec Inv-loop μ-loop (λ c. (search needs, search needs, λ past hb hl. look-start past _ _ _ (those-mem _ (search needs)) hl))
+pass-blocks-spec {M} =
+    let told = tie.spec {M = M} Inv-loop μ-loop (λ c. (search needs, search needs, λ past hb hl. look-start past _ _ _ (those-mem _ (search needs)) hl))
     (λ c. search needs) (λ c. search needs) (λ c κs. search needs) (λ c κs. search needs)
     (λ c past hb hl. look-passed (c .before .before .before .before .loop .inv .2 past hb hl)) (λ c κs. search needs) (λ c. search needs)
-    (λ c. search needs) loop-again (λ c past hb hl. look-passed (c .before .loop .inv .2 past hb hl)))
+    (λ c. search needs) loop-again (λ c past hb hl. look-passed (c .before .loop .inv .2 past hb hl)) in
+    tie.close told

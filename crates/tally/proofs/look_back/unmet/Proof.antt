@@ -1,7 +1,7 @@
 use mathlib.Core.Path.{refl}
 use borrow.Author.Needs.{needs}
 use Rattle.sets.proofs.Members.{those-mem}
-use Rattle.tally.proofs.Since.{Looked, look-start, look-next, look-stop, look-empty, look-end}
+use Rattle.tally.proofs.LookBack.{Looked, look-start, look-next, look-stop, look-empty, look-end}
 use Rattle.tally.proofs.look_back.unmet.Statement.{statement}
 use Rattle.tally.proofs.look_back.unmet.Tie as tie
 

@@ -25,7 +25,7 @@ returns-2 c =
     rest-of _ _ _ _ _ _ (c .before .before .pass-blocks .ensures (now (a .past)) (search needs) refl) (c .unmet2 .ensures)
 
 pub unmet-by-spec : {M : Type 1} → statement M
-unmet-by-spec =
-    tie.close
-    (tie.spec (λ c κs. search needs) (λ c. search needs) (λ c κs. search needs) (λ c. search needs) (λ c. search needs)
-    (λ c. let a = c .before .before .before .args in c .pass-blocks .ensures (now (a .past)) (search needs) refl .0) (λ c κs. search needs) returns-2)
+unmet-by-spec {M} =
+    let told = tie.spec {M = M} (λ c κs. search needs) (λ c. search needs) (λ c κs. search needs) (λ c. search needs) (λ c. search needs)
+    (λ c. let a = c .before .before .before .args in c .pass-blocks .ensures (now (a .past)) (search needs) refl .0) (λ c κs. search needs) returns-2 in
+    tie.close told

@@ -7,4 +7,6 @@ returns : tie.Need-returns
 returns c = search (past-put, needs)
 
 pub note-past-spec : {M : Type 1} → statement M
-note-past-spec = tie.close (tie.spec (λ c κs. search needs) (λ c κs. search needs) (λ c κs. search needs) (λ c κs. search needs) (λ c κs. search needs) (λ c κs. search needs) (λ c κs. search needs) (λ c κs. search needs) returns)
+note-past-spec {M} =
+    let told = tie.spec {M = M} (λ c κs. search needs) (λ c κs. search needs) (λ c κs. search needs) (λ c κs. search needs) (λ c κs. search needs) (λ c κs. search needs) (λ c κs. search needs) (λ c κs. search needs) returns in
+    tie.close told
