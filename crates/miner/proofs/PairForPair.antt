@@ -32,10 +32,9 @@ use Rattle.tally.specs.Passes.{Fact, gains, forward, through}
 use Rattle.tally.proofs.Folds.{heard, forward-rowsOf, through-rowsOf, through-all}
 use Rattle.miner.specs.Stages.{conditionsOf, responsesOf, includesSix, excludesSix, sevenFrom, fourTables, graphFound}
 use Rattle.miner.specs.Facts.{letIn, beforeFirst, missed}
-use Rattle.miner.proofs.RowReadings.{reduced-rows, turned-rows}
-use Rattle.miner.proofs.EarlySteps.{events, conditions-read, responses-read, chains-read}
+use Rattle.miner.proofs.EarlySteps.{events, reduced-rows, turned-rows, conditions-read, responses-read, chains-read}
 use Rattle.miner.proofs.Exclusions.{among, joined, first-too, with-events, never-read, excludes-seven}
-use Rattle.miner.proofs.Holding.{held-is}
+use Rattle.miner.proofs.Composed.{held-is}
 use Rattle.miner.proofs.OverLog.{neverFollowing, let-in-is, missed-is}
 
 -- a pair of a relation is a pair of events

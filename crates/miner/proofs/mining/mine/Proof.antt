@@ -3,8 +3,5 @@ use Rattle.miner.proofs.FromLog.{whole-by}
 use Rattle.miner.proofs.mining.mine.Statement.{statement}
 use Rattle.miner.proofs.mining.mine.Tie as tie
 
-returns : tie.Need-returns
-returns c = search (whole-by, needs)
-
 pub mine-spec : {M : Type 1} → statement M
-mine-spec = tie.close (tie.spec (λ c κs. search needs) returns)
+mine-spec = tie.close (tie.spec (λ c κs. search needs) (λ c. search (whole-by, needs)))
