@@ -30,7 +30,8 @@ use Rattle.steps.specs.Rowwise.{excluders, inEither, reducedOf, waited}
 use Rattle.tally.specs.Passes.{through, eventIn}
 use Rattle.tally.specs.Tallies.{tableCount, notedFor, talliedFor, beforeTable, laterTable}
 use Rattle.tally.proofs.Folds.{formed, forward-in, through-rowsOf}
-use Rattle.miner.specs.Stages.{fourTables, conditionsOf, chainsOf, responsesOf, neverOf, fiveOf, followersOf, redundantBy, sevenFrom, includesIn, excludesSix, letInOf, waitedIn, aheadOf, missedOf, tablesIn, graphFoundIn}
+use Rattle.miner.specs.Stages.{fourTables, conditionsOf, chainsOf, responsesOf, neverOf, fiveOf, followersOf, redundantBy, sevenFrom}
+use Rattle.miner.specs.Stages.{includesIn, excludesSix, letInOf, waitedIn, aheadOf, missedOf, tablesIn, graphFoundIn}
 use Rattle.miner.specs.Facts.{Less, letIn}
 
 module _ (tables : List ℕ) (k : ℕ) (rows : List ℕ) where
@@ -81,9 +82,6 @@ pub record Held (t c r i x : List ℕ) : Type 0 where
 
 pub held-any : (t : List ℕ) → length t ≡ relationCount * rowWords → Held t (tableAt t 0) (tableAt t 1) (tableAt t 2) (tableAt t 3)
 held-any t h = record { long = h; conditions = refl; responses = refl; includes = refl; excludes = refl }
-
-pub length-held : (t : List ℕ) (k : ℕ) → length t ≡ relationCount * rowWords → k < relationCount → length (tableAt t k) ≡ rowWords
-length-held t k h l = length-table relationCount t k h l
 
 module _ (t c r i x t′ rows : List ℕ) (h : Held t c r i x) (hr : length rows ≡ rowWords) where
   kept : (k : ℕ) → t′ ≡ withTable t k rows → (j : ℕ) → eqb j k ≡ false → (old : List ℕ) → tableAt t j ≡ old → tableAt t′ j ≡ old
@@ -183,33 +181,30 @@ module _ (wide : Bool) (L : Traces) (events : Set) (tally : List ℕ) where
     abbrev let-in : List ℕ → List ℕ
     let-in rows = letInOf wide never rows L
 
-    six-held : length t ≡ relationCount * rowWords → length (let-in (tableAt t 2)) ≡ rowWords
-        → Held t₃ (tableAt t 0) never (let-in (tableAt t 2)) (rowsFor events (inEither (tableAt t 3) never))
-    six-held long li =
-        let one = held-r _ _ _ _ _ t₁ never (held-any t long) (length-for events _) h₁ in
-        let two = held-i _ _ _ _ _ t₂ (let-in (tableAt t 2)) one li
-        (h₂
-        ∙ (λ i. withTable t₁ 2 (letInOf wide (taken-from t₁ 1 never (one .responses) (length-for events _) i)
-        (taken-from t₁ 2 (tableAt t 2) (one .includes) (length-held t 2 long (omega arith)) i) L))) in
-        held-x _ _ _ _ _ t₃ _ two (length-for events _)
-        (h₃
-        ∙ (λ i. withTable t₂ 3 (rowsFor events (inEither
-        (taken-from t₂ 3 (tableAt t 3) (two .excludes) (length-held t 3 long (omega arith)) i)
-        (taken-from t₂ 1 never (two .responses) (length-for events _) i)))))
-
     pub six-length : length t₃ ≡ length t
     six-length = put-long t₂ t₃ 3 _ h₃ ∙ put-long t₁ t₂ 2 _ h₂ ∙ put-long t t₁ 1 _ h₁
 
     module _ (p : Profile) (e : p ≡ Full) (long : length t ≡ relationCount * rowWords) (hi : tableAt t 2 ≡ includesIn wide Light events tally L) where
-      full-held : Held t₃ (tableAt t 0) never (let-in (tableAt t 2)) (rowsFor events (inEither (tableAt t 3) never))
-      full-held = six-held long (ap (λ (x : List ℕ). length (let-in x)) hi ∙ length-includes Full)
+      six-held : Held t₃ (tableAt t 0) never (let-in (tableAt t 2)) (rowsFor events (inEither (tableAt t 3) never))
+      six-held =
+          let li = ap (λ (x : List ℕ). length (let-in x)) hi ∙ length-includes Full in
+          let one = held-r _ _ _ _ _ t₁ never (held-any t long) (length-for events _) h₁ in
+          let two = held-i _ _ _ _ _ t₂ (let-in (tableAt t 2)) one li
+          (h₂
+          ∙ (λ i. withTable t₁ 2 (letInOf wide (taken-from t₁ 1 never (one .responses) (length-for events _) i)
+          (taken-from t₁ 2 (tableAt t 2) (one .includes) (length-table relationCount t 2 long (omega arith)) i) L))) in
+          held-x _ _ _ _ _ t₃ _ two (length-for events _)
+          (h₃
+          ∙ (λ i. withTable t₂ 3 (rowsFor events (inEither
+          (taken-from t₂ 3 (tableAt t 3) (two .excludes) (length-table relationCount t 3 long (omega arith)) i)
+          (taken-from t₂ 1 never (two .responses) (length-for events _) i)))))
 
       pub six-includes : tableAt t₃ 2 ≡ includesIn wide p events tally L
-      six-includes = full-held .includes ∙ ap let-in hi ∙ ap (λ (q : Profile). includesIn wide q events tally L) (sym e)
+      six-includes = six-held .includes ∙ ap let-in hi ∙ ap (λ (q : Profile). includesIn wide q events tally L) (sym e)
 
       pub six-excludes : tableAt t 3 ≡ excludesSix Light events tally → tableAt t₃ 3 ≡ excludesSix p events tally
       six-excludes hx =
-          full-held .excludes
+          six-held .excludes
           ∙ ap (λ (x : List ℕ). rowsFor events (inEither x never)) hx
           ∙ ap (λ (q : Profile). excludesSix q events tally) (sym e)
 

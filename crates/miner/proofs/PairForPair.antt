@@ -22,7 +22,9 @@ use Rattle.engine.specs.Enabled.{graphAt}
 use Rattle.rules.specs.declared.Profile.{Profile}
 use Rattle.rules.specs.declared.Profile.the-variants.{Full, Light}
 use Rattle.rules.specs.Traces.{Traces}
-use Rattle.rules.specs.Mining.{event, someEvent, _with_, _without_, followed, between, neverMissed, directlyBefore, noRelations, reduced, step1, step2, step3, step4, step5, step6, step7, step8, step9, step10, afterFive, afterSix, afterSeven, afterEight, mined, beforeFirst as ruleBeforeFirst}
+use Rattle.rules.specs.Mining.{event, someEvent, _with_, _without_, followed, between, neverMissed, directlyBefore, noRelations, reduced, step1}
+use Rattle.rules.specs.Mining.{step2, step3, step4, step5, step6, step7, step8, step9, step10, afterFive, afterSix, afterSeven, afterEight, mined}
+use Rattle.rules.specs.Mining.{beforeFirst as ruleBeforeFirst}
 use Rattle.rules.specs.Mined.{graphFrom, minedGraph}
 use Rattle.rules.proofs.LogLaws.{middle-event, later-event}
 use Rattle.rules.proofs.Why.{Small}
