@@ -17,7 +17,7 @@ use Rattle.sets.specs.declared.set.Set.{Set}
 use Rattle.sets.specs.declared.answer.Answer.{Answer}
 use Rattle.sets.specs.declared.answer.Answer.the-variants.{Waiting}
 use Rattle.sets.proofs.Tests.{and-l, and-r, and-i, T-ext, T→true, F→false, eqb-of, split}
-use Rattle.sets.proofs.Below.{some-e, least-only, some-least}
+use Rattle.sets.proofs.Below.{some-e, least-only, some-least, some-last}
 use Rattle.sets.proofs.Members.{Fits, is-those, those-ext, those-of}
 use Rattle.engine.specs.declared.marking.State.{State}
 use Rattle.engine.specs.declared.marking.Marking.{Marking}
@@ -27,7 +27,7 @@ use Rattle.engine.specs.Steps.{blocking, waits, blocker, enabled, after}
 use Rattle.engine.specs.Enabled.{enabledSet, marked, isTrue}
 use Rattle.plain.specs.Pairs.{pairOf, sourceOf, targetOf, someIn, isAmong, inPairs, blocks}
 use Rattle.plain.specs.Graphs.{inLists}
-use Rattle.plain.proofs.PairLaws.{pair-is, stands, some-last}
+use Rattle.plain.proofs.PairLaws.{pair-is, stands}
 
 -- ---- a rule that reads one relation reads it from its list alone
 
