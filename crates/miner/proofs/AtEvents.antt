@@ -3,7 +3,7 @@
 -- in the form of its A, which holds every event. Assumes nothing.
 use mathlib.Core.Path.{_≡_, sym, ap, ap₂, _∙_, refl}
 use mathlib.Core.Bool.{Bool, true, false}
-use mathlib.Core.List.{List, [], _∷_}
+use mathlib.Core.List.{List, []}
 use Prim.Native.Nat.{ℕ, _<_}
 use native.Mathlib.Omega.{arith}
 use borrow.Author.Tests.{lt-ltb, ltb-false}
@@ -13,7 +13,7 @@ use Rattle.sets.specs.Members.{width, mem, someBelow, word, those}
 use Rattle.sets.specs.Rows.{Relation, rowAt, inRow, rowsOf, rowsFor, turned, noRows}
 use Rattle.sets.specs.Tables.{tableAt}
 use Rattle.sets.specs.declared.set.Set.{Set}
-use Rattle.sets.proofs.Tests.{and-l, and-r, or-e, and-comm, and-assoc, T-eq, either, T-ext, T→true, true→T, and-i, split}
+use Rattle.sets.proofs.Tests.{and-l, and-r, or-e, and-comm, and-assoc, T-eq, either, T-ext, T→true, true→T, and-i}
 use Rattle.sets.proofs.Below.{some-ext}
 use Rattle.sets.proofs.Members.{those-i, mem-those, those-ext}
 use Rattle.sets.proofs.RowLaws.{in-rowsOf, rowsOf-ext}
@@ -29,11 +29,14 @@ use Rattle.rules.proofs.Places.{some-trace, some-place}
 use Rattle.steps.specs.Rowwise.{unbroken, absent, excludesItself, smallest, apart, closing, excluders, inEither, reducedOf, waited}
 use Rattle.steps.proofs.Sources.{smallest-as}
 use Rattle.tally.specs.Passes.{gains, forward, Fact, gainsIn, through, reaches, eventIn, cut}
-use Rattle.tally.specs.Tallies.{tableCount, beforeTable, laterTable, unprecededTable, unansweredTable, unchainedTable, unalternatedTable, followedTable, tallied, talliedFor}
+use Rattle.tally.specs.Tallies.{tableCount, beforeTable, laterTable, unprecededTable, unansweredTable, unchainedTable, unalternatedTable}
+use Rattle.tally.specs.Tallies.{followedTable, tallied, talliedFor}
 use Rattle.tally.proofs.Folds.{heard, forward-rowsOf, through-rowsOf, heard-in, heard-cut, formed, forward-in, through-all}
 use Rattle.tally.proofs.Tallying.{form-agrees}
 use Rattle.miner.specs.Facts.{letIn, reopened, doubted, beforeFirst, missed}
-use Rattle.miner.specs.Stages.{conditionsOf, chainsOf, responsesOf, neverOf, fiveFrom, fiveOf, includesFrom, includesSix, excludesSix, followersOf, redundantBy, sevenFrom, waitedOf, fourTables, tablesAfterSix, tablesRead, includesIn, waitedIn, tablesIn, graphFound, graphFoundIn}
+use Rattle.miner.specs.Stages.{conditionsOf, chainsOf, responsesOf, neverOf, fiveFrom, fiveOf, includesFrom, includesSix, excludesSix}
+use Rattle.miner.specs.Stages.{followersOf, redundantBy, sevenFrom, waitedOf, fourTables, tablesAfterSix, tablesRead, includesIn, waitedIn}
+use Rattle.miner.specs.Stages.{tablesIn, graphFound, graphFoundIn}
 use Rattle.miner.proofs.Losing.{where-so}
 use Rattle.miner.proofs.EarlySteps.{events}
 

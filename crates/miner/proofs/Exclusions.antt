@@ -28,11 +28,10 @@ use Rattle.rules.proofs.LogLaws.{once, together-before}
 use Rattle.tally.proofs.Folds.{at-same}
 use Rattle.miner.specs.Facts.{reopened, doubted}
 use Rattle.miner.specs.Stages.{neverOf, fiveOf, excludesSix, followersOf, redundantBy, sevenFrom}
-use Rattle.miner.proofs.RowReadings.{turned-rows, absent-rows, united-rows, smallest-read}
 use Rattle.rules.proofs.Why.{Small}
 use Rattle.miner.proofs.OverLog.{reopened-is}
 use Rattle.miner.proofs.Losing.{where-so}
-use Rattle.miner.proofs.EarlySteps.{events, chains-read}
+use Rattle.miner.proofs.EarlySteps.{events, chains-read, turned-rows, absent-rows, united-rows, smallest-read}
 
 -- ---- tests alone
 

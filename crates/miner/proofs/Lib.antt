@@ -1,11 +1,9 @@
 -- The modules of `proofs/` that belong to no one function.
-pub mod RowReadings
 pub mod EarlySteps
 pub mod Exclusions
 pub mod After
 pub mod Replaying
 pub mod OverLog
-pub mod Holding
 pub mod Composed
 pub mod PairForPair
 pub mod FromLog

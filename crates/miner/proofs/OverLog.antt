@@ -12,7 +12,7 @@ use Rattle.sets.proofs.Below.{some-i, some-e}
 use Rattle.sets.proofs.Members.{mem-those}
 use Rattle.sets.proofs.RowLaws.{row-mem, in-rowsOf}
 use Rattle.engine.specs.Relations.{Relations}
-use Rattle.rules.specs.Traces.{Traces, _has_, atSomeFrom, atSome, someTrace}
+use Rattle.rules.specs.Traces.{Traces, _has_, atSome, someTrace}
 use Rattle.rules.specs.Mining.{event, someEvent, before, followed, between, letInBetween, includedAfter, neverMissed}
 use Rattle.rules.proofs.Places.{has-first, has-past, some-place, at-place, places-ext}
 use Rattle.rules.proofs.Why.{Small, some-event, the-event}

@@ -22,7 +22,9 @@ use Rattle.engine.specs.Enabled.{graphAt}
 use Rattle.rules.specs.declared.Profile.{Profile}
 use Rattle.rules.specs.declared.Profile.the-variants.{Full, Light}
 use Rattle.rules.specs.Traces.{Traces}
-use Rattle.rules.specs.Mining.{event, someEvent, _with_, _without_, followed, between, neverMissed, directlyBefore, noRelations, reduced, step1, step2, step3, step4, step5, step6, step7, step8, step9, step10, afterFive, afterSix, afterSeven, afterEight, mined, beforeFirst as ruleBeforeFirst}
+use Rattle.rules.specs.Mining.{event, someEvent, _with_, _without_, followed, between, neverMissed, directlyBefore, noRelations, reduced, step1}
+use Rattle.rules.specs.Mining.{step2, step3, step4, step5, step6, step7, step8, step9, step10, afterFive, afterSix, afterSeven, afterEight, mined}
+use Rattle.rules.specs.Mining.{beforeFirst as ruleBeforeFirst}
 use Rattle.rules.specs.Mined.{graphFrom, minedGraph}
 use Rattle.rules.proofs.LogLaws.{middle-event, later-event}
 use Rattle.rules.proofs.Why.{Small}
@@ -32,10 +34,9 @@ use Rattle.tally.specs.Passes.{Fact, gains, forward, through}
 use Rattle.tally.proofs.Folds.{heard, forward-rowsOf, through-rowsOf, through-all}
 use Rattle.miner.specs.Stages.{conditionsOf, responsesOf, includesSix, excludesSix, sevenFrom, fourTables, graphFound}
 use Rattle.miner.specs.Facts.{letIn, beforeFirst, missed}
-use Rattle.miner.proofs.RowReadings.{reduced-rows, turned-rows}
-use Rattle.miner.proofs.EarlySteps.{events, conditions-read, responses-read, chains-read}
+use Rattle.miner.proofs.EarlySteps.{events, reduced-rows, turned-rows, conditions-read, responses-read, chains-read}
 use Rattle.miner.proofs.Exclusions.{among, joined, first-too, with-events, never-read, excludes-seven}
-use Rattle.miner.proofs.Holding.{held-is}
+use Rattle.miner.proofs.Composed.{held-is}
 use Rattle.miner.proofs.OverLog.{neverFollowing, let-in-is, missed-is}
 
 -- a pair of a relation is a pair of events

@@ -27,8 +27,7 @@ use Rattle.steps.specs.Rowwise.{absent, reducedOf}
 use Rattle.tally.specs.Tallies.{tableCount, unalternatedTable, tallied}
 use Rattle.tally.proofs.Tallying.{unalternated-table}
 use Rattle.miner.specs.Stages.{conditionsOf, responsesOf, chainsOf, neverOf, excludesSix, fourTables}
-use Rattle.miner.proofs.RowReadings.{turned-rows, absent-rows}
-use Rattle.miner.proofs.EarlySteps.{events, chains-read}
+use Rattle.miner.proofs.EarlySteps.{events, chains-read, turned-rows, absent-rows}
 use Rattle.miner.proofs.Exclusions.{first-too, never-read, excludes-six, six-events}
 use Rattle.miner.proofs.Losing.{where-so}
 use Rattle.miner.proofs.PairForPair.{four-tables, conditions-eight, responses-mined}

@@ -12,13 +12,14 @@ use Rattle.sets.specs.Tables.{tableAt, withRowIn, gainedIn}
 use Rattle.sets.specs.declared.set.Set.{Set}
 use Rattle.sets.proofs.Tests.{true→T, T-eq, true-and}
 use Rattle.sets.proofs.Tautologies.{by3}
+use Rattle.sets.proofs.Ways.{taken, passed-by}
 use Rattle.sets.proofs.Members.{those-ext, empty-e}
 use Rattle.sets.proofs.MadeSets.{is-those}
 use Rattle.sets.proofs.TableLaws.{put-back}
 use Rattle.rules.specs.Traces.{_has_}
 use Rattle.tally.specs.Passes.{notedIn, notSince, reaches, cut}
 use Rattle.tally.specs.Tallies.{unalternatedTable, notePastIn, pastBy, sinceBy, placeBy}
-use Rattle.tally.proofs.Turns.{heldIn, lastIn, not-held, noted-where, noted-by, held-of, held, unheld, where-held, past-is}
+use Rattle.tally.proofs.Turns.{heldIn, lastIn, not-held, noted-where, noted-by, held-of, where-held, past-is}
 use Rattle.tally.proofs.LookBack.{since, since-all}
 
 -- a row that has all gains nothing
@@ -104,8 +105,8 @@ module _ (wide : Bool) (t : List ℕ) (e : ℕ) (past : List ℕ) (seen last : S
   pub place-put : (one out : List ℕ) → reaches wide e ≡ true → one ≡ pastBy wide t e seen last → out ≡ sinceBy wide one e past seen
       → out ≡ placeBy wide t e past seen last
   unfolding placeBy
-  place-put one out h h1 h2 = h2 ∙ ap (λ (x : List ℕ). sinceBy wide x e past seen) h1 ∙ held _ t (reaches wide e) h
+  place-put one out h h1 h2 = taken (reaches wide e) _ t out (sym h) (h2 ∙ ap (λ (x : List ℕ). sinceBy wide x e past seen) h1)
 
   pub place-left : reaches wide e ≡ false → t ≡ placeBy wide t e past seen last
   unfolding placeBy
-  place-left h = unheld _ t (reaches wide e) h
+  place-left h = passed-by (reaches wide e) _ t t (sym h) refl

@@ -69,10 +69,9 @@ pub forward-in : (wide : Bool) (p : Fact) (r : Relation) (past rest : List ℕ)
     → forward (gainsIn wide p) (rowsOf r) past rest ≡ rowsOf (λ a x. r a x or said (formed wide p) past rest a x)
 forward-in wide p = forward-by (formed wide p) (gainsIn wide p) (gains-in wide p)
 
-module _ (p : Fact) where
-  -- what some trace says
-  abbrev pub heard : Traces → Relation
-  heard L a x = someTrace L (atSome a (λ q s. p a q s x))
+-- what some trace says
+abbrev pub heard : Fact → Traces → Relation
+heard p L a x = someTrace L (atSome a (λ q s. p a q s x))
 
 -- what is heard in a form of what the form can hold
 pub heard-cut : (wide : Bool) (p : Fact) (L : Traces) (a x : ℕ) → reaches wide x ≡ true → heard (cut wide p) L a x ≡ heard p L a x

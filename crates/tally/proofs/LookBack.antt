@@ -14,7 +14,8 @@ use Rattle.sets.specs.Tests.{_and_, _or_, non, when_then_else_}
 use Rattle.sets.specs.Members.{width, mem, those, isEmpty, noSet, someBelow}
 use Rattle.sets.specs.declared.set.Set.{Set}
 use Rattle.sets.specs.Rows.{Relation, rowAt, withRow, noRows, rowsOf}
-use Rattle.sets.proofs.Tests.{or-true, or-false, or-comm, or-assoc, and-true, and-false, false-and, neither, nor, F→false, true→T, and-i, and-l, and-r, or-e, or-l, or-r, non-e, not-non, T-ext, T-eq, T→true, eqb-of, eqb-sym, split, either}
+use Rattle.sets.proofs.Tests.{or-true, or-false, or-comm, or-assoc, and-true, and-false, false-and, neither, nor, F→false, true→T, and-i, and-l}
+use Rattle.sets.proofs.Tests.{and-r, or-e, or-l, or-r, non-e, not-non, T-ext, T-eq, T→true, eqb-of, eqb-sym, split, either}
 use Rattle.sets.proofs.Tautologies.{by3}
 use Rattle.sets.proofs.Members.{those-ext, those-of, empty-e, none-those}
 use Rattle.sets.proofs.Below.{some-i, some-e, some-ext, some-last}

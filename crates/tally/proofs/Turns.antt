@@ -5,22 +5,23 @@ use mathlib.Core.Bool.{Bool, true, false, not}
 use mathlib.Core.List.{List, [], _∷_, _++_, reverseAux}
 use Prim.Native.Nat.{ℕ, _+_, _≤_, _<_}
 use native.Mathlib.Numerals.{add-one}
-use borrow.Author.Tests.{lt-ltb, le-ltb, ltb-true, ltb-false, not-true, not-false}
+use borrow.Author.Tests.{lt-ltb, le-ltb, ltb-true, ltb-false}
 use lib.Dec.{eqb, ltb}
 use lib.ListN.{length, getD, take, drop, drop-of-length-le}
-use lib.Seq.{take-suc, take-all, drop-cons, drop-length}
+use lib.Seq.{take-suc, take-all, drop-cons}
 use Rattle.sets.specs.Tests.{_and_, _or_, non, when_then_else_}
 use Rattle.sets.specs.Rows.{rowAt, withRow}
 use Rattle.sets.specs.Tables.{tableAt, withRowIn, gainedIn}
 use Rattle.sets.specs.declared.set.Set.{Set}
 use Rattle.sets.proofs.Tests.{T→true, F→false, split, either, and-false, and-comm, or-assoc, or-comm, or-false}
 use Rattle.sets.proofs.Tautologies.{by2, by3}
+use Rattle.sets.proofs.Ways.{failed, held, taken, passed-by}
 use Rattle.sets.proofs.Members.{none-those, those-ext, those-of}
 use Rattle.sets.proofs.MadeSets.{Is, is-those}
 use Rattle.sets.proofs.RowLaws.{put-out}
 use Rattle.sets.proofs.TableLaws.{table-put-above}
 use Rattle.rules.specs.Traces.{_has_, _beginsWith_}
-use Rattle.tally.specs.Passes.{Fact, Turn, gained, gains, gainedFor, gainsIn, notedIn, forward, backward, reaches, cut, isEarlier, notEarlier, notDirectly}
+use Rattle.tally.specs.Passes.{Fact, Turn, gained, gains, gainedFor, gainsIn, notedIn, forward, reaches, cut, isEarlier, notEarlier, notDirectly}
 use Rattle.tally.specs.Passes.{isLater, notLater, isNext}
 use Rattle.tally.specs.Tallies.{beforeTable, laterTable, unprecededTable, unansweredTable, unchainedTable, followedTable, noteRestIn}
 use Rattle.tally.specs.Tallies.{pastBy, restBy}
@@ -199,13 +200,6 @@ low-held wide s low r t hl hr =
 pub held-of : (wide : Bool) (s c : Set) (p : ℕ → Bool) → Is s p → c ≡ those (λ x. reaches wide x and mem s x) → Is c (λ x. reaches wide x and p x)
 held-of wide s c p hs hc x l = is-those c _ hc x l ∙ ap (λ (t : Bool). reaches wide x and t) (hs x l)
 
--- a place that the form holds, and one that it does not
-pub held : (x y : List ℕ) (b : Bool) → b ≡ true → x ≡ (when b then x else y)
-held x y b h = ap (λ (t : Bool). when t then x else y) (sym h)
-
-pub unheld : (x y : List ℕ) (b : Bool) → b ≡ false → y ≡ (when b then x else y)
-unheld x y b h = ap (λ (t : Bool). when t then x else y) (sym h)
-
 pub where-held : (x z y : List ℕ) (b : Bool) → (b ≡ true → x ≡ z) → (when b then x else y) ≡ (when b then z else y)
 where-held x z y true h = h refl
 where-held x z y false h = refl
@@ -246,13 +240,12 @@ module _ (wide : Bool) (tables : List ℕ) (e : ℕ) where
       → out ≡ gainedIn two followedTable e n → out ≡ restBy wide tables e after next
   unfolding restBy
   rest-put after next h hh hn s c c′ n one two out hs h1 hc hc′ h2 hx h3 =
-      joined-thrice tables laterTable unansweredTable followedTable e s c′ n _ _ _ one two out (is-those s _ hs)
-      (held-of wide c c′ _ (is-those c _ hc) hc′) (is-those n _ hx) h1 h2 h3
-      ∙ held _ tables (reaches wide e) (sym hh ∙ not-false h hn)
+      taken (reaches wide e) _ tables out (held _ h hh hn) (joined-thrice tables laterTable unansweredTable followedTable e s c′ n _ _ _ one two out
+      (is-those s _ hs) (held-of wide c c′ _ (is-those c _ hc) hc′) (is-those n _ hx) h1 h2 h3)
 
   pub rest-left : (after next : Set) (h : Bool) → h ≡ reaches wide e → not h ≡ true → tables ≡ restBy wide tables e after next
   unfolding restBy
-  rest-left after next h hh hn = unheld _ tables (reaches wide e) (sym hh ∙ not-true h hn)
+  rest-left after next h hh hn = passed-by (reaches wide e) _ tables tables (failed _ h hh hn) refl
 
   -- by sets of what stands there, it is what the place says
   module _ (past rest : List ℕ) where

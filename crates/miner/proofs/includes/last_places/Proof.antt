@@ -15,15 +15,14 @@ Inv-loop trace last₀ all₀ i₀ last all i =
 abbrev μ-loop : tie.MeasureT-loop
 μ-loop trace last₀ all₀ i₀ last all i = length trace - i
 
-loop-again : tie.Need-loop-again Inv-loop μ-loop
-loop-again c =
-    let t = c .before .before .before .before .loop-test .taken in
-    let v = c .before .before .before .before .before .loop .inv in
-    (search needs, seen-next _ _ t _ (v .1) _ (c .and-then .ensures), places-next _ _ _ _ (v .2) _ t (c .before .put-place .ensures))
-
 pub last-places-spec : {M : Type 1} → statement M
 last-places-spec {M} =
     let told = tie.spec {M = M} Inv-loop μ-loop (λ c. (search needs, seen-none, refl)) (λ c. search needs) (λ c κs. search needs) (λ c κs. search needs)
-    (λ c. search needs) (λ c. search needs) loop-again
+    (λ c. search needs) (λ c. search needs)
+    (λ c. let at = c .before .before .before .before in let v = at .before .loop .inv in (
+      search needs,
+      seen-next _ _ (at .loop-test .taken) _ (v .1) _ (c .and-then .ensures),
+      places-next _ _ _ _ (v .2) _ (at .loop-test .taken) (c .before .put-place .ensures),
+    ))
     (λ c. let v = c .before .loop .inv in (seen-all _ _ _ (c .loop-test .left) (v .1), places-end _ _ _ _ (v .2) (c .loop-test .left))) in
     tie.close told

@@ -4,10 +4,8 @@ use Rattle.tally.proofs.Turns.{all-held, low-held}
 use Rattle.tally.proofs.form.in_form.Statement.{statement}
 use Rattle.tally.proofs.form.in_form.Tie as tie
 
-returns-2 : tie.Need-returns-2
-returns-2 c = low-held _ _ _ _ (c .before .before .if1 .left) (c .before .below .ensures) (c .intersection .ensures)
-
 pub in-form-spec : {M : Type 1} → statement M
 in-form-spec {M} =
-    let told = tie.spec {M = M} (λ c. all-held _ _ (those-mem _ (search needs)) (c .if1 .taken)) (λ c κs. search needs) (λ c κs. search needs) returns-2 in
+    let told = tie.spec {M = M} (λ c. all-held _ _ (those-mem _ (search needs)) (c .if1 .taken)) (λ c κs. search needs) (λ c κs. search needs)
+    (λ c. low-held _ _ _ _ (c .before .before .if1 .left) (c .before .below .ensures) (c .intersection .ensures)) in
     tie.close told

@@ -54,14 +54,10 @@ Inv-loop log traces wide tally₀ blocks₀ events₀ k₀ tally blocks events k
 abbrev μ-loop : tie.MeasureT-loop
 μ-loop log traces wide tally₀ blocks₀ events₀ k₀ tally blocks events k = traces - k
 
-returns : tie.Need-returns Inv-loop μ-loop
-returns c =
-    let inv = c .before .loop .inv in
-    let over = c .loop-test .left in
-    (events-end _ _ _ _ _ _ (inv .a-set) over (inv .events-are), through-end (notedFor _) _ _ _ _ _ over (inv .left))
-
 pub note-traces-in-spec : {M : Type 1} → statement M
 note-traces-in-spec {M} =
-    let told = tie.spec {M = M} Inv-loop μ-loop (λ c κs. search needs) (λ c. search (start, needs)) (λ c κs. search needs) (λ c κs. c .before .before .before .before .loop .inv .empty) (λ c. search needs) (λ c. search needs)
-    (λ c. search (turn, needs)) returns in
+    let told = tie.spec {M = M} Inv-loop μ-loop (λ c κs. search needs) (λ c. search (start, needs)) (λ c κs. search needs)
+    (λ c κs. c .before .before .before .before .loop .inv .empty) (λ c. search needs) (λ c. search needs) (λ c. search (turn, needs))
+    (λ c. let inv = c .before .loop .inv in let over = c .loop-test .left in
+    (events-end _ _ _ _ _ _ (inv .a-set) over (inv .events-are), through-end (notedFor _) _ _ _ _ _ over (inv .left))) in
     tie.close told

@@ -22,22 +22,18 @@ Inv-loop blocks places e left₀ end₀ left end = (e .0 < width) × (end ≤ lo
 abbrev μ-loop : tie.MeasureT-loop
 μ-loop blocks places e left₀ end₀ left end = end
 
-loop-again : tie.Need-loop-again Inv-loop μ-loop
-loop-again c =
-    let turn = c .before .before .before .before in
-    let inv = turn .before .loop .inv in (
-      inv .0,
-      omega (arith, inv .1),
-      λ past hb hl.
-          look-block past _ _ _ _ (inv .2 past hb hl) (turn .loop-test .taken) _ _ _ _ (omega (arith, inv .1)) (inv .0) hb
-          (c .before .before .before .row .ensures) (c .before .before .is-passed .ensures) (not-false _ (c .before .if1 .left))
-          (c .difference .ensures),
-    )
-
 pub pass-blocks-spec : {M : Type 1} → statement M
 pass-blocks-spec {M} =
     let told = tie.spec {M = M} Inv-loop μ-loop (λ c. (search needs, search needs, λ past hb hl. look-start past _ _ _ (those-mem _ (search needs)) hl))
     (λ c. search needs) (λ c. search needs) (λ c κs. search needs) (λ c κs. search needs)
     (λ c past hb hl. look-passed (c .before .before .before .before .loop .inv .2 past hb hl)) (λ c κs. search needs) (λ c. search needs)
-    (λ c. search needs) loop-again (λ c past hb hl. look-passed (c .before .loop .inv .2 past hb hl)) in
+    (λ c. search needs)
+    (λ c. let turn = c .before .before .before .before in let inv = turn .before .loop .inv in (
+      inv .0,
+      omega (arith, inv .1),
+      λ past hb hl.
+          look-block past _ _ _ _ (inv .2 past hb hl) (turn .loop-test .taken) _ _ _ _ (omega (arith, inv .1)) (inv .0) hb
+          (c .before .before .before .row .ensures) (c .before .before .is-passed .ensures) (not-false _ (c .before .if1 .left)) (c .difference .ensures),
+    ))
+    (λ c past hb hl. look-passed (c .before .loop .inv .2 past hb hl)) in
     tie.close told

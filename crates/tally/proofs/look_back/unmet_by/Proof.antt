@@ -19,13 +19,10 @@ rest-of : (past : List ℕ) (e : ℕ) (wanted left r : Set) (n : ℕ) → Passed
 rest-of past e wanted left r n h q =
     let same : n - 0 ≡ n = omega arith in (rw same at q) ∙ h .1
 
-returns-2 : tie.Need-returns-2
-returns-2 c =
-    let a = c .before .before .before .before .before .args in
-    rest-of _ _ _ _ _ _ (c .before .before .pass-blocks .ensures (now (a .past)) (search needs) refl) (c .unmet2 .ensures)
-
 pub unmet-by-spec : {M : Type 1} → statement M
 unmet-by-spec {M} =
     let told = tie.spec {M = M} (λ c κs. search needs) (λ c. search needs) (λ c κs. search needs) (λ c. search needs) (λ c. search needs)
-    (λ c. let a = c .before .before .before .args in c .pass-blocks .ensures (now (a .past)) (search needs) refl .0) (λ c κs. search needs) returns-2 in
+    (λ c. let a = c .before .before .before .args in c .pass-blocks .ensures (now (a .past)) (search needs) refl .0) (λ c κs. search needs)
+    (λ c. let a = c .before .before .before .before .before .args in
+    rest-of _ _ _ _ _ _ (c .before .before .pass-blocks .ensures (now (a .past)) (search needs) refl) (c .unmet2 .ensures)) in
     tie.close told

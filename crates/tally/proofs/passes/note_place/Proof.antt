@@ -6,10 +6,8 @@ use Rattle.tally.proofs.Alternate.{place-put}
 use Rattle.tally.proofs.passes.note_place.Statement.{statement}
 use Rattle.tally.proofs.passes.note_place.Tie as tie
 
-returns : tie.Need-returns
-returns c =
-    let a = c .before .before .before .before .before .before .before .before .args in
-    (c .put-down .ensures (inBlock (now (a .past))) (search needs), search (place-put, all-reached, needs))
-
 pub note-place-spec : {M : Type 1} → statement M
-note-place-spec = tie.close (tie.spec (λ c κs. search needs) (λ c κs. search needs) (λ c κs. search needs) returns)
+note-place-spec =
+    tie.close
+    (tie.spec (λ c κs. search needs) (λ c κs. search needs) (λ c κs. search needs)
+    (λ c. (c .put-down .ensures (inBlock (now (c .before .before .before .before .before .before .before .before .args .past))) (search needs), search (place-put, all-reached, needs))))
