@@ -126,7 +126,7 @@ pub(crate) fn note_since<'a>(
 }
 
 // The row of the place's block gains e. Past the last row nothing changes.
-pub fn put_down(blocks: &mut Rows, e: Activity, at: usize)
+pub(crate) fn put_down(blocks: &mut Rows, e: Activity, at: usize)
     ensures { λ _. ⌜ ((r : Relation) → now (blocks .entry) ≡ rowsOf r → now (blocks .exit) ≡ rowsOf (λ j x. r j x or eqb j (at / 8) and eqb x (e .0))) ⌝ }
 {
     if at < PLACES {
@@ -136,7 +136,7 @@ pub fn put_down(blocks: &mut Rows, e: Activity, at: usize)
 }
 
 // The rows that a trace of so many places put down are empty again: a short trace has few.
-pub fn take_up(blocks: &mut Rows, places: usize)
+pub(crate) fn take_up(blocks: &mut Rows, places: usize)
     ensures { λ _. ⌜ ((past : List ℕ) → now (blocks .entry) ≡ rowsOf (inBlock past) → length past ≡ places → now (blocks .exit) ≡ noRows) ⌝ }
 {
     let mut j: usize = 0;

@@ -79,7 +79,7 @@ fn note_place_narrow<'a>(
 }
 
 // From the first place to the last, looking back from a repeat. The rows of its blocks are lent empty and left empty. It gives the set of what stands in the trace, as far as the form holds it.
-pub fn forward(trace: &[u8], blocks: &mut Rows, tally: &mut Tally) -> Set
+pub(crate) fn forward(trace: &[u8], blocks: &mut Rows, tally: &mut Tally) -> Set
     requires { ⌜ now blocks ≡ noRows ⌝ }
     ensures { λ r. ⌜ r ≡ those (λ x. reaches true x and now (trace .entry) has x) ⌝ }
     ensures { λ _. ⌜ now (blocks .exit) ≡ noRows ⌝ }
@@ -100,7 +100,7 @@ pub fn forward(trace: &[u8], blocks: &mut Rows, tally: &mut Tally) -> Set
 }
 
 // The same in the narrow form.
-pub fn forward_narrow(trace: &[u8], blocks: &mut Rows, tally: &mut Tally) -> Set
+pub(crate) fn forward_narrow(trace: &[u8], blocks: &mut Rows, tally: &mut Tally) -> Set
     requires { ⌜ now blocks ≡ noRows ⌝ }
     ensures { λ r. ⌜ r ≡ those (λ x. reaches false x and now (trace .entry) has x) ⌝ }
     ensures { λ _. ⌜ now (blocks .exit) ≡ noRows ⌝ }
@@ -133,7 +133,7 @@ fn note_rest(e: Activity, after: Set, next: Set, wide: bool, tally: &mut Tally)
 }
 
 // From the last place to the first.
-pub fn backward(trace: &[u8], wide: bool, tally: &mut Tally)
+pub(crate) fn backward(trace: &[u8], wide: bool, tally: &mut Tally)
     ensures { λ _. ⌜ now (tally .exit) ≡ backward (noteRestIn wide) (now (tally .entry)) [] (now (trace .entry)) ⌝ }
 {
     let mut after = Set::EMPTY;
