@@ -1,4 +1,4 @@
-/* The functions of the library port (crates/port/src), for C and C++. docs/PORT.md explains them.
+/* The functions of the library port (crates/port/src), for C and C++. docs/PORT-OTHER.md explains them.
  * No tool checks these declarations against the source: keep them in step by hand. compare/caller.c uses them in the gate. */
 #ifndef SKELFORA_H
 #define SKELFORA_H

@@ -1,6 +1,6 @@
 //! The proved code, where build.rs found `../target/staticlib/libport.a`.
 //! A slice passes as a pointer and then its length in elements. Nothing checks these declarations
-//! against the Rattle source: docs/PORT.md is what they are kept in step with.
+//! against the Rattle source: docs/PORT-OTHER.md is what they are kept in step with.
 use crate::door::Door;
 
 #[cfg(port)]

@@ -1,4 +1,4 @@
-"""The proved library, through ctypes: its functions by name, on bytes and numbers. docs/PORT.md has what each one gives. It is built
+"""The proved library, through ctypes: its functions by name, on bytes and numbers. docs/PORT-OTHER.md has what each one gives. It is built
 first, if anything changed."""
 from __future__ import annotations
 

@@ -1,4 +1,4 @@
-// The functions that Rust and C call (docs/PORT.md). A slice passes as a pointer and then a length; every answer is one number:
+// The functions that Rust and C call (docs/PORT-OTHER.md). A slice passes as a pointer and then a length; every answer is one number:
 // that of 01, and above it what goes with it.
 ghost use Rattle.std.specs.Prelude.{◌≡◌, ◌^◌, ◌<◌, length};
 ghost use Rattle.port.specs.Port.{packed_of, verdict_of, blocked_of, step_number, stored_of, put_number, put_buffer, profile_of, in_profile};

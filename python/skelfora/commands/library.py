@@ -12,7 +12,7 @@ Proves the crate `port` and all that it uses, and makes of it, for this machine'
 
   skelfora library
 
-docs/PORT.md says how to call them, docs/skelfora.h declares the functions."""
+docs/PORT-OTHER.md says how to call them, docs/skelfora.h declares the functions."""
 
 
 def main(words: list[str]) -> int:
