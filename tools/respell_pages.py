@@ -5,7 +5,8 @@
 
 A word between backquotes is turned where the crates' sources had it at that commit, have it no more, and have one that is the same but for its
 spelling: words in snake case, a prime as an apostrophe, a dash as an underscore, `_lem` where a lemma would have met a definition. The crate
-`bytes` is named `octets`. What a page names that the sources had and have under no such name is printed: it is to be looked up.
+`bytes` is named `octets`. A function's proof is cited by the file of its folder that there is; where the checker finds it, by the source. What a
+page names that the sources had and have under no such name is printed: it is to be looked up.
 """
 import glob
 import io
@@ -58,6 +59,20 @@ def spellings(word):
     return [plain, *lemmas, snake, under, under + "_lem", camel]
 
 
+PROOF = re.compile(r"`((?:crates/)?[a-z_]+)/proofs/([\w/]+)/Proof\.antt`")
+
+
+def proof(found):
+    """Where the proof of a function stands today."""
+    crate, function = found.groups()
+    for file in ("Proof", "Answers", "Invariants"):
+        path = f"{crate}/proofs/{function}/{file}.antt"
+        if os.path.exists(os.path.join(ROOT, path if crate.startswith("crates/") else f"crates/{path}")):
+            return f"`{path}`"
+    module = function.split("/")[0] if "/" in function else "lib"
+    return f"`{crate}/src/{module}.rt`, found by the checker"
+
+
 class Page:
     def __init__(self, then, now):
         self.then, self.now, self.turned, self.unknown = then, now, {}, {}
@@ -79,7 +94,7 @@ class Page:
         for i in range(1, len(parts), 2):
             if not parts[i].startswith("```"):
                 parts[i] = re.sub(WORD, self.word, parts[i])
-        return CRATE.sub(lambda m: m.group(0).replace("bytes", "octets"), "".join(parts))
+        return PROOF.sub(proof, CRATE.sub(lambda m: m.group(0).replace("bytes", "octets"), "".join(parts)))
 
 
 def main(words):
