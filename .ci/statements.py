@@ -2,7 +2,7 @@
 """What each library lets others call, read from what the checker wrote of it (crates/CRATE/out/rlib, so run this after `rt ci` or `rt lib`):
 no public function asks anything of its caller, each says something, each has a row in docs/STATEMENTS.md, and each has a theorem in
 promises/proofs/Outcomes.antt that starts from its own contract. Nor is there a row or a theorem for a function that is not there.
-The source is not read, so however a function came to be public, it is seen."""
+The source is not read, so however a function came to be public, it is seen; but what port_c exports for C is held to port by the source."""
 import json
 import os
 import re
@@ -20,7 +20,7 @@ def read(*path):
 
 def libraries():
     heads = [line.split(":")[0].split() for line in read("crates.txt").splitlines() if ":" in line and not line.startswith("#")]
-    # a static library lets C call, and no crate: its exports are held to its header by the comparison
+    # a static library lets C call, and no crate: what it exports is held to the library's (exports_alike)
     names = [words[0] for words in heads if "staticlib" not in words]
     return [name for name in names if os.path.exists(os.path.join(ROOT, "crates", name, "src", "lib.rt"))]
 
@@ -171,10 +171,35 @@ def check(crate):
     return len(functions)
 
 
+def stated(crate, mark):
+    """By name, what the functions of a crate's source that are so marked take, give and state."""
+    found = {}
+    for folder, _, files in os.walk(os.path.join(ROOT, "crates", crate, "src")):
+        for text in (read(folder, file) for file in sorted(files)):
+            for name, head in re.findall(rf"(?ms)^{mark}fn (skelfora_\w+)(.*?)\n\{{", text):
+                # a head too long for its line has a line for each parameter
+                found[name] = " ".join(re.sub(r"\(\s+", "(", re.sub(r",?\s+\)", ")", head)).split())
+    return found
+
+
+def exports_alike():
+    """Each export for C has the parameters and the clauses of port's function of its name, of which there is a row and a theorem, and the header has it."""
+    exported, own = stated("port_c", r"#\[unsafe\(no_mangle\)\]\npub extern \"C\" "), stated("port", "pub ")
+    declared = set(re.findall(r"\b(skelfora_\w+)\(", read("docs", "skelfora.h")))
+    for name in sorted({*exported, *own}):
+        if name not in own or name not in exported:
+            faults.append(f"{name} is in one of port and port_c alone")
+        elif exported[name] != own[name]:
+            faults.append(f"crates/port_c exports {name} with other parameters or clauses than crates/port states")
+        if name not in declared:
+            faults.append(f"docs/skelfora.h: {name} is not declared")
+
+
 TEXT, WALKS_TEXT = read(PROMISES, "Outcomes.antt"), read(PROMISES, "Walked.antt")
 ROWS, THEOREMS, OUTCOMES = rows(), theorems(TEXT), imported(TEXT)
 WALKED, WALKS = imported(WALKS_TEXT), walked(WALKS_TEXT)
 counts = {crate: check(crate) for crate in libraries()}
+exports_alike()
 print(*faults, sep="\n") if faults else None
 print(f"public functions: {sum(counts.values())} ({', '.join(f'{crate} {n}' for crate, n in counts.items())})")
 sys.exit(bool(faults))
