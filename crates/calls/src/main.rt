@@ -1,5 +1,7 @@
 // The calls program: a log on standard input, its calls on standard output, one a line, by activity numbers. A refused log gives the
 // one line that the listing gives too. Reading is left to the library `calllog`.
+#![tactic(auto)]
+
 use io::write_all;
 use libc::{STDIN_FILENO, STDOUT_FILENO};
 

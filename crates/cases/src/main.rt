@@ -1,6 +1,8 @@
 // Runs the cases of 01 that are not proved, the borders of both files, single steps, readers and graphs put together by hand, and the
 // cases of docs/CLASSROOM.md: a line for each. make.py writes the files, the arguments and the expected output.
 // A case is three words: what is done, a file, and a second file or `-`.
+#![tactic(auto)]
+
 mod files;
 mod graphs;
 mod logs;

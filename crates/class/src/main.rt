@@ -1,5 +1,7 @@
 // The engine to read in class, run: mistake 2's graph of docs/CLASSROOM.md in lists of pairs, one line a case. What each line must say was
 // worked out by hand from 01 and 02 (crates/class/stdout).
+#![tactic(auto)]
+
 mod text;
 
 use engine::graph::{CONDITIONS, KINDS};

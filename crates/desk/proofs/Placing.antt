@@ -78,7 +78,7 @@ module _ (taken : ℕ → Bool) (p : ℕ) where
       (λ a b t.
       either (split (ltb a p)) (λ low. absurd (non-e (taken a) t (lower a (ltb-true a p (T→true _ low))))) (λ up. ltb-false a p (F→false _ up)))
 
-  pub lowest-here : (r : Bool) → p < place_count → r ≡ taken p → not r ≡ true → passed taken p → p ≡ lowest_free taken
+  pub lowest-here : (r : Bool) → p < place_count → r ≡ taken p → r ≡ false → passed taken p → p ≡ lowest_free taken
   lowest-here r l e n = lowest-is (omega arith) (λ b. non-i (taken p) (λ t. false→F (sym (failed (taken p) r e n)) t))
 
   pub lowest-none : p ≤ place_count → place_count ≤ p → passed taken p → p ≡ lowest_free taken

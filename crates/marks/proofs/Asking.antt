@@ -39,13 +39,13 @@ module _ (traces : ℕ) (bytes : List ℕ) where
     unfolding judged_labels
     tested t q = sym (λ i. by_tests (eq-eqb (length bytes) traces e i) ((sym h ∙ q) i))
 
-    pub labels-above-one : not r ≡ true → LabelAboveOne ≡ judged_labels traces bytes
+    pub labels-above-one : r ≡ false → LabelAboveOne ≡ judged_labels traces bytes
     unfolding non
-    labels-above-one n = tested false (not-true r n)
+    labels-above-one n = tested false (n)
 
-    pub labels-fit : not r ≡ false → Done ≡ judged_labels traces bytes
+    pub labels-fit : r ≡ true → Done ≡ judged_labels traces bytes
     unfolding non
-    labels-fit n = tested true (not-false r n)
+    labels-fit n = tested true (n)
 
 pub ruleset labelling = (labels-not-as-many, labels-above-one, labels-fit)
 
@@ -62,10 +62,10 @@ as_many traces bytes d = same (eqb (length bytes) traces) refl
 -- ---- one question, then another
 
 module _ (a b : Answer) (d : Bool) (hd : d ≡ is_done a) where
-  pub first-refused : not d ≡ true → a ≡ then_ask a b
+  pub first-refused : d ≡ false → a ≡ then_ask a b
   first-refused n = refused a a d refl hd b n
 
-  pub second-asked : (x : Answer) → not d ≡ false → x ≡ b → x ≡ then_ask a b
+  pub second-asked : (x : Answer) → d ≡ true → x ≡ b → x ≡ then_ask a b
   second-asked x n e = e ∙ sym (passed a a d refl hd b n)
 
 pub ruleset in-turn = (first-refused, second-asked)
@@ -78,11 +78,11 @@ module _ (log : List ℕ) (g : Graph) (j : Judged) (a : Answer) (d : Bool) (hj :
   both_is = ha ∙ ap (λ (x : Judged). then_ask x.answer (judged g)) hj
 
   module _ (labels : List ℕ) where
-    pub marks-refused : not d ≡ true → a ≡ judged_marks g log labels
+    pub marks-refused : d ≡ false → a ≡ judged_marks g log labels
     unfolding judged_marks
     marks-refused n = refused a (judged_both g log) d both_is hd (judged_labels (length (log_of log).traces) labels) n
 
-    pub marks-asked : (b : Answer) → not d ≡ false → b ≡ judged_labels j.traces labels → b ≡ judged_marks g log labels
+    pub marks-asked : (b : Answer) → d ≡ true → b ≡ judged_labels j.traces labels → b ≡ judged_marks g log labels
     unfolding judged_marks
     marks-asked b n e =
         e
@@ -93,24 +93,24 @@ module _ (log : List ℕ) (g : Graph) (j : Judged) (a : Answer) (d : Bool) (hj :
     abbrev room_for : Bool → Answer
     room_for t = when t then BufferTooSmall else Done
 
-    pub replays-refused : not d ≡ true → a ≡ judged_replays g log room
+    pub replays-refused : d ≡ false → a ≡ judged_replays g log room
     unfolding judged_replays
     replays-refused n = refused a (judged_both g log) d both_is hd (room_for (ltb room (length (log_of log).traces))) n
 
-    room-asked : (t : Bool) → ltb room j.traces ≡ t → not d ≡ false → room_for t ≡ judged_replays g log room
+    room-asked : (t : Bool) → ltb room j.traces ≡ t → d ≡ true → room_for t ≡ judged_replays g log room
     unfolding judged_replays
     room-asked t e n =
         sym (ap room_for e)
         ∙ ap (λ (x : Judged). room_for (ltb room x.traces)) hj
         ∙ sym (passed a (judged_both g log) d both_is hd (room_for (ltb room (length (log_of log).traces))) n)
 
-    pub replays-small : not d ≡ false → room < j.traces → BufferTooSmall ≡ judged_replays g log room
+    pub replays-small : d ≡ true → room < j.traces → BufferTooSmall ≡ judged_replays g log room
     replays-small n l = room-asked true (lt-ltb room j.traces l) n
 
-    pub replays-done : not d ≡ false → j.traces ≤ room → Done ≡ judged_replays g log room
+    pub replays-done : d ≡ true → j.traces ≤ room → Done ≡ judged_replays g log room
     replays-done n l = room-asked false (le-ltb room j.traces l) n
 
-  pub both-done : not d ≡ false → judged_both g log ≡ Done
+  pub both-done : d ≡ true → judged_both g log ≡ Done
   both-done n = gone-on a (judged_both g log) d both_is hd n
 
 pub ruleset judging = (marks-refused, marks-asked)
@@ -129,12 +129,12 @@ module _ (guesses labels : List ℕ) where
   too-many_lem l = sym (by-limit true (lt-ltb most_traces (length labels) l))
 
   module _ (l : length labels ≤ most_traces) (a : Answer) (d : Bool) (ha : a ≡ judged_labels (length guesses) labels) (hd : d ≡ is_done a) where
-    pub guesses-refused : not d ≡ true → a ≡ judged_guesses guesses labels
+    pub guesses-refused : d ≡ false → a ≡ judged_guesses guesses labels
     guesses-refused n =
         refused a (judged_labels (length guesses) labels) d ha hd (judged_labels (length labels) guesses) n
         ∙ sym (by-limit false (le-ltb most_traces (length labels) l))
 
-    pub guesses-asked : (b : Answer) → not d ≡ false → b ≡ judged_labels (length labels) guesses → b ≡ judged_guesses guesses labels
+    pub guesses-asked : (b : Answer) → d ≡ true → b ≡ judged_labels (length labels) guesses → b ≡ judged_guesses guesses labels
     guesses-asked b n e =
         e
         ∙ sym (passed a (judged_labels (length guesses) labels) d ha hd (judged_labels (length labels) guesses) n)

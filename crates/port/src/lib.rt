@@ -1,5 +1,7 @@
 // The functions that Rust and C call (docs/PORT-OTHER.md). A slice passes as a pointer and then a length; every answer is one number:
 // that of 01, and above it what goes with it.
+#![tactic(auto)]
+
 ghost use Rattle.std.specs.Prelude.{◌≡◌, ◌^◌, ◌<◌, length};
 ghost use Rattle.port.specs.Port.{packed_of, verdict_of, blocked_of, step_number, stored_of, put_number, put_buffer, profile_of, in_profile};
 ghost use Rattle.port.specs.Port.{in_profile_buffer, mine_number, mine_buffer, rewrite_number, rewrite_buffer, replay_number, listing_number};

@@ -1,0 +1,12 @@
+use Prim.Native.Nat.{◌-◌, ◌*◌, ◌≤◌}
+use mathlib.Core.Path.{◌≡◌}
+use Rattle.graphfile.specs.Layout.{earlier_rows}
+use Rattle.graphfile.proofs.Places.{counting}
+use borrow.Author.Rules.{rules}
+use Rattle.graphfile.proofs.layout.earlier_rows.Goals as goal
+
+pub loop-i-init : goal.loop-i-init
+loop-i-init c = search (counting, rules)
+
+pub loop-i-preserved : goal.loop-i-preserved
+loop-i-preserved c = search (counting, rules)
