@@ -1,0 +1,13 @@
+use borrow.Author.Rules.{rules}
+use mathlib.Core.Path.{◌≡◌}
+use Prim.Native.Nat.{◌-◌, ◌≤◌}
+use lib.ListN.{length}
+use Rattle.marks.specs.Replays.{replay_byte, part_replay}
+use Rattle.marks.proofs.Replaying.{bytes_put, byte-by-byte}
+use Rattle.marks.proofs.replays.put_replays.Goals as goal
+
+pub loop-k-init : goal.loop-k-init
+loop-k-init c = search (byte-by-byte, rules)
+
+pub loop-k-preserved : goal.loop-k-preserved
+loop-k-preserved c = search (byte-by-byte, rules)
