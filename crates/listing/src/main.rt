@@ -1,5 +1,5 @@
-// The listing program: a log on standard input, its listing on standard output, in the profile that its one argument names, light where there is
-// none (02, 3/12 and 11/12).
+// The listing program: a log on standard input, its listing on standard output, in the profile that its one argument names, light where
+// there is none (02, 3/12 and 11/12).
 // All that matters is in the library `report`.
 #![tactic(auto)]
 
