@@ -23,15 +23,15 @@ passed wide form σ t one out blocks events seen r hw (hs, (hb, h1)) h2 h =
     rw hw (h ∙ those-of seen _ (λ a t. mem events a or t) hs, (hb, h2 ∙ ap (λ (x : List ℕ). backward (note_rest_in form) x [] σ) h1))
 
 pub returns-then-wide-clause-value : goal.returns-then-wide-clause-value
-returns-then-wide-clause-value c = (passed _ true _ _ _ _ _ _ _ _ (search rules) c.forward-seen.ensures c.backward.ensures c.union.ensures).0
+returns-then-wide-clause-value c = (passed _ true _ _ _ _ _ _ _ _ (search rules) (c.forward-seen.ensures.value, (c.forward-seen.ensures.blocks_after, c.forward-seen.ensures.tally_after)) c.backward.ensures c.union.ensures).0
 
 pub returns-then-wide-clause-tally_after : goal.returns-then-wide-clause-tally_after
-returns-then-wide-clause-tally_after c = (passed _ true _ _ _ _ _ _ _ _ (search rules) c.forward-seen.ensures c.backward.ensures c.union.ensures).2
+returns-then-wide-clause-tally_after c = (passed _ true _ _ _ _ _ _ _ _ (search rules) (c.forward-seen.ensures.value, (c.forward-seen.ensures.blocks_after, c.forward-seen.ensures.tally_after)) c.backward.ensures c.union.ensures).1.1
 
 pub returns-clause-value : goal.returns-clause-value
-returns-clause-value c = (passed _ false _ _ _ _ _ _ _ _ (search rules) c.forward_narrow-seen.ensures c.backward-2.ensures
+returns-clause-value c = (passed _ false _ _ _ _ _ _ _ _ (search rules) (c.forward_narrow-seen.ensures.value, (c.forward_narrow-seen.ensures.blocks_after, c.forward_narrow-seen.ensures.tally_after)) c.backward-2.ensures
     c.union-2.ensures).0
 
 pub returns-clause-tally_after : goal.returns-clause-tally_after
-returns-clause-tally_after c = (passed _ false _ _ _ _ _ _ _ _ (search rules) c.forward_narrow-seen.ensures c.backward-2.ensures
-    c.union-2.ensures).2
+returns-clause-tally_after c = (passed _ false _ _ _ _ _ _ _ _ (search rules) (c.forward_narrow-seen.ensures.value, (c.forward_narrow-seen.ensures.blocks_after, c.forward_narrow-seen.ensures.tally_after)) c.backward-2.ensures
+    c.union-2.ensures).1.1

@@ -25,7 +25,7 @@ loop-end-preserved c = let inv = c.loop-end.invariant in (
       omega (arith, inv.1),
       λ past hb hl.
           look-block past _ _ _ _ (inv.2 past hb hl) c.loop-end-test.true _ _ _ _ (omega (arith, inv.1)) inv.0 hb
-          c.row-block.ensures c.is_passed.ensures (not-false _ c.if-not-is_passed.false) c.difference-left.ensures,
+          c.row-block.ensures c.is_passed.ensures c.if-not-is_passed.false c.difference-left.ensures,
     )
 
 pub returns : goal.returns

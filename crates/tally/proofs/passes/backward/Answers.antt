@@ -3,7 +3,7 @@ use Rattle.tally.proofs.Loops.{Homeward, homeward-start, homeward-turn, homeward
 use Rattle.tally.proofs.passes.backward.Goals as goal
 
 pub loop-i-init : goal.loop-i-init
-loop-i-init c = search (homeward-turn, homeward-end, rules)
+loop-i-init c = homeward-start _ _ _
 
 pub loop-i-preserved : goal.loop-i-preserved
-loop-i-preserved c = search (homeward-turn, homeward-end, rules)
+loop-i-preserved c = search (homeward-turn, rules)
