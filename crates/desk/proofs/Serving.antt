@@ -1,6 +1,6 @@
 -- A request judged, then served: each way out of the code gives what the definitions have there. Assumes nothing.
 use mathlib.Core.Path.{◌≡◌, refl, sym, ap, subst, ◌∙◌}
-use mathlib.Core.Bool.{Bool, true, false, not}
+use mathlib.Core.Bool.{Bool, true, false}
 use mathlib.Core.List.{List}
 use Prim.Native.Nat.{ℕ, ◌≤◌, ◌<◌}
 use borrow.Author.Tests.{lt-ltb, le-ltb, ltb-true, ltb-false}
@@ -12,9 +12,9 @@ use Rattle.sets.specs.Answers.{is_done, then_ask}
 use Rattle.sets.specs.declared.set.Set.{Set}
 use Rattle.sets.specs.declared.answer.Answer.{Answer}
 use Rattle.sets.specs.declared.answer.Answer.TheVariants.{Done, BufferTooSmall, NoPlaceFree, NotOpen}
-use Rattle.sets.proofs.Tests.{true→T, non-e}
+use Rattle.sets.proofs.Tests.{true→T}
 use Rattle.sets.proofs.Asking.{done-is, both, refused, passed}
-use Rattle.sets.proofs.Ways.{failed, held, taken, passed-by, not-above}
+use Rattle.sets.proofs.Ways.{failed, held, taken, passed-by}
 use Rattle.engine.specs.Relations.{Relations, relations_of}
 use Rattle.engine.specs.Enabled.{marked}
 use Rattle.engine.specs.Steps.{after}

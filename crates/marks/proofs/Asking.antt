@@ -1,10 +1,9 @@
 -- The refusals in their order, and what holds where there is none. Assumes nothing.
 use mathlib.Core.Path.{◌≡◌, refl, sym, ap, ◌∙◌}
-use mathlib.Core.Bool.{Bool, true, false, not}
+use mathlib.Core.Bool.{Bool, true, false}
 use mathlib.Core.List.{List}
 use Prim.Native.Nat.{ℕ, ◌≤◌, ◌<◌}
-use native.Mathlib.Omega.{arith}
-use borrow.Author.Tests.{eq-eqb, ne_eqb, lt-ltb, le-ltb, ltb-false, not-true, not-false}
+use borrow.Author.Tests.{eq-eqb, ne_eqb, lt-ltb, le-ltb, ltb-false}
 use lib.Dec.{eqb, ltb, eqb→eq}
 use lib.ListN.{length}
 use Rattle.sets.specs.Tests.{non, when◌then◌else◌}
@@ -13,13 +12,12 @@ use Rattle.sets.specs.Answers.{is_done, then_ask}
 use Rattle.sets.specs.declared.answer.Answer.{Answer}
 use Rattle.sets.specs.declared.answer.Answer.TheVariants.{Done, AboveLimit, BufferTooSmall, LabelsNotAsMany, LabelAboveOne}
 use Rattle.sets.proofs.Tests.{true→T}
-use Rattle.sets.proofs.Asking.{both, went, refused, passed, gone-on, done-is}
+use Rattle.sets.proofs.Asking.{both, went, refused, passed, gone-on}
 use Rattle.engine.specs.Judged.{judged}
 use Rattle.engine.specs.declared.graph.Graph.{Graph}
 use Rattle.calllog.specs.Judged.{all_below}
 use Rattle.calllog.specs.Logs.{log_of, judged_of}
 use Rattle.calllog.specs.declared.judge.Judged.{Judged}
-use Rattle.calllog.proofs.Traces.{read-within}
 use Rattle.marks.specs.Labels.{judged_labels}
 use Rattle.marks.specs.Marks.{judged_both, judged_marks, judged_guesses}
 use Rattle.marks.specs.Replays.{judged_replays}

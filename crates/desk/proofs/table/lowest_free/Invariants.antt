@@ -1,9 +1,6 @@
 use Prim.Native.Nat.{◌-◌, ◌≤◌}
-use borrow.Author.Rules.{rules}
-use borrow.Author.Count.{below_none}
-use Rattle.sets.proofs.Ways.{passed, every_more}
+use Rattle.sets.proofs.Ways.{passed}
 use Rattle.desk.specs.Places.{place_count, is_open}
-use Rattle.desk.proofs.Placing.{lowest}
 use Rattle.desk.proofs.table.lowest_free.Given as goal
 
 abbrev pub invariant-loop-place : goal.invariant-loop-place

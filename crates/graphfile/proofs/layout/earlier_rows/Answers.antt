@@ -1,6 +1,3 @@
-use Prim.Native.Nat.{◌-◌, ◌*◌, ◌≤◌}
-use mathlib.Core.Path.{◌≡◌}
-use Rattle.graphfile.specs.Layout.{earlier_rows}
 use Rattle.graphfile.proofs.Places.{counting}
 use borrow.Author.Rules.{rules}
 use Rattle.graphfile.proofs.layout.earlier_rows.Goals as goal

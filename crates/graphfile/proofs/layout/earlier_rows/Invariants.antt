@@ -1,8 +1,6 @@
 use Prim.Native.Nat.{◌-◌, ◌*◌, ◌≤◌}
 use mathlib.Core.Path.{◌≡◌}
 use Rattle.graphfile.specs.Layout.{earlier_rows}
-use Rattle.graphfile.proofs.Places.{counting}
-use borrow.Author.Rules.{rules}
 use Rattle.graphfile.proofs.layout.earlier_rows.Given as goal
 
 abbrev pub invariant-loop-i : goal.invariant-loop-i

@@ -1,5 +1,4 @@
 use borrow.Author.Rules.{rules}
-use Rattle.graphfile.proofs.Forms.{events-found}
 use Rattle.graphfile.proofs.Filling.{bare-refused, bare-cleared, bare-found, bare-filled}
 use Rattle.graphfile.proofs.reader.read_bare.Goals as goal
 

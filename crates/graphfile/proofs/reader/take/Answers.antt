@@ -1,6 +1,6 @@
 use borrow.Author.Rules.{rules}
 use Rattle.graphfile.proofs.Accepted.{end-within}
-use Rattle.graphfile.proofs.Filling.{front-stops, rows-follow, nothing-due}
+use Rattle.graphfile.proofs.Filling.{front-stops, rows-follow}
 use Rattle.graphfile.proofs.reader.take.Goals as goal
 
 pub returns-then-not-is_done-clause-value : goal.returns-then-not-is_done-clause-value

@@ -1,13 +1,10 @@
 use Prim.Native.Nat.{◌-◌, ◌≤◌}
 use mathlib.Core.Path.{◌≡◌}
-use borrow.Author.Rules.{rules}
 use Rattle.sets.specs.Answers.{first_refusal}
 use Rattle.sets.specs.declared.answer.Answer.TheVariants.{Done}
 use Rattle.engine.specs.Relations.{relation_count}
 use Rattle.graphfile.specs.Refusals.{judged_relation}
 use Rattle.graphfile.specs.Held.{with_relations}
-use Rattle.graphfile.proofs.Filling.{taking-relations, nothing-due}
-use Rattle.sets.proofs.Order.{turns}
 use Rattle.graphfile.proofs.reader.take_relations.Given as goal
 
 abbrev pub invariant-loop-r : goal.invariant-loop-r

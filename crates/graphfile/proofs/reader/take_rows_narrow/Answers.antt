@@ -1,6 +1,5 @@
 use borrow.Author.Rules.{rules}
-use Prim.Native.Nat.{◌-◌}
-use Rattle.graphfile.proofs.Filling.{Taken, taking, row-stops}
+use Rattle.graphfile.proofs.Filling.{taking, row-stops}
 use Rattle.graphfile.proofs.Forms.{walking}
 use Rattle.graphfile.proofs.reader.take_rows_narrow.Goals as goal
 

@@ -1,7 +1,5 @@
-use borrow.Author.Rules.{rules}
 use Prim.Native.Nat.{◌-◌}
-use Rattle.graphfile.proofs.Filling.{Taken, taking, row-stops}
-use Rattle.graphfile.proofs.Forms.{walking}
+use Rattle.graphfile.proofs.Filling.{Taken}
 use Rattle.graphfile.proofs.reader.take_rows_narrow.Given as goal
 
 abbrev pub invariant-loop-j : goal.invariant-loop-j

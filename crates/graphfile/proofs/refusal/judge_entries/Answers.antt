@@ -1,10 +1,4 @@
-use Prim.Native.Nat.{◌-◌, ◌≤◌}
-use mathlib.Core.Path.{◌≡◌}
-use Rattle.engine.specs.Relations.{relation_count}
-use Rattle.sets.specs.Answers.{first_refusal}
-use Rattle.sets.specs.declared.answer.Answer.TheVariants.{Done}
 use Rattle.sets.proofs.Order.{turns}
-use Rattle.graphfile.specs.Refusals.{judged_entry}
 use borrow.Author.Rules.{rules}
 use Rattle.graphfile.proofs.refusal.judge_entries.Goals as goal
 

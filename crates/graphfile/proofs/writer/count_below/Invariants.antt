@@ -1,10 +1,8 @@
 use Prim.Native.Nat.{◌+◌, ◌-◌, ◌≤◌}
 use mathlib.Core.Path.{◌≡◌}
-use borrow.Author.Rules.{rules}
 use Rattle.sets.specs.Members.{width}
 use Rattle.sets.specs.Tables.{table_at}
 use Rattle.graphfile.specs.Writing.{count_from}
-use Rattle.graphfile.proofs.RowStores.{counts}
 use Rattle.graphfile.proofs.writer.count_below.Given as goal
 
 abbrev pub invariant-loop-a : goal.invariant-loop-a

@@ -1,13 +1,10 @@
-use borrow.Author.Rules.{rules}
-use Prim.Native.Nat.{◌+◌, ◌-◌, ◌*◌, ◌≤◌}
+use Prim.Native.Nat.{◌+◌, ◌-◌, ◌≤◌}
 use mathlib.Core.Path.{◌≡◌}
 use lib.ListN.{length}
 use lib.Seq.{sets}
 use Rattle.engine.specs.Relations.{relation_count}
 use Rattle.graphfile.specs.Layout.{head_length, rows_length}
 use Rattle.graphfile.specs.Writing.{rows_before, relations_bytes}
-use Rattle.graphfile.proofs.RowStores.{kept-length}
-use Rattle.graphfile.proofs.Stores.{each-relation}
 use Rattle.graphfile.proofs.writer.put_relations.Given as goal
 
 abbrev pub invariant-loop-r : goal.invariant-loop-r

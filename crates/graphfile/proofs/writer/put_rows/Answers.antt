@@ -1,12 +1,4 @@
 use borrow.Author.Rules.{rules}
-use Prim.Native.Nat.{◌+◌, ◌-◌, ◌≤◌}
-use mathlib.Core.Path.{◌≡◌}
-use lib.ListN.{length}
-use lib.Seq.{sets}
-use Rattle.sets.specs.Members.{width}
-use Rattle.sets.specs.Tables.{table_at}
-use Rattle.graphfile.specs.Layout.{rows_length}
-use Rattle.graphfile.specs.Writing.{rows_from, count_from, row_count, relation_bytes}
 use Rattle.graphfile.proofs.RowStores.{each_row, kept-length}
 use Rattle.graphfile.proofs.writer.put_rows.Goals as goal
 

@@ -1,4 +1,3 @@
-use borrow.Author.Rules.{rules}
 use Prim.Native.Nat.{◌+◌, ◌-◌, ◌≤◌}
 use mathlib.Core.Path.{◌≡◌}
 use lib.ListN.{length}
@@ -7,7 +6,6 @@ use Rattle.sets.specs.Members.{width}
 use Rattle.sets.specs.Tables.{table_at}
 use Rattle.graphfile.specs.Layout.{rows_length}
 use Rattle.graphfile.specs.Writing.{rows_from, count_from, row_count, relation_bytes}
-use Rattle.graphfile.proofs.RowStores.{each_row, kept-length}
 use Rattle.graphfile.proofs.writer.put_rows.Given as goal
 
 abbrev pub invariant-loop-a : goal.invariant-loop-a

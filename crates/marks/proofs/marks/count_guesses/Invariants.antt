@@ -1,10 +1,8 @@
-use borrow.Author.Rules.{rules}
 use mathlib.Core.Path.{◌≡◌}
 use Prim.Native.Nat.{◌-◌, ◌≤◌}
 use lib.ListN.{length}
 use Rattle.marks.specs.Labels.{says_yes}
 use Rattle.marks.specs.Counts.{counts_of}
-use Rattle.marks.proofs.Counting.{counting}
 use Rattle.marks.proofs.marks.count_guesses.Given as goal
 
 abbrev pub invariant-loop-k : goal.invariant-loop-k

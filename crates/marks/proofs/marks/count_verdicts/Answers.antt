@@ -1,11 +1,4 @@
 use borrow.Author.Rules.{rules}
-use mathlib.Core.Path.{◌≡◌}
-use Prim.Native.Nat.{◌-◌, ◌≤◌}
-use lib.ListN.{length}
-use Rattle.marks.specs.Labels.{says_yes}
-use Rattle.marks.specs.Counts.{counts_of}
-use Rattle.marks.specs.Marks.{is_yes}
-use Rattle.marks.specs.Replays.{part_replay}
 use Rattle.marks.proofs.Counting.{counting}
 use Rattle.marks.proofs.marks.count_verdicts.Goals as goal
 

@@ -1,9 +1,5 @@
 use borrow.Author.Rules.{rules}
-use mathlib.Core.Path.{◌≡◌}
-use Prim.Native.Nat.{◌-◌, ◌≤◌}
-use lib.ListN.{length}
-use Rattle.marks.specs.Replays.{replay_byte, part_replay}
-use Rattle.marks.proofs.Replaying.{bytes_put, byte-by-byte}
+use Rattle.marks.proofs.Replaying.{byte-by-byte}
 use Rattle.marks.proofs.replays.put_replays.Goals as goal
 
 pub loop-k-init : goal.loop-k-init

@@ -1,9 +1,8 @@
-use borrow.Author.Rules.{rules}
 use mathlib.Core.Path.{◌≡◌}
 use Prim.Native.Nat.{◌-◌, ◌≤◌}
 use lib.ListN.{length}
 use Rattle.marks.specs.Replays.{replay_byte, part_replay}
-use Rattle.marks.proofs.Replaying.{bytes_put, byte-by-byte}
+use Rattle.marks.proofs.Replaying.{bytes_put}
 use Rattle.marks.proofs.replays.put_replays.Given as goal
 
 abbrev pub invariant-loop-k : goal.invariant-loop-k

@@ -3,7 +3,6 @@ use mathlib.Core.Bool.{Bool}
 use mathlib.Core.List.{List}
 use Prim.Native.Nat.{ℕ, ◌+◌, ◌-◌, ◌≤◌, ◌<◌}
 use native.Mathlib.Omega.{arith}
-use borrow.Author.Rules.{rules}
 use Rattle.sets.specs.Tests.{◌and◌, ◌or◌}
 use Rattle.sets.specs.Members.{mem, those, no_set}
 use Rattle.sets.specs.Rows.{no_rows}
@@ -13,7 +12,7 @@ use Rattle.calllog.specs.Logs.{part_at}
 use Rattle.rules.specs.Traces.{◌has◌}
 use Rattle.tally.specs.Passes.{walked, reaches, event_in}
 use Rattle.tally.specs.Tallies.{noted_for}
-use Rattle.tally.proofs.Walks.{Left, events_from, events-start, events-next, events-end, through-start, through-next, through-end}
+use Rattle.tally.proofs.Walks.{Left, events_from, events-start, events-next, through-start, through-next}
 use Rattle.tally.proofs.log.note_traces_in.Given as goal
 
 -- what is left of the walk, from the tally as it is, gives the whole walk

@@ -1,16 +1,12 @@
 use mathlib.Core.Path.{◌≡◌}
 use mathlib.Core.List.{List}
 use Prim.Native.Nat.{ℕ, ◌≤◌, ◌<◌}
-use native.Mathlib.Omega.{arith}
-use borrow.Author.Rules.{rules}
-use borrow.Author.Tests.{not-false}
 use lib.ListN.{length}
 use Rattle.sets.specs.Members.{width}
 use Rattle.sets.specs.Rows.{rows_of}
 use Rattle.sets.specs.Sizes.{longest_trace}
-use Rattle.sets.proofs.Members.{those-mem}
 use Rattle.tally.specs.Passes.{in_block}
-use Rattle.tally.proofs.LookBack.{Looked, look-start, look-passed, look-block}
+use Rattle.tally.proofs.LookBack.{Looked}
 use Rattle.tally.proofs.look_back.pass_blocks.Given as goal
 
 -- `pass_blocks` meets its contract: whatever the past, of which the rows know all, the look back has come to `end`. Assumes nothing.

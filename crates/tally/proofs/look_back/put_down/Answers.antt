@@ -1,4 +1,3 @@
-use borrow.Author.Rules.{rules}
 use Rattle.tally.proofs.LookBack.{put-in-block, put-nowhere}
 use Rattle.tally.proofs.look_back.put_down.Goals as goal
 

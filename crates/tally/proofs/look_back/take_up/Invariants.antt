@@ -1,13 +1,11 @@
-use mathlib.Core.Path.{◌≡◌, ◌∙◌}
+use mathlib.Core.Path.{◌≡◌}
 use mathlib.Core.List.{List}
 use Prim.Native.Nat.{ℕ, ◌-◌, ◌≤◌}
-use native.Mathlib.Omega.{arith}
-use borrow.Author.Rules.{rules}
 use lib.ListN.{length}
 use Rattle.sets.specs.Members.{width}
 use Rattle.sets.specs.Rows.{rows_of}
 use Rattle.tally.specs.Passes.{in_block}
-use Rattle.tally.proofs.LookBack.{left_from, take-start, take_next, take-end}
+use Rattle.tally.proofs.LookBack.{left_from}
 use Rattle.tally.proofs.look_back.take_up.Given as goal
 
 abbrev pub invariant-loop-j : goal.invariant-loop-j

@@ -1,7 +1,7 @@
 use mathlib.Core.Path.{refl}
 use borrow.Author.Rules.{rules}
 use Rattle.sets.proofs.Members.{those-mem}
-use Rattle.tally.proofs.LookBack.{Looked, look-start, look-next, look_stop, look-empty, look-end}
+use Rattle.tally.proofs.LookBack.{look-start, look-next, look_stop, look-empty, look-end}
 use Rattle.tally.proofs.look_back.unmet.Goals as goal
 
 pub loop-i-init : goal.loop-i-init

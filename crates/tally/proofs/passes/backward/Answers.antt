@@ -1,5 +1,5 @@
 use borrow.Author.Rules.{rules}
-use Rattle.tally.proofs.Loops.{Homeward, homeward-start, homeward-turn, homeward-end}
+use Rattle.tally.proofs.Loops.{homeward-start, homeward-turn}
 use Rattle.tally.proofs.passes.backward.Goals as goal
 
 pub loop-i-init : goal.loop-i-init

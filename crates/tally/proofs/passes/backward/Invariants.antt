@@ -1,5 +1,4 @@
-use borrow.Author.Rules.{rules}
-use Rattle.tally.proofs.Loops.{Homeward, homeward-start, homeward-turn, homeward-end}
+use Rattle.tally.proofs.Loops.{Homeward}
 use Rattle.tally.proofs.passes.backward.Given as goal
 
 abbrev pub invariant-loop-i : goal.invariant-loop-i

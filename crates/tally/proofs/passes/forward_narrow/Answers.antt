@@ -1,8 +1,5 @@
-use mathlib.Core.Bool.{false}
-use Prim.Native.Nat.{◌-◌}
 use borrow.Author.Rules.{rules}
-use lib.ListN.{length}
-use Rattle.tally.proofs.Loops.{Onward, onward-start, known, onward-turn, onward-end}
+use Rattle.tally.proofs.Loops.{onward-start, onward-turn, onward-end}
 use Rattle.tally.proofs.passes.forward_narrow.Goals as goal
 
 pub loop-i-init : goal.loop-i-init

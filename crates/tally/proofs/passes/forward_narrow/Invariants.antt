@@ -1,8 +1,7 @@
 use mathlib.Core.Bool.{false}
 use Prim.Native.Nat.{◌-◌}
-use borrow.Author.Rules.{rules}
 use lib.ListN.{length}
-use Rattle.tally.proofs.Loops.{Onward, onward-start, known, onward-turn, onward-end}
+use Rattle.tally.proofs.Loops.{Onward}
 use Rattle.tally.proofs.passes.forward_narrow.Given as goal
 
 abbrev pub invariant-loop-i : goal.invariant-loop-i

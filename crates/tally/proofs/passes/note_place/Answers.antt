@@ -1,5 +1,4 @@
 use borrow.Author.Rules.{rules}
-use Rattle.tally.specs.Passes.{in_block}
 use Rattle.tally.proofs.Turns.{all-reached}
 use Rattle.tally.proofs.Alternate.{place-put}
 use Rattle.tally.proofs.passes.note_place.Goals as goal

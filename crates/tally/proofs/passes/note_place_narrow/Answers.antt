@@ -1,5 +1,4 @@
 use borrow.Author.Rules.{rules}
-use Rattle.tally.specs.Passes.{in_block}
 use Rattle.tally.proofs.Turns.{low-reached, high-unreached}
 use Rattle.tally.proofs.Alternate.{place-put, place-left}
 use Rattle.tally.proofs.passes.note_place_narrow.Goals as goal
