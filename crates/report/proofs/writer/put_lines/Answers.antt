@@ -9,9 +9,9 @@ pub put_relations-end-requires : goal.put_relations-end-requires
 put_relations-end-requires c = search (lines-2, rules)
 
 pub put_traces-requires : goal.put_traces-requires
-put_traces-requires c = lines-3 c.args.head _ _ _ _ _ c.args.out.now c.true.ensures c.turned-listed.ensures c.requires _ _ _ _
+put_traces-requires c = lines-3 c.args.head _ _ _ _ _ c.args.out.now c.taken-conditions.ensures c.turned-listed.ensures c.requires _ _ _ _
     c.put_heading-at.ensures c.put_relations-end.ensures
 
 pub returns : goal.returns
-returns c = lines-put c.args.head _ _ _ _ _ _ c.true.ensures c.turned-listed.ensures _ _ _ _ _ _
+returns c = lines-put c.args.head _ _ _ _ _ _ c.taken-conditions.ensures c.turned-listed.ensures _ _ _ _ _ _
     c.put_heading-at.ensures c.put_relations-end.ensures c.put_traces.ensures
