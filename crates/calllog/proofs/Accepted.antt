@@ -1,6 +1,6 @@
 -- What an accepted log keeps to, all of it: a log is accepted just where these facts hold. Assumes nothing.
 use mathlib.Core.Path.{◌≡◌, refl, sym, subst, ◌∙◌}
-use mathlib.Core.Bool.{Bool, true, false, not}
+use mathlib.Core.Bool.{Bool, true, false}
 use mathlib.Core.List.{List}
 use Prim.Native.Nat.{ℕ, zero, suc, ◌+◌, ◌≤◌, ◌<◌}
 use native.Mathlib.Nat.{le_refl}
@@ -52,7 +52,7 @@ module _ (bytes : List ℕ) where
       )
 
   -- what the code goes on by
-  pub entries-there : (a : Answer) (d : Bool) → a ≡ judged_head bytes → d ≡ is_done a → not d ≡ false → bodies_start bytes ≤ length bytes
+  pub entries-there : (a : Answer) (d : Bool) → a ≡ judged_head bytes → d ≡ is_done a → d ≡ true → bodies_start bytes ≤ length bytes
   entries-there a d e t n = (head-good (gone-on a (judged_head bytes) d e t n)).4
 
   bodies-good : (events : ℕ) → judged_bodies bytes events ≡ Done
@@ -92,11 +92,11 @@ module _ (bytes : List ℕ) where
   accepts a =
       let w = a.whole in
       let head : judged_head bytes ≡ Done =
-      sym (head_done bytes _ refl a.long _ _ refl refl _ refl (λ i. not (a.named i)) _ refl (within_both _ _ a.activities a.edition) _ refl a.traces (omega arith)) in
+      sym (head_done bytes _ refl a.long _ _ refl refl _ refl a.named _ refl (within_both _ _ a.activities a.edition) _ refl a.traces (omega arith)) in
       ask-on _ _ head
       ∙ ask-on _ _
       (no-refusal (entry_of bytes) (traces_in bytes) (λ k l. sym (entry_done _ _ _ (a.lengths k l) (a.totals k l) (a.offsets k l))))
-      ∙ sym (bodies-done bytes _ _ refl (omega arith) _ refl _ refl (omega arith) (λ i. not (a.below i)))
+      ∙ sym (bodies-done bytes _ _ refl (omega arith) _ refl _ refl (omega arith) a.below)
 
 -- ---- the sums of the lengths
 

@@ -1,11 +1,11 @@
 -- The entries, one turn of the code after the other, then the bodies. Assumes nothing.
 use mathlib.Core.Path.{◌≡◌, refl, sym, ap, ◌∙◌}
-use mathlib.Core.Bool.{Bool, true, false, not}
+use mathlib.Core.Bool.{Bool, true, false}
 use mathlib.Core.List.{List}
 use Prim.Native.Nat.{ℕ, ◌+◌, ◌≤◌, ◌<◌}
 use native.Mathlib.Numerals.{add-one}
 use native.Mathlib.Omega.{arith}
-use borrow.Author.Tests.{not-true, not-false, ltb-false}
+use borrow.Author.Tests.{ltb-false}
 use lib.Dec.{eqb→eq}
 use Rattle.sets.specs.Answers.{is_done, first_refusal}
 use Rattle.sets.specs.declared.answer.Answer.{Answer}
@@ -37,20 +37,20 @@ module _ (bytes : List ℕ) (k events size offset : ℕ) (a : Answer) (r : Bool)
   entry-is : a ≡ entry_of bytes k
   entry-is = ea ∙ (λ i. judged_entry (ee i) (eo i) (es i))
 
-  entry-fine : not r ≡ false → a ≡ Done
-  entry-fine d = done-is a (sym er ∙ not-false r d)
+  entry-fine : r ≡ true → a ≡ Done
+  entry-fine d = done-is a (sym er ∙ d)
 
-  pub contents-room : not r ≡ false → events + size ≤ most_events
+  pub contents-room : r ≡ true → events + size ≤ most_events
   contents-room d = (entry-good events offset size (sym ea ∙ entry-fine d)).1
 
-  pub contents-next : not r ≡ false → first_refusal k (entry_of bytes) ≡ Done → first_refusal (k + 1) (entry_of bytes) ≡ Done
+  pub contents-next : r ≡ true → first_refusal k (entry_of bytes) ≡ Done → first_refusal (k + 1) (entry_of bytes) ≡ Done
   contents-next d f = turn-passed (entry_of bytes) k a r entry-is er f d
 
-  pub contents-refused : (t : ℕ) → t ≡ traces_in bytes → k < t → first_refusal k (entry_of bytes) ≡ Done → not r ≡ true → a ≡ judged_contents bytes
+  pub contents-refused : (t : ℕ) → t ≡ traces_in bytes → k < t → first_refusal k (entry_of bytes) ≡ Done → r ≡ false → a ≡ judged_contents bytes
   unfolding judged_contents
   contents-refused t et l f n =
       let stands = turn-refused (entry_of bytes) k a r entry-is er f (traces_in bytes) (omega arith) n in
-      stands ∙ sym (ask-stop _ _ (ap is_done (sym stands) ∙ sym er ∙ not-true r n))
+      stands ∙ sym (ask-stop _ _ (ap is_done (sym stands) ∙ sym er ∙ n))
 
 pub contents-end : (bytes : List ℕ) (k events t : ℕ) (b : Answer) → t ≡ traces_in bytes → t ≤ k → k ≤ t → events ≡ events_before bytes k
     → first_refusal k (entry_of bytes) ≡ Done → b ≡ judged_bodies bytes events → b ≡ judged_contents bytes

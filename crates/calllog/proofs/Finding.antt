@@ -1,10 +1,10 @@
 -- Finding a trace: where it stands in an accepted log, and what the code gives. Assumes nothing.
 use mathlib.Core.Path.{◌≡◌, refl, sym, ap, ◌∙◌}
-use mathlib.Core.Bool.{Bool, true, false, not}
+use mathlib.Core.Bool.{Bool, true, false}
 use mathlib.Core.List.{List}
 use Prim.Native.Nat.{ℕ, suc, ◌+◌, ◌≤◌, ◌<◌}
 use native.Mathlib.Omega.{arith}
-use borrow.Author.Tests.{not-true, not-false, lt-ltb, le-ltb, ltb-true}
+use borrow.Author.Tests.{lt-ltb, le-ltb, ltb-true}
 use lib.Dec.{ltb}
 use mir.Syntax.{w64}
 use mir.Val.{Fits}
@@ -87,16 +87,16 @@ module _ (bytes : List ℕ) (k : ℕ) (j : Judged) (r : Bool) (ej : j ≡ judged
   answer-is : j.answer ≡ judged_log bytes
   answer-is = ap (λ (x : Judged). x.answer) ej ∙ log-answer bytes
 
-  pub find-refused : not r ≡ true → ◌≡◌ {A = Found} (record { answer = j.answer; start = 0; length = 0 }) (found_of bytes k)
+  pub find-refused : r ≡ false → ◌≡◌ {A = Found} (record { answer = j.answer; start = 0; length = 0 }) (found_of bytes k)
   find-refused n =
-      let d : is_done (judged_log bytes) ≡ false = ap is_done (sym answer-is) ∙ sym er ∙ not-true r n in
+      let d : is_done (judged_log bytes) ≡ false = ap is_done (sym answer-is) ∙ sym er ∙ n in
       let f = finding-refused bytes k d in
       ap {B = Found} (λ x. record { answer = x; start = 0; length = 0 }) (answer-is ∙ sym f)
       ∙ sym (found-not bytes k (ap is_done f ∙ d))
 
-  module _ (n : not r ≡ false) where
+  module _ (n : r ≡ true) where
     judged-done : judged_log bytes ≡ Done
-    judged-done = sym answer-is ∙ done-is j.answer (sym er ∙ not-false r n)
+    judged-done = sym answer-is ∙ done-is j.answer (sym er ∙ n)
 
     traces-are : j.traces ≡ traces_in bytes
     traces-are = ap (λ (x : Judged). x.traces) (ej ∙ judged-accepted bytes judged-done)

@@ -1,6 +1,6 @@
 -- What the public functions give, as the code puts it together. Assumes nothing.
 use mathlib.Core.Path.{◌≡◌, refl, sym, ap, ap₂, ◌∙◌}
-use mathlib.Core.Bool.{Bool, true, false, not}
+use mathlib.Core.Bool.{Bool, true, false}
 use mathlib.Core.List.{List, []}
 use Prim.Native.Nat.{ℕ, zero, suc, ◌+◌, ◌≤◌, ◌<◌}
 use native.Mathlib.Omega.{arith}
@@ -52,11 +52,11 @@ judged-refused bytes d =
 -- ---- the code's ways to a judgement
 
 module _ (bytes : List ℕ) (a : Answer) (r : Bool) where
-  pub judge-stop : a ≡ judged_head bytes → r ≡ is_done a → not r ≡ true → a ≡ judged_log bytes
+  pub judge-stop : a ≡ judged_head bytes → r ≡ is_done a → r ≡ false → a ≡ judged_log bytes
   unfolding judged_log
   judge-stop e d n = refused a (judged_head bytes) r e d (judged_contents bytes) n
 
-  pub judge-on : (b : Answer) → a ≡ judged_head bytes → r ≡ is_done a → not r ≡ false → b ≡ judged_contents bytes → b ≡ judged_log bytes
+  pub judge-on : (b : Answer) → a ≡ judged_head bytes → r ≡ is_done a → r ≡ true → b ≡ judged_contents bytes → b ≡ judged_log bytes
   unfolding judged_log
   judge-on b e d n f = f ∙ sym (passed a (judged_head bytes) r e d (judged_contents bytes) n)
 

@@ -12,4 +12,3 @@ pub mod Writing
 pub mod Bytes
 pub mod Long
 pub mod Examples
-pub mod Lending

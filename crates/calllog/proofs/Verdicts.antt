@@ -1,9 +1,9 @@
 -- The judgement of a log, test by test, as the code meets the tests. Assumes nothing.
 use mathlib.Core.Path.{◌≡◌, sym, ◌∙◌}
-use mathlib.Core.Bool.{Bool, true, false, not}
+use mathlib.Core.Bool.{Bool, true, false}
 use mathlib.Core.List.{List}
 use Prim.Native.Nat.{ℕ, ◌+◌, ◌≤◌, ◌<◌}
-use borrow.Author.Tests.{lt-ltb, le-ltb, eq-eqb, ne_eqb, not-true, not-false}
+use borrow.Author.Tests.{lt-ltb, le-ltb, eq-eqb, ne_eqb}
 use lib.ListN.{length, drop}
 use Rattle.sets.specs.Tests.{non}
 use Rattle.sets.specs.declared.answer.Answer.TheVariants.{Done, TooShort, WrongLetters, AboveLimit, WrongOffset, Outside}
@@ -20,22 +20,22 @@ module _ (bytes : List ℕ) where
   head-short h = rw (lt-ltb (length bytes) head_size h)
 
   module _ (o : Bool) (eo : o ≡ opens_file letters bytes) (h : head_size ≤ length bytes) where
-    pub head-letters : not o ≡ true → WrongLetters ≡ judged_head bytes
+    pub head-letters : o ≡ false → WrongLetters ≡ judged_head bytes
     unfolding judged_head non
-    head-letters f = rw (le-ltb (length bytes) head_size h, ← eo, not-true o f)
+    head-letters f = rw (le-ltb (length bytes) head_size h, ← eo, f)
 
-    module _ (e a : ℕ) (ee : e ≡ edition_in bytes) (ea : a ≡ activities_in bytes) (b : Bool) (eb : b ≡ beyond e a) (yes : not o ≡ false) where
+    module _ (e a : ℕ) (ee : e ≡ edition_in bytes) (ea : a ≡ activities_in bytes) (b : Bool) (eb : b ≡ beyond e a) (yes : o ≡ true) where
       is-beyond : beyond (edition_in bytes) (activities_in bytes) ≡ b
       is-beyond = (λ i. beyond (sym ee i) (sym ea i)) ∙ sym eb
 
       pub head-activities : b ≡ true → AboveLimit ≡ judged_head bytes
       unfolding judged_head non
-      head-activities l = rw (le-ltb (length bytes) head_size h, ← eo, not-false o yes, is-beyond, l)
+      head-activities l = rw (le-ltb (length bytes) head_size h, ← eo, yes, is-beyond, l)
 
       module _ (t : ℕ) (et : t ≡ traces_in bytes) (few : b ≡ false) where
         pub head-traces : most_traces < t → AboveLimit ≡ judged_head bytes
         unfolding judged_head non
-        head-traces l = rw (le-ltb (length bytes) head_size h, ← eo, not-false o yes, is-beyond, few, ← et, lt-ltb most_traces t l)
+        head-traces l = rw (le-ltb (length bytes) head_size h, ← eo, yes, is-beyond, few, ← et, lt-ltb most_traces t l)
 
         module _ (s : ℕ) (es : s ≡ bodies_start bytes) (low : t ≤ most_traces) where
           pub head-cut : length bytes < s → TooShort ≡ judged_head bytes
@@ -44,7 +44,7 @@ module _ (bytes : List ℕ) where
               rw (
                 le-ltb (length bytes) head_size h,
                 ← eo,
-                not-false o yes,
+                yes,
                 is-beyond,
                 few,
                 ← et,
@@ -59,7 +59,7 @@ module _ (bytes : List ℕ) where
               rw (
                 le-ltb (length bytes) head_size h,
                 ← eo,
-                not-false o yes,
+                yes,
                 is-beyond,
                 few,
                 ← et,
@@ -106,14 +106,14 @@ module _ (bytes : List ℕ) (events s : ℕ) (es : s ≡ bodies_start bytes) whe
     bodies-more l = rw (← es, le-ltb (length bytes) (s + events) enough, lt-ltb (s + events) (length bytes) l)
 
     module _ (a : ℕ) (ea : a ≡ activities_in bytes) (b : Bool) (eb : b ≡ all_below a (drop s bytes)) (all : length bytes ≤ s + events) where
-      pub bodies-outside : not b ≡ true → Outside ≡ judged_bodies bytes events
+      pub bodies-outside : b ≡ false → Outside ≡ judged_bodies bytes events
       unfolding judged_bodies non
       bodies-outside f =
-          rw (← es, le-ltb (length bytes) (s + events) enough, le-ltb (s + events) (length bytes) all, ← ea, ← eb, not-true b f)
+          rw (← es, le-ltb (length bytes) (s + events) enough, le-ltb (s + events) (length bytes) all, ← ea, ← eb, f)
 
-      pub bodies-done : not b ≡ false → Done ≡ judged_bodies bytes events
+      pub bodies-done : b ≡ true → Done ≡ judged_bodies bytes events
       unfolding judged_bodies non
       bodies-done f =
-          rw (← es, le-ltb (length bytes) (s + events) enough, le-ltb (s + events) (length bytes) all, ← ea, ← eb, not-false b f)
+          rw (← es, le-ltb (length bytes) (s + events) enough, le-ltb (s + events) (length bytes) all, ← ea, ← eb, f)
 
 pub ruleset bodies = (bodies-short, bodies-more, bodies-outside, bodies-done)

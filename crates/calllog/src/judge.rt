@@ -9,7 +9,7 @@ use octets::edition;
 use sets::Answer;
 
 // The answer, A and T; 0 and 0 where the log is refused.
-#[derive(Drop)]
+#[derive(Clone, Copy)]
 pub struct Judged {
     pub answer: Answer,
     pub activities: u8,

@@ -1,4 +1,6 @@
 // The log file: its refusals, and where its traces stand in the bytes.
+#![tactic(auto)]
+
 pub mod judge;
 mod layout;
 pub mod reader;

@@ -7,7 +7,7 @@ ghost use Rattle.calllog.specs.Reader.{opened, reader_after};
 use crate::trace;
 use crate::trace::{Asked, Found};
 
-#[derive(Drop)]
+#[derive(Clone, Copy)]
 pub struct LogReader<'a> {
     pub log: &'a [u8],
     pub next: usize,

@@ -7,7 +7,7 @@ use crate::{judge, layout};
 use sets::Answer;
 
 // A part of the bytes: its first byte, and how many.
-#[derive(Drop)]
+#[derive(Clone, Copy)]
 pub struct Part {
     pub start: usize,
     pub length: usize,
@@ -21,7 +21,7 @@ impl Part {
 }
 
 // A trace that was asked for: the part of the bytes that it is; 0 and 0 where refused.
-#[derive(Drop)]
+#[derive(Clone, Copy)]
 pub struct Found {
     pub answer: Answer,
     pub start: usize,
@@ -29,7 +29,7 @@ pub struct Found {
 }
 
 // What a reader gives, and the number of the trace that comes next.
-#[derive(Drop)]
+#[derive(Clone, Copy)]
 pub struct Asked {
     pub found: Found,
     pub next: usize,

@@ -1,54 +1,49 @@
 // The calls program: a log on standard input, its calls on standard output, one a line, by activity numbers. A refused log gives the
 // one line that the listing gives too. Reading is left to the library `calllog`.
-use io::write_all;
-use libc::{STDIN_FILENO, STDOUT_FILENO};
+#![tactic(auto)]
 
-fn say(s: &[u8]) {
-    write_all(STDOUT_FILENO, s);
-}
+use std::io;
+use std::io::Read;
+
+// One byte more than the longest log has, as in the listing program.
+const LOG_ROOM: u64 = 36871;
 
 // One step, with a space before it where it is not the call's first.
-fn say_step(step: u8, first: bool) {
+fn say_step(rt: &impl Print, step: u8, first: bool) -> io::Result<()> {
     if !first {
-        say(b" ");
+        print!(rt; " ")?;
     }
-    io::print_decimal(STDOUT_FILENO, step as u64);
+    print!(rt; "{step}")
 }
 
 // The line of a call.
-fn say_steps(steps: &[u8]) {
-    let mut i: usize = 0;
-    while i < steps.len() {
-        say_step(steps[i], i == 0);
-        i += 1;
+fn say_steps(rt: &impl Print, steps: &[u8]) -> io::Result<()> {
+    for (i, &step) in steps.iter().enumerate() {
+        say_step(rt, step, i == 0)?;
     }
-    say(b"\n");
+    println!(rt)
 }
 
-fn say_calls(log: &[u8], traces: usize) {
-    let mut k: usize = 0;
-    while k < traces {
-        say_steps(calllog::trace::trace_at(log, k));
-        k += 1;
+fn say_calls(rt: &impl Print, log: &[u8], traces: usize) -> io::Result<()> {
+    for k in 0..traces {
+        say_steps(rt, calllog::trace::trace_at(log, k))?;
     }
+    Ok(())
 }
 
 // The calls of any bytes, or their refusal.
-fn show(log: &[u8]) {
+fn show(rt: &impl Print, log: &[u8]) -> io::Result<()> {
     let judged = calllog::judge::judge_log(log);
     let answer = judged.answer;
     if answer.is_done() {
-        say_calls(log, judged.traces);
-        return;
+        return say_calls(rt, log, judged.traces);
     }
-    say(b"refused ");
-    io::print_decimal(STDOUT_FILENO, answer.number() as u64);
-    say(b"\n");
+    println!(rt; "refused {}", answer.number())
 }
 
-fn main() {
-    // One byte more than the longest log has, as in the listing program.
-    let mut log = [0u8; 36871];
-    let n = io::read_full(STDIN_FILENO, &mut log);
-    show(&log[..n]);
+fn main(rt: HostRuntime) -> io::Result<()> {
+    // What is there beyond the room for a log stays unread, as in the listing program.
+    let mut log = Vec::new(rt.alloc());
+    rt.reader().take(LOG_ROOM).read_to_end(&mut log)?;
+    show(&rt, &log)
 }

@@ -1,43 +1,67 @@
 // The words of a case, and the files that they name.
-ghost use Rattle.io.specs.Counts.{IsPrefixLen};
+ghost use Rattle.std.specs.Prelude.{◌≤◌, length};
 
 use crate::text;
+use std::env::{Env, FillError};
+use std::io::Read;
+use std::rt::Files;
+use std::{fs, io, str};
+
+// Whether there is an argument i. One that has bytes does not fit where there is no room, but it is there.
+pub fn is_given(rt: &impl Env, i: usize) -> bool {
+    !matches!(rt.arg(i, &mut []), Err(FillError::NotPresent))
+}
 
 // The first letter of an argument.
-pub fn kind(i: usize) -> u8 {
+pub fn kind(rt: &impl Env, i: usize) -> u8 {
     let mut word = [0u8; 64];
-    os::arg(i, &mut word);
+    let _ = rt.arg(i, &mut word);
     word[0]
 }
 
-fn say_word(i: usize) {
+fn say_word(rt: &(impl Env + Print), i: usize) -> io::Result<()> {
     let mut word = [0u8; 64];
-    let n = os::arg(i, &mut word);
-    text::say(&word[..n]);
+    let n = rt.arg(i, &mut word).unwrap_or(0);
+    rt.write_all(&word[..n])
 }
 
 // The words that begin at argument i; a `-` stands for no second file.
-pub fn say_words(i: u32) {
-    say_word(i as usize);
-    text::say(b" ");
-    say_word(i as usize + 1);
-    if kind(i as usize + 2) != b'-' {
-        text::say(b" ");
-        say_word(i as usize + 2);
+pub fn say_words(rt: &(impl Env + Print), i: u32) -> io::Result<()> {
+    say_word(rt, i as usize)?;
+    text::say(rt, " ")?;
+    say_word(rt, i as usize + 1)?;
+    if kind(rt, i as usize + 2) != b'-' {
+        text::say(rt, " ")?;
+        say_word(rt, i as usize + 2)?;
     }
+    Ok(())
+}
+
+// Reads until the buffer is full, the file ends or a read fails, and gives how many bytes it put at the start of the buffer.
+fn read_full(file: &mut impl Read, buf: &mut [u8]) -> usize
+    ensures { result ≤ length buf.new }
+{
+    let mut done = 0;
+    while done < buf.len() {
+        match file.read(&mut buf[done..]) {
+            Ok(0) | Err(_) => break,
+            Ok(n) => done += n,
+        }
+    }
+    done
 }
 
 // Reads the file that argument i names. No case has an empty file: 0 bytes stand for one that can't be read.
-pub fn load(i: usize, buf: &mut [u8]) -> usize
-    ensures { IsPrefixLen result buf.new }
+pub fn load(rt: &(impl Env + Files), i: usize, buf: &mut [u8]) -> usize
+    ensures { result ≤ length buf.new }
 {
     let mut name = [0u8; 64];
-    let n = os::arg(i, &mut name);
-    let fd = os::open_read(&name[..n]);
-    if fd < 0 {
-        return io::count(0, buf);
-    }
-    let k = io::read_full(fd, buf);
-    libc::close(fd);
-    k
+    let n = rt.arg(i, &mut name).unwrap_or(0);
+    let Ok(path) = str::from_utf8(&name[..n]) else {
+        return 0;
+    };
+    let Ok(mut file) = fs::open(rt, path) else {
+        return 0;
+    };
+    read_full(&mut file, buf)
 }

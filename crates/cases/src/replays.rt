@@ -1,56 +1,70 @@
 // Cases of replay: a graph file, and traces. Of a file that is refused the graph is empty, and every step gets 8.
 use crate::{files, text};
 use engine::{Graph, Replayed};
+use std::env::Env;
+use std::io;
 
 // Where a replay ended.
-fn say_replayed(r: Replayed) {
+fn say_replayed(rt: &impl Print, r: Replayed) -> io::Result<()> {
     let answer = r.answer;
-    text::blocked(b": ", answer);
-    text::number(b" place ", r.place.0 as u64);
-    text::marking(r.marking);
-    text::yes_or_no(b" accepting", r.accepting);
-    text::line(b"");
+    text::blocked(rt, ": ", answer)?;
+    text::number(rt, " place ", r.place.0 as u64)?;
+    text::marking(rt, r.marking)?;
+    text::yes_or_no(rt, " accepting", r.accepting)?;
+    text::line(rt, "")
 }
 
 // All bytes of a file as one trace.
-pub fn replay_whole<'a>(file: &'a [u8], trace: &'a [u8]) {
+pub fn replay_whole<'a>(rt: &impl Print, file: &'a [u8], trace: &'a [u8]) -> io::Result<()> {
     let r = graphfile::read(file);
     let g = r.graph;
-    say_replayed(engine::replay::replay(g, trace));
+    say_replayed(rt, engine::replay::replay(g, trace))
 }
 
 // The first bytes as a trace.
-fn replay_first(g: Graph, bytes: &[u8], length: usize) {
+fn replay_first(rt: &impl Print, g: Graph, bytes: &[u8], length: usize) -> io::Result<()> {
     if length <= bytes.len() {
-        say_replayed(engine::replay::replay(g, &bytes[0..length]));
+        say_replayed(rt, engine::replay::replay(g, &bytes[0..length]))?;
     }
+    Ok(())
 }
 
 // A part of the bytes as a trace.
-fn replay_part(g: Graph, bytes: &[u8], start: usize, length: usize) {
+fn replay_part(
+    rt: &impl Print,
+    g: Graph,
+    bytes: &[u8],
+    start: usize,
+    length: usize,
+) -> io::Result<()> {
     if start <= bytes.len() {
-        replay_first(g, &bytes[start..], length);
+        replay_first(rt, g, &bytes[start..], length)?;
     }
+    Ok(())
 }
 
 // Trace k of a log.
-fn replay_trace(g: Graph, log: &[u8], k: usize, i: u32) {
+fn replay_trace(rt: &(impl Env + Print), g: Graph, log: &[u8], k: usize, i: u32) -> io::Result<()> {
     if 0 < k {
-        files::say_words(i);
+        files::say_words(rt, i)?;
     }
-    text::number(b" trace ", k as u64);
+    text::number(rt, " trace ", k as u64)?;
     let found = calllog::trace::find_trace(log, k);
-    replay_part(g, log, found.start, found.length);
+    replay_part(rt, g, log, found.start, found.length)
 }
 
 // Each trace of a log, a line for each.
-pub fn replay_all<'a>(file: &'a [u8], log: &'a [u8], i: u32) {
+pub fn replay_all<'a>(
+    rt: &(impl Env + Print),
+    file: &'a [u8],
+    log: &'a [u8],
+    i: u32,
+) -> io::Result<()> {
     let judged = calllog::judge::judge_log(log);
     let traces = judged.traces;
-    let mut k = 0;
-    while k < traces {
+    for k in 0..traces {
         let r = graphfile::read(file);
-        replay_trace(r.graph, log, k, i);
-        k += 1;
+        replay_trace(rt, r.graph, log, k, i)?;
     }
+    Ok(())
 }

@@ -1,15 +1,14 @@
 // Text on standard output: the four steps that a class has at the board, by their numbers.
 use engine::Marking;
-use libc::STDOUT_FILENO;
 use sets::{Activity, Answer, Set};
+use std::io;
 
-pub fn say(s: &[u8]) {
-    io::write_all(STDOUT_FILENO, s);
+pub fn say(rt: &impl Print, s: &str) -> io::Result<()> {
+    print!(rt; "{s}")
 }
 
-pub fn number(name: &[u8], n: u64) {
-    say(name);
-    io::print_decimal(STDOUT_FILENO, n);
+pub fn number(rt: &impl Print, name: &str, n: u64) -> io::Result<()> {
+    print!(rt; "{name}{n}")
 }
 
 pub fn wide(n: u16) -> u64 {
@@ -17,31 +16,33 @@ pub fn wide(n: u16) -> u64 {
 }
 
 // The number, and beside 10 what blocks.
-pub fn answer(a: Answer) {
-    number(b": ", a.number() as u64);
+pub fn answer(rt: &impl Print, a: Answer) -> io::Result<()> {
+    number(rt, ": ", a.number() as u64)?;
     if a.blocker() != Answer::NO_BLOCKER {
-        number(b" by ", a.blocker() as u64);
+        number(rt, " by ", a.blocker() as u64)?;
     }
+    Ok(())
 }
 
-fn member(s: Set, a: u8) {
+fn member(rt: &impl Print, s: Set, a: u8) -> io::Result<()> {
     if s.has(Activity(a)) {
-        number(b" ", a as u64);
+        number(rt, " ", a as u64)?;
     }
+    Ok(())
 }
 
-fn members(name: &[u8], s: Set) {
-    say(name);
-    member(s, 0);
-    member(s, 1);
-    member(s, 2);
-    member(s, 3);
+fn members(rt: &impl Print, name: &str, s: Set) -> io::Result<()> {
+    say(rt, name)?;
+    member(rt, s, 0)?;
+    member(rt, s, 1)?;
+    member(rt, s, 2)?;
+    member(rt, s, 3)
 }
 
-pub fn marking(m: Marking) {
+pub fn marking(rt: &impl Print, m: Marking) -> io::Result<()> {
     let s = m.state;
-    members(b" executed", s.executed);
-    members(b" pending", s.pending);
-    members(b" included", s.included);
-    members(b" enabled", m.enabled);
+    members(rt, " executed", s.executed)?;
+    members(rt, " pending", s.pending)?;
+    members(rt, " included", s.included)?;
+    members(rt, " enabled", m.enabled)
 }

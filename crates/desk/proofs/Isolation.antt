@@ -4,24 +4,19 @@ use mathlib.Core.Path.{◌≡◌, refl, sym, ap, subst, ◌∙◌}
 use mathlib.Core.Bool.{Bool, true, false}
 use mathlib.Core.Logic.{◌≢◌}
 use mathlib.Core.List.{List, [], ◌∷◌}
-use Prim.Native.Nat.{ℕ, ◌+◌, ◌≤◌, ◌<◌}
+use Prim.Native.Nat.{ℕ, ◌≤◌}
 use native.Mathlib.Omega.{arith}
-use borrow.Author.Tests.{eqb-true, eqb-false, eq-eqb, ne_eqb, le-ltb}
-use lib.Dec.{T, eqb, ltb}
+use borrow.Author.Tests.{eqb-true, eqb-false, le-ltb}
+use lib.Dec.{eqb}
 use lib.ListN.{length}
 use Rattle.sets.specs.Tests.{◌and◌, non, when◌then◌else◌}
-use Rattle.sets.specs.Members.{mem, those, no_set, every_below, least_below}
 use Rattle.sets.specs.Answers.{is_done, then_ask}
-use Rattle.sets.specs.declared.set.Set.{Set}
 use Rattle.sets.specs.declared.answer.Answer.{Answer}
-use Rattle.sets.specs.declared.answer.Answer.TheVariants.{Done, BufferTooSmall, NoPlaceFree, NotOpen, NotAccepting}
-use Rattle.sets.proofs.Tests.{T→true, true→T, F→false, false→F, split, either}
+use Rattle.sets.specs.declared.answer.Answer.TheVariants.{Done, BufferTooSmall, NoPlaceFree, NotOpen}
+use Rattle.sets.proofs.Tests.{false→F}
 use Rattle.sets.proofs.Below.{every-ext, least-ext}
-use Rattle.sets.proofs.Members.{Whole, those-ext, mem-those, mem-none, none-those}
 use Rattle.sets.proofs.Asking.{done-is}
 use Rattle.engine.specs.Markings.{empty_marking}
-use Rattle.engine.specs.Enabled.{enabled_set}
-use Rattle.engine.specs.Steps.{after}
 use Rattle.engine.specs.Judged.{judged}
 use Rattle.engine.specs.Replay.{enabled_of, next_marking}
 use Rattle.engine.specs.declared.marking.Marking.{Marking}

@@ -1,13 +1,11 @@
 -- Every marking that is put at a place is within the events of an accepted graph, so that the table's form holds it. Assumes nothing.
 use mathlib.Core.Path.{◌≡◌, refl, sym, ap, subst}
-use mathlib.Core.Bool.{Bool, true, false}
-use Prim.Native.Nat.{ℕ, ◌≤◌, ◌<◌}
-use native.Mathlib.Omega.{arith}
+use mathlib.Core.Bool.{Bool}
+use Prim.Native.Nat.{ℕ, ◌<◌}
 use borrow.Author.Tests.{ltb-true, ltb-false}
-use lib.Dec.{T, eqb, ltb, eqb→eq, lit≤}
-use Rattle.sets.specs.Tests.{◌and◌, ◌or◌, non}
+use lib.Dec.{T, ltb, eqb→eq, lit≤}
 use Rattle.sets.specs.Members.{width, mem, those, no_set}
-use Rattle.sets.specs.Rows.{row_at, in_row}
+use Rattle.sets.specs.Rows.{in_row}
 use Rattle.sets.specs.Tables.{table_at}
 use Rattle.sets.specs.Answers.{is_done}
 use Rattle.sets.specs.declared.set.Set.{Set}
@@ -19,7 +17,7 @@ use Rattle.sets.proofs.Asking.{both}
 use Rattle.engine.specs.Markings.{empty_marking}
 use Rattle.engine.specs.Relations.{relation_count, relations_of}
 use Rattle.engine.specs.Enabled.{enabled_set}
-use Rattle.engine.specs.Steps.{enabled, after}
+use Rattle.engine.specs.Steps.{after}
 use Rattle.engine.specs.Judged.{state_within, graph_within, judged_for, judged, judged_with}
 use Rattle.engine.specs.Replay.{enabled_of, next_marking}
 use Rattle.engine.specs.declared.marking.State.{State}

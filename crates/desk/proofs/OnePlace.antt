@@ -3,17 +3,17 @@ use mathlib.Core.Path.{◌≡◌, refl, sym, ap, subst, ◌∙◌}
 use mathlib.Core.Bool.{Bool, true, false}
 use mathlib.Core.Logic.{◌≢◌}
 use mathlib.Core.List.{List}
-use Prim.Native.Nat.{ℕ, ◌+◌, ◌*◌, ◌≤◌, ◌<◌}
+use Prim.Native.Nat.{ℕ, ◌≤◌, ◌<◌}
 use native.Mathlib.Omega.{arith}
 use borrow.Author.Tests.{le-ltb, ltb-true, ltb-false}
 use lib.Dec.{T, eqb, ltb}
 use lib.ListN.{length, get_or, replicate, length-replicate, get_or-replicate}
 use Rattle.sets.specs.Tests.{◌and◌, non, when◌then◌else◌}
-use Rattle.sets.specs.Members.{every_below, least_below}
+use Rattle.sets.specs.Members.{every_below}
 use Rattle.sets.specs.Answers.{number_of, is_done, then_ask}
 use Rattle.sets.specs.declared.answer.Answer.{Answer}
 use Rattle.sets.specs.declared.answer.Answer.TheVariants.{Done, BufferTooSmall, NoPlaceFree, NotOpen}
-use Rattle.sets.proofs.Tests.{T→true, true→T, F→false, false→F, non-e, non-false, split, either, and-false}
+use Rattle.sets.proofs.Tests.{T→true, true→T, F→false, false→F, non-e, non-false}
 use Rattle.sets.proofs.Below.{every-i, every-e, least-is, least-before}
 use Rattle.sets.proofs.Asking.{done-is, ask-on, ask-stop}
 use Rattle.engine.specs.Markings.{empty_marking}
@@ -25,7 +25,7 @@ use Rattle.engine.specs.declared.graph.Graph.{Graph}
 use Rattle.graphfile.proofs.LoneMarkings.{WholeMarking}
 use Rattle.graphfile.proofs.WithinForm.{empty-held}
 use Rattle.desk.specs.Places.{place_count, place_start, table_length, is_open, marking_at_place, SameAt, with_marking, with_place, lowest_free}
-use Rattle.desk.specs.Desk.{form_of, on_table, opening, open_answer, no_place, opened_of, table_opened, step_answer, table_stepped, closing, close_answer, table_closed}
+use Rattle.desk.specs.Desk.{form_of, opening, open_answer, no_place, opened_of, table_opened, step_answer, table_stepped, closing, close_answer, table_closed}
 use Rattle.desk.specs.Histories.{Fresh}
 use Rattle.desk.proofs.Placing.{place-room, open-below, open_kept, marking-kept, marking-same, length_marked, length-placed, placed-open, placed-marking, else-open, else-marking}
 use Rattle.desk.proofs.Serving.{open_done, open-accepted, step-done, step-enabled, close-done}

@@ -1,23 +1,22 @@
 -- A place's bytes, read and stored: what shows at the same place, and that nothing shows at another. Assumes nothing.
-use mathlib.Core.Path.{◌≡◌, refl, sym, ap, ◌∙◌}
+use mathlib.Core.Path.{◌≡◌, sym, ap, ◌∙◌}
 use mathlib.Core.Bool.{Bool, true, false, not}
 use mathlib.Core.Logic.{◌⊎◌, inl, inr, ◌≢◌}
 use mathlib.Core.List.{List, [], ◌∷◌}
-use Prim.Native.Nat.{ℕ, suc, ◌+◌, ◌*◌, ◌^◌, ◌≤◌, ◌<◌}
+use Prim.Native.Nat.{ℕ, ◌+◌, ◌*◌, ◌^◌, ◌≤◌, ◌<◌}
 use native.Mathlib.Omega.{arith}
 use borrow.Author.Tests.{ltb-true, ltb-false}
 use lib.Dec.{T, eqb, ltb}
 use lib.ListN.{length, get_or, set, length-set}
-use lib.Seq.{sets, length-sets, get_or-set_same, get_or-set_other}
+use lib.Seq.{length-sets, get_or-set_same, get_or-set_other}
 use Rattle.sets.specs.Tests.{◌and◌, non}
-use Rattle.sets.specs.Members.{every_below, some_below, least_below}
-use Rattle.sets.proofs.Tests.{T→true, true→T, F→false, false→F, non-i, non-e, split, either, not-non, non-non, and_l}
-use Rattle.sets.proofs.Ways.{above, not-above, stops-l, goes, failed, held, passed}
-use Rattle.sets.proofs.Below.{least-only, least-le, some-least, non-some, every-ext}
+use Rattle.sets.specs.Members.{every_below}
+use Rattle.sets.proofs.Tests.{T→true, F→false, false→F, non-i, non-e, split, either, not-non, non-non, and_l}
+use Rattle.sets.proofs.Ways.{above, not-above, stops-l, goes, failed, passed}
+use Rattle.sets.proofs.Below.{least-only, some-least, non-some, every-ext}
 use Rattle.engine.specs.declared.marking.Marking.{Marking}
-use Rattle.graphfile.specs.Layout.{marking_at}
-use Rattle.graphfile.specs.Markings.{marking_length, marking_bytes, marking_held, marking_put}
-use Rattle.octets.proofs.Parts.{Apart, get_or-apart}
+use Rattle.graphfile.specs.Markings.{marking_bytes, marking_held, marking_put}
+use Rattle.octets.proofs.Parts.{get_or-apart}
 use Rattle.graphfile.proofs.LoneMarkings.{held-there, put-there, length-marking, marking-apart, marking-back, WholeMarking, HeldMarking}
 use Rattle.desk.specs.Places.{place_count, place_length, table_length, place_start, is_open, marking_at_place, with_marking, with_place, lowest_free}
 
@@ -78,7 +77,7 @@ module _ (taken : ℕ → Bool) (p : ℕ) where
       (λ a b t.
       either (split (ltb a p)) (λ low. absurd (non-e (taken a) t (lower a (ltb-true a p (T→true _ low))))) (λ up. ltb-false a p (F→false _ up)))
 
-  pub lowest-here : (r : Bool) → p < place_count → r ≡ taken p → not r ≡ true → passed taken p → p ≡ lowest_free taken
+  pub lowest-here : (r : Bool) → p < place_count → r ≡ taken p → r ≡ false → passed taken p → p ≡ lowest_free taken
   lowest-here r l e n = lowest-is (omega arith) (λ b. non-i (taken p) (λ t. false→F (sym (failed (taken p) r e n)) t))
 
   pub lowest-none : p ≤ place_count → place_count ≤ p → passed taken p → p ≡ lowest_free taken

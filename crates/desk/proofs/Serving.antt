@@ -1,6 +1,6 @@
 -- A request judged, then served: each way out of the code gives what the definitions have there. Assumes nothing.
 use mathlib.Core.Path.{◌≡◌, refl, sym, ap, subst, ◌∙◌}
-use mathlib.Core.Bool.{Bool, true, false, not}
+use mathlib.Core.Bool.{Bool, true, false}
 use mathlib.Core.List.{List}
 use Prim.Native.Nat.{ℕ, ◌≤◌, ◌<◌}
 use borrow.Author.Tests.{lt-ltb, le-ltb, ltb-true, ltb-false}
@@ -12,9 +12,9 @@ use Rattle.sets.specs.Answers.{is_done, then_ask}
 use Rattle.sets.specs.declared.set.Set.{Set}
 use Rattle.sets.specs.declared.answer.Answer.{Answer}
 use Rattle.sets.specs.declared.answer.Answer.TheVariants.{Done, BufferTooSmall, NoPlaceFree, NotOpen}
-use Rattle.sets.proofs.Tests.{true→T, non-e}
+use Rattle.sets.proofs.Tests.{true→T}
 use Rattle.sets.proofs.Asking.{done-is, both, refused, passed}
-use Rattle.sets.proofs.Ways.{failed, held, taken, passed-by, not-above}
+use Rattle.sets.proofs.Ways.{failed, held, taken, passed-by}
 use Rattle.engine.specs.Relations.{Relations, relations_of}
 use Rattle.engine.specs.Enabled.{marked}
 use Rattle.engine.specs.Steps.{after}
@@ -40,7 +40,7 @@ module _ (full : ℕ → Bool) (n : ℕ) (e : n ≡ lowest_free full) where
   unfolding non
   none_left l = sym (all-taken full ∙ ap (λ (k : ℕ). non (ltb k place_count)) (sym e) ∙ ap non (le-ltb n place_count l))
 
-pub open-low : (wide : Bool) (table : List ℕ) (p : ℕ) (r : Bool) → r ≡ is_open wide table p → not r ≡ false → p < place_count
+pub open-low : (wide : Bool) (table : List ℕ) (p : ℕ) (r : Bool) → r ≡ is_open wide table p → r ≡ true → p < place_count
 open-low wide table p r e n = open-below wide table p (true→T (sym (held (is_open wide table p) r e n)))
 
 module _ (m m' : Marking) (same : m ≡ m') where
@@ -87,10 +87,10 @@ module _ (wide : Bool) (table : List ℕ) (p : ℕ) where
       by false false = refl
 
   module _ (b : Answer) (d : Bool) (hb : b ≡ place_answer wide table p) (hd : d ≡ is_done b) where
-    pub no_call : (x : Answer) → not d ≡ true → b ≡ at_place wide table p x
+    pub no_call : (x : Answer) → d ≡ false → b ≡ at_place wide table p x
     no_call x n = refused b (place_answer wide table p) d hb hd x n ∙ asks x
 
-    pub of-call : (x y : Answer) → not d ≡ false → y ≡ x → y ≡ at_place wide table p x
+    pub of-call : (x y : Answer) → d ≡ true → y ≡ x → y ≡ at_place wide table p x
     of-call x y n e = e ∙ sym (passed b (place_answer wide table p) d hb hd x n) ∙ asks x
 
 pub ruleset calling = (no_call, of-call)
@@ -98,17 +98,17 @@ pub ruleset calling = (no_call, of-call)
 -- ---- served: x is the answer that the definition has, a the one that the code was given
 
 module _ (x a : Answer) (d : Bool) (h : a ≡ x) (k : d ≡ is_done a) where
-  pub table_same : (t new : List ℕ) → not d ≡ true → t ≡ when is_done x then new else t
+  pub table_same : (t new : List ℕ) → d ≡ false → t ≡ when is_done x then new else t
   table_same t new n = passed-by (is_done x) new t t (failed (is_done x) d (k ∙ ap is_done h) n) refl
 
-  pub table-new : (t new t' : List ℕ) → not d ≡ false → t' ≡ new → t' ≡ when is_done x then new else t
+  pub table-new : (t new t' : List ℕ) → d ≡ true → t' ≡ new → t' ≡ when is_done x then new else t
   table-new t new t' n e = taken (is_done x) new t t' (held (is_done x) d (k ∙ ap is_done h) n) e
 
-  pub opened-none : (p : ℕ) → not d ≡ true
+  pub opened-none : (p : ℕ) → d ≡ false
       → ◌≡◌ {A = Opened} (record { answer = a; place = no_place }) (record { answer = x; place = when is_done x then p else no_place })
   opened-none p n j = record { answer = h j; place = passed-by (is_done x) p no_place no_place (failed (is_done x) d (k ∙ ap is_done h) n) refl j }
 
-  pub opened-at : (p q : ℕ) → not d ≡ false → q ≡ p
+  pub opened-at : (p q : ℕ) → d ≡ true → q ≡ p
       → ◌≡◌ {A = Opened} (record { answer = a; place = q }) (record { answer = x; place = when is_done x then p else no_place })
   opened-at p q n e j = record { answer = h j; place = taken (is_done x) p no_place q (held (is_done x) d (k ∙ ap is_done h) n) e j }
 
@@ -190,7 +190,7 @@ module _ (wide : Bool) (table : List ℕ) where
       by true e all h = ltb-true (lowest_free (is_open wide table)) place_count e
       by false e all h = absurd (true→T (ap is_done (ap (λ (t : Bool). when t then NoPlaceFree else Done) (sym (all ∙ ap non e)) ∙ h)))
 
-  module _ (a : Answer) (d : Bool) (k : d ≡ is_done a) (n : not d ≡ false) where
+  module _ (a : Answer) (d : Bool) (k : d ≡ is_done a) (n : d ≡ true) where
     gone : (x : Answer) → a ≡ x → x ≡ Done
     gone x h = sym h ∙ done-is a (sym (held (is_done a) d k n))
 

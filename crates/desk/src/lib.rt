@@ -1,4 +1,6 @@
 // The call desk (02, 5/12): one graph, and a table of 32 places for the calls of vessels in port. The table is lent bytes.
+#![tactic(auto)]
+
 pub mod requests;
 pub mod table;
 pub mod way;

@@ -15,7 +15,7 @@ use sets::{Activity, Answer, Set};
 pub const NO_PLACE: usize = 255;
 
 // What open gives: its answer, and the place; 255 where it is refused.
-#[derive(Drop)]
+#[derive(Clone, Copy)]
 pub struct Opened {
     pub answer: Answer,
     pub place: usize,

@@ -18,7 +18,7 @@ use Rattle.engine.specs.declared.graph.Graph.{Graph}
 use Rattle.engine.specs.Markings.{state_of}
 use Rattle.engine.specs.Relations.{relation_count, relations_of}
 use Rattle.engine.specs.Steps.{waits, blocker, enabled, after, accepting}
-use Rattle.engine.specs.Judged.{state_within, row_within, rows_within, relations_within, graph_within, judged_for, judged}
+use Rattle.engine.specs.Judged.{state_within, row_within, rows_within, relations_within, graph_within, judged}
 use Rattle.engine.specs.Replay.{stepped_of, ending, replay_from, replay_of}
 use Rattle.engine.specs.Enabled.{marked, graph_at}
 use Rattle.engine.proofs.Acceptable.{judged-at, opening-kept, stepped-judged, replay-judged}

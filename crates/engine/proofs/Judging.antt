@@ -1,6 +1,6 @@
 -- A graph judged part by part. Assumes nothing.
 use mathlib.Core.Path.{◌≡◌, refl, ap, ◌∙◌}
-use mathlib.Core.Bool.{Bool, not, true, false}
+use mathlib.Core.Bool.{Bool, true, false}
 use mathlib.Core.List.{List}
 use Prim.Native.Nat.{ℕ}
 use lib.Dec.{T}
@@ -57,10 +57,10 @@ module _ (a i t : Bool) where
 
 -- ---- one judgement after another
 
-pub ask-stops : (x y a : Answer) (r : Bool) → a ≡ x → r ≡ is_done a → not r ≡ true → a ≡ then_ask x y
+pub ask-stops : (x y a : Answer) (r : Bool) → a ≡ x → r ≡ is_done a → r ≡ false → a ≡ then_ask x y
 ask-stops x y a r h k t = passed-by (is_done x) y x a (failed (is_done x) r (k ∙ ap is_done h) t) h
 
-pub ask-goes : (x y a z : Answer) (r : Bool) → a ≡ x → r ≡ is_done a → not r ≡ false → z ≡ y → z ≡ then_ask x y
+pub ask-goes : (x y a z : Answer) (r : Bool) → a ≡ x → r ≡ is_done a → r ≡ true → z ≡ y → z ≡ then_ask x y
 ask-goes x y a z r h k t e = taken (is_done x) y x z (held (is_done x) r (k ∙ ap is_done h) t) e
 
 pub asked-as : (x y a r : Answer) → a ≡ x → r ≡ then_ask a y → r ≡ then_ask x y

@@ -1,7 +1,7 @@
 -- What lies below a word: a replay that is cut there after each step is that of relations whose gains are cut, and where nothing is gained above, of
 -- the relations themselves. Assumes nothing.
 use mathlib.Core.Path.{◌≡◌, refl, sym, ap, ◌∙◌, subst}
-use mathlib.Core.Bool.{Bool, true, false, not}
+use mathlib.Core.Bool.{Bool, true, false}
 use mathlib.Core.List.{List, [], ◌∷◌}
 use Prim.Native.Nat.{ℕ, ◌+◌, ◌≤◌, ◌<◌}
 use native.Mathlib.Numerals.{add-one}
@@ -9,7 +9,7 @@ use native.Mathlib.Omega.{arith}
 use lib.Dec.{T, eqb, eqb→eq, ltb, lt→ltb, ltb→lt}
 use lib.ListN.{length, get_or, drop}
 use Rattle.sets.specs.Tests.{◌and◌, ◌or◌, non, when◌then◌else◌}
-use Rattle.sets.specs.Members.{width, word, mem, those, no_set, some_below, every_below, within}
+use Rattle.sets.specs.Members.{width, word, mem, those, no_set, some_below, within}
 use Rattle.sets.specs.Rows.{row_at, in_row}
 use Rattle.sets.specs.Tables.{table_at}
 use Rattle.sets.specs.Answers.{is_done}
@@ -82,10 +82,10 @@ module _ (q : Relations) (s : State) (low : Set) (t : Bool) (hl : low ≡ those 
   state-low : t ≡ state_within (those (λ a. ltb a word)) s
   state-low = ht ∙ ap (λ (u : Set). state_within u s) hl
 
-  pub few-not : not t ≡ true → false ≡ (state_within (those (λ a. ltb a word)) s and gains_few q)
+  pub few-not : t ≡ false → false ≡ (state_within (those (λ a. ltb a word)) s and gains_few q)
   few-not n = stops-l _ _ (failed _ t state-low n)
 
-  pub few-then : (g : Bool) → not t ≡ false → g ≡ gains_few q → g ≡ (state_within (those (λ a. ltb a word)) s and gains_few q)
+  pub few-then : (g : Bool) → t ≡ true → g ≡ gains_few q → g ≡ (state_within (those (λ a. ltb a word)) s and gains_few q)
   few-then g n hg = goes _ _ g (held _ t state-low n) hg
 
 -- ---- a cut that changes nothing
@@ -184,14 +184,14 @@ module _ (q : Relations) (events : Set) where
   module _ (trace : List ℕ) where
     -- one turn further, and either end
     pub run-few : (s : State) (n : ℕ) (R : Replayed) (a : Answer) (t : Bool) (s' : State) → n < length trace → a ≡ enabled events q s (get_or trace n 0)
-        → t ≡ is_done a → not t ≡ false → s' ≡ few_in (after q s (get_or trace n 0)) → Low s
+        → t ≡ is_done a → t ≡ true → s' ≡ few_in (after q s (get_or trace n 0)) → Low s
         → replay_from events (few_gains q) s n (drop n trace) ≡ R → replay_from events (few_gains q) s' (n + 1) (drop (n + 1) trace) ≡ R
     run-few s n R a t s' l ha ht z hs low inv =
         let done = true→T (sym (held _ t (ht ∙ ap is_done ha) z)) in
         run-next events (few_gains q) s n trace R a t l (ha ∙ enabled-same s (get_or trace n 0)) ht s' z (hs ∙ next-same s (get_or trace n 0) low done) inv
 
     pub few-stop : (s : State) (n : ℕ) (R : Replayed) (a : Answer) (t : Bool) → n < length trace → a ≡ enabled events q s (get_or trace n 0) → t ≡ is_done a
-        → not t ≡ true → replay_from events (few_gains q) s n (drop n trace) ≡ R
+        → t ≡ false → replay_from events (few_gains q) s n (drop n trace) ≡ R
         → walked_of (ending a n (marked events (few_gains q) s) false) ≡ walked_of R
     few-stop s n R a t l ha ht z inv = walk-stop events (few_gains q) s n trace R a t l (ha ∙ enabled-same s (get_or trace n 0)) ht z inv
 

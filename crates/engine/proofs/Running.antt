@@ -1,6 +1,6 @@
 -- The answers of the public functions, and a replay one event further. Assumes nothing.
 use mathlib.Core.Path.{◌≡◌, refl, sym, ap, ap₂, ◌∙◌}
-use mathlib.Core.Bool.{Bool, true, false, not}
+use mathlib.Core.Bool.{Bool, true, false}
 use mathlib.Core.List.{List, [], ◌∷◌}
 use Prim.Native.Nat.{ℕ, suc, ◌+◌, ◌≤◌, ◌<◌}
 use native.Mathlib.Numerals.{add-one}
@@ -25,19 +25,19 @@ use Rattle.engine.specs.Replay.{stepped_by, ending, walked_of, replay_from}
 use Rattle.sets.proofs.Ways.{failed, held, taken, passed-by, stops-l, goes}
 
 -- what an answer's test tells of the answer that the definition has
-undone : (x a : Answer) (r : Bool) → a ≡ x → r ≡ is_done a → not r ≡ true → false ≡ is_done x
+undone : (x a : Answer) (r : Bool) → a ≡ x → r ≡ is_done a → r ≡ false → false ≡ is_done x
 undone x a r h k t = failed (is_done x) r (k ∙ ap is_done h) t
 
-done : (x a : Answer) (r : Bool) → a ≡ x → r ≡ is_done a → not r ≡ false → true ≡ is_done x
+done : (x a : Answer) (r : Bool) → a ≡ x → r ≡ is_done a → r ≡ true → true ≡ is_done x
 done x a r h k t = held (is_done x) r (k ∙ ap is_done h) t
 
 -- a step by its answer
 module _ (a : Answer) (r : Bool) (k : r ≡ is_done a) where
-  pub step-refused : (m m' : Marking) → not r ≡ true
+  pub step-refused : (m m' : Marking) → r ≡ false
       → ◌≡◌ {A = Stepped} (record { answer = a; marking = m }) (record { answer = a; marking = when is_done a then m' else m })
   step-refused m m' t j = record { answer = a; marking = passed-by (is_done a) m' m m (undone a a r refl k t) refl j }
 
-  pub step-done : (m n : Marking) (events : Set) (q : Relations) (s s' : State) → not r ≡ false → s' ≡ s → n ≡ marked events q s'
+  pub step-done : (m n : Marking) (events : Set) (q : Relations) (s s' : State) → r ≡ true → s' ≡ s → n ≡ marked events q s'
       → ◌≡◌ {A = Stepped} (record { answer = a; marking = n }) (record { answer = a; marking = when is_done a then marked events q s else m })
   step-done m n events q s s' t hs e j =
       record { answer = a; marking = taken (is_done a) (marked events q s) m n (done a a r refl k t) (e ∙ ap (marked events q) hs) j }
@@ -48,19 +48,19 @@ stepped-as x a events q m e r h k = k ∙ ap (λ (b : Answer). stepped_by b even
 
 -- x is the answer that the definition has, a the one that the code was given
 module _ (x a : Answer) (r : Bool) (h : a ≡ x) (k : r ≡ is_done a) where
-  pub verdict-refused : (y : Bool) → not r ≡ true
+  pub verdict-refused : (y : Bool) → r ≡ false
       → ◌≡◌ {A = Verdict} (record { answer = a; accepting = false }) (record { answer = x; accepting = is_done x and y })
   verdict-refused y t j = record { answer = h j; accepting = stops-l (is_done x) y (undone x a r h k t) j }
 
-  pub verdict-done : (y s : Bool) → not r ≡ false → s ≡ y
+  pub verdict-done : (y s : Bool) → r ≡ true → s ≡ y
       → ◌≡◌ {A = Verdict} (record { answer = a; accepting = s }) (record { answer = x; accepting = is_done x and y })
   verdict-done y s t e j = record { answer = h j; accepting = goes (is_done x) y s (done x a r h k t) e j }
 
-  pub replay-refused : (R : Replayed) → not r ≡ true → ending a 0 empty_marking false ≡ when is_done x then R else ending x 0 empty_marking false
+  pub replay-refused : (R : Replayed) → r ≡ false → ending a 0 empty_marking false ≡ when is_done x then R else ending x 0 empty_marking false
   replay-refused R t =
       ap (λ (b : Answer). ending b 0 empty_marking false) h ∙ passed-by (is_done x) R _ _ (undone x a r h k t) refl
 
-  pub replay-done : (R S : Replayed) → not r ≡ false → S ≡ R → S ≡ when is_done x then R else ending x 0 empty_marking false
+  pub replay-done : (R S : Replayed) → r ≡ true → S ≡ R → S ≡ when is_done x then R else ending x 0 empty_marking false
   replay-done R S t e = taken (is_done x) R _ S (done x a r h k t) e
 
 -- ---- the replay
@@ -76,7 +76,7 @@ module _ (events : Set) (q : Relations) (s : State) (n : ℕ) (trace : List ℕ)
   opened l inv = ap (replay_from events q s n) (sym (drop-cons trace n 0 l)) ∙ inv
 
   module _ (a : Answer) (t : Bool) (l : n < length trace) (ha : a ≡ enabled events q s (get_or trace n 0)) (ht : t ≡ is_done a) where
-    pub run-next : (s' : State) → not t ≡ false → s' ≡ after q s (get_or trace n 0) → replay_from events q s n (drop n trace) ≡ R
+    pub run-next : (s' : State) → t ≡ true → s' ≡ after q s (get_or trace n 0) → replay_from events q s n (drop n trace) ≡ R
         → replay_from events q s' (n + 1) (drop (n + 1) trace) ≡ R
     run-next s' z hs inv =
         ap (λ (k : ℕ). replay_from events q s' (n + 1) (drop k trace)) (add-one n)
@@ -84,13 +84,13 @@ module _ (events : Set) (q : Relations) (s : State) (n : ℕ) (trace : List ℕ)
         ∙ taken (is_done (enabled events q s (get_or trace n 0))) _ _ _ (done _ a t ha ht z) refl
         ∙ opened l inv
 
-    pub run-stop : (m : Marking) → m ≡ marked events q s → not t ≡ true → replay_from events q s n (drop n trace) ≡ R → ending a n m false ≡ R
+    pub run-stop : (m : Marking) → m ≡ marked events q s → t ≡ false → replay_from events q s n (drop n trace) ≡ R → ending a n m false ≡ R
     run-stop m hm z inv =
         ap₂ (λ (b : Answer) (k : Marking). ending b n k false) ha hm
         ∙ passed-by (is_done (enabled events q s (get_or trace n 0))) _ _ _ (undone _ a t ha ht z) refl
         ∙ opened l inv
 
-    pub walk-stop : not t ≡ true → replay_from events q s n (drop n trace) ≡ R → walked_of (ending a n (marked events q s) false) ≡ walked_of R
+    pub walk-stop : t ≡ false → replay_from events q s n (drop n trace) ≡ R → walked_of (ending a n (marked events q s) false) ≡ walked_of R
     walk-stop z inv = ap walked_of (run-stop (marked events q s) refl z inv)
 
   pub run_end : (m : Marking) (y : Bool) → length trace ≤ n → m ≡ marked events q s → y ≡ accepting s

@@ -1,6 +1,6 @@
 -- What lies below 64 of a set, a state and what a step gains (02, 10/12). The loop of a replay that goes on one word is said by them, and so is
 -- `walk_in`; that it changes nothing where all lies there is a theorem (`few-graph`), so a reader of `walk`, `enabled_set` or `port` need not believe them.
-use Rattle.std.specs.Prelude.{Bool, ℕ, ltb}
+use Rattle.std.specs.Prelude.{Bool, ltb}
 use Rattle.sets.specs.Tests.{◌and◌, ◌or◌, non, when◌then◌else◌}
 use Rattle.sets.specs.Members.{width, word, mem, those, some_below, every_below}
 use Rattle.sets.specs.declared.set.Set.{Set}

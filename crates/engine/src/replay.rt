@@ -16,7 +16,7 @@ use sets::{Activity, Answer, Place, Set, tables};
 
 // Where a replay ends: its answer, the place of the event refused (the length where all are done), the marking then, and
 // whether it is accepting.
-#[derive(Drop)]
+#[derive(Clone, Copy)]
 pub struct Replayed {
     pub answer: Answer,
     pub place: Place,
@@ -26,7 +26,7 @@ pub struct Replayed {
 
 // The same with the state in the marking's place: for callers that hand no marking on, since working the set of enabled activities out
 // takes as long as some hundred events.
-#[derive(Drop)]
+#[derive(Clone, Copy)]
 pub struct Walked {
     pub answer: Answer,
     pub place: Place,

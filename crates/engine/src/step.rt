@@ -13,14 +13,14 @@ use crate::{enabled, judge};
 use sets::{Activity, Answer, Set, tables};
 
 // What a step gives: its answer, and the marking after it; the same marking where it is refused.
-#[derive(Drop)]
+#[derive(Clone, Copy)]
 pub struct Stepped {
     pub answer: Answer,
     pub marking: Marking,
 }
 
 // Whether a marking is accepting; no where it is refused.
-#[derive(Drop)]
+#[derive(Clone, Copy)]
 pub struct Verdict {
     pub answer: Answer,
     pub accepting: bool,

@@ -1,6 +1,6 @@
 -- The search, turn by turn: the least that is open from a number on, the first way of so many steps, the fewest steps. Assumes nothing.
 use mathlib.Core.Path.{◌≡◌, refl, sym, ap, subst, ◌∙◌}
-use mathlib.Core.Bool.{Bool, true, false, not}
+use mathlib.Core.Bool.{Bool, true, false}
 use mathlib.Core.List.{List, [], ◌∷◌}
 use Prim.Native.Nat.{ℕ, suc, ◌+◌, ◌-◌, ◌≤◌, ◌<◌}
 use native.Mathlib.Nat.{not-suc-le-zero, pos_of_ne-zero}
@@ -257,10 +257,10 @@ module _ (events : Set) (r : Relations) (m : State) where
 -- ---- the judgement first
 
 module _ (x a : Answer) (r : Bool) (h : a ≡ x) (k : r ≡ is_done a) where
-  pub finish-refused : (F : Finished) → not r ≡ true → finished_by a [] ≡ when is_done x then F else finished_by x []
+  pub finish-refused : (F : Finished) → r ≡ false → finished_by a [] ≡ when is_done x then F else finished_by x []
   finish-refused F t = ap (λ (b : Answer). finished_by b []) h ∙ passed-by (is_done x) F _ _ (failed (is_done x) r (k ∙ ap is_done h) t) refl
 
-  pub finish-done : (F G : Finished) → not r ≡ false → G ≡ F → G ≡ when is_done x then F else finished_by x []
+  pub finish-done : (F G : Finished) → r ≡ true → G ≡ F → G ≡ when is_done x then F else finished_by x []
   finish-done F G t e = taken (is_done x) F _ G (held (is_done x) r (k ∙ ap is_done h) t) e
 
 module _ (m : Marking) (a : Answer) (f : Finished) where

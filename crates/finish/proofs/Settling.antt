@@ -1,10 +1,10 @@
 -- Which steps can be the last: the table of what settles what, how it narrows a set, and that no step is lost by it. Assumes nothing.
 use mathlib.Core.Path.{◌≡◌, refl, sym, ap, subst, ◌∙◌}
-use mathlib.Core.Bool.{Bool, true, false, not}
+use mathlib.Core.Bool.{Bool, true, false}
 use mathlib.Core.List.{List}
 use Prim.Native.Nat.{ℕ, ◌-◌, ◌<◌}
 use native.Mathlib.Omega.{arith}
-use borrow.Author.Tests.{not-true, not-false, eq-eqb, ne_eqb, eqb-true}
+use borrow.Author.Tests.{eq-eqb, ne_eqb, eqb-true}
 use lib.Dec.{T, eqb, eqb→eq}
 use Rattle.sets.specs.Tests.{◌and◌, ◌or◌, non, when◌then◌else◌}
 use Rattle.sets.specs.Members.{width, mem, those, no_set, some_below, least_below, is_empty}
@@ -42,11 +42,11 @@ module _ (tables : List ℕ) (a : ℕ) where
         let e = joined ◌and◌ due gained owed (r.responses a) (r.includes a) (is_row due _ a hd) (is_row gained _ a hg) ho in
         he ∙ empty-none owed ∙ ap non (some-of_lem owed (λ y. r.responses a y and r.includes a y) (λ y t. t) e)
 
-    pub settled-none : not d ≡ true → no_set ≡ those (settles (in_tables tables) a)
+    pub settled-none : d ≡ false → no_set ≡ those (settles (in_tables tables) a)
     unfolding settles
-    settled-none n = where-false d _ owes-none lets_go (not-true d n)
+    settled-none n = where-false d _ owes-none lets_go (n)
 
-    pub settled-some : (shut lost one out : Set) → not d ≡ false → shut ≡ row_at (table_at tables 3) a
+    pub settled-some : (shut lost one out : Set) → d ≡ true → shut ≡ row_at (table_at tables 3) a
         → lost ≡ those (λ x. mem shut x and non (mem gained x)) → one ≡ those (λ x. eqb x a) → out ≡ those (λ x. mem lost x or mem one x)
         → out ≡ those (settles (in_tables tables) a)
     unfolding settles
@@ -55,7 +55,7 @@ module _ (tables : List ℕ) (a : ℕ) where
         where-true d _ owes-none lets_go out
         (joined ◌or◌ lost one out (λ x. r.excludes a x and non (r.includes a x)) (λ x. eqb x a)
         (is-those lost _ gone) (is-those one _ h1) h)
-        (not-false d n)
+        (n)
 
 pub settlers-by : (events : Set) (q : Relations) (rows out : List ℕ) → rows ≡ rows_for events (settles q) → out ≡ rows_of (turned rows)
     → out ≡ settlers_of events q
@@ -89,9 +89,9 @@ module _ (rows : List ℕ) where
           ∙ none-those (in_all rows out rest) (λ a l. F→false _ (λ q. empty-e out (true→T e) a l (and_l _ _ q)))
           ∙ inv.same
 
-      pub narrow-end : d ≡ is_empty rest → not d ≡ false → out ≡ those (in_all rows live owed)
+      pub narrow-end : d ≡ is_empty rest → d ≡ true → out ≡ those (in_all rows live owed)
       narrow-end h n =
-          let e = sym h ∙ not-false d n in
+          let e = sym h ∙ n in
           sym inv.whole
           ∙ those-ext (mem out) (in_all rows out rest)
           (λ a l. T-ext (mem out a) (in_all rows out rest a)
@@ -99,7 +99,7 @@ module _ (rows : List ℕ) where
           (λ t. and_l _ _ t))
           ∙ inv.same
 
-      module _ (out' rest' : Set) (hr : d ≡ is_empty rest) (hn : not d ≡ true)
+      module _ (out' rest' : Set) (hr : d ≡ is_empty rest) (hn : d ≡ false)
           (ho : out' ≡ those (λ a. mem out a and in_row rows (least_below width (mem rest)) a))
           (hm : rest' ≡ those (λ b. mem rest b and non (eqb b (least_below width (mem rest))))) where
         abbrev k : ℕ

@@ -12,7 +12,7 @@ use Rattle.sets.specs.Rows.{row_at, in_row}
 use Rattle.sets.specs.Tables.{table_at}
 use Rattle.sets.specs.declared.set.Set.{Set}
 use Rattle.engine.specs.Relations.{Relations, in_tables}
-use Rattle.finish.specs.Shut.{nothing, shut_after, shut_from, shut_by}
+use Rattle.finish.specs.Shut.{nothing, shut_after, shut_from}
 
 -- ---- one event
 

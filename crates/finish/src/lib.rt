@@ -1,4 +1,6 @@
 // How a half-done call can still finish (02, 8/12).
+#![tactic(auto)]
+
 pub mod search;
 pub mod settle;
 pub mod shut;

@@ -11,7 +11,7 @@ use engine::{Graph, Head, Marking, Relations, State, judge, step};
 use sets::{Activity, Answer, Rows, Set};
 
 // Four steps; 255 in the places that are not used.
-#[derive(Drop)]
+#[derive(Clone, Copy)]
 pub struct Way {
     pub first: Activity,
     pub second: Activity,
@@ -20,14 +20,14 @@ pub struct Way {
 }
 
 // What a search gives: its answer, and the way out; four 255s where it is refused.
-#[derive(Drop)]
+#[derive(Clone, Copy)]
 pub struct Finished {
     pub answer: Answer,
     pub way: Way,
 }
 
 // Whether there is a way of the length asked for, and the first one.
-#[derive(Drop)]
+#[derive(Clone, Copy)]
 struct Found {
     there: bool,
     way: Way,

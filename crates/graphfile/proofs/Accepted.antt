@@ -1,8 +1,8 @@
 -- What the answer `Done` says of a file, part by part, and back. Assumes nothing.
 use mathlib.Core.Path.{◌≡◌, refl, ◌∙◌}
-use mathlib.Core.Bool.{Bool, true, false, not}
+use mathlib.Core.Bool.{Bool, true, false}
 use mathlib.Core.List.{List}
-use Prim.Native.Nat.{ℕ, ◌*◌, ◌≤◌, ◌<◌}
+use Prim.Native.Nat.{ℕ, ◌≤◌, ◌<◌}
 use native.Mathlib.Omega.{arith}
 use borrow.Author.Tests.{le-ltb, eq-eqb, ltb-false, eqb-true}
 use lib.Dec.{T, eqb, ltb}
@@ -157,6 +157,6 @@ done-entry bytes r few e = rw (le-ltb (most_rows (wide_in bytes)) (count_in byte
 
 -- ---- what the code goes on by
 
-pub end-within : (bytes : List ℕ) (a : Answer) (d : Bool) → a ≡ judged_before_rows bytes → d ≡ is_done a → not d ≡ false
+pub end-within : (bytes : List ℕ) (a : Answer) (d : Bool) → a ≡ judged_before_rows bytes → d ≡ is_done a → d ≡ true
     → end_of bytes ≤ length bytes
 end-within bytes a d e t n = omega (arith, (front-done bytes (gone-on a (judged_before_rows bytes) d e t n)).3)

@@ -1,6 +1,6 @@
 -- All that stands before the rows, question after question. Assumes nothing.
 use mathlib.Core.Path.{◌≡◌, sym, ◌∙◌}
-use mathlib.Core.Bool.{Bool, true, false, not}
+use mathlib.Core.Bool.{Bool, true, false}
 use mathlib.Core.List.{List}
 use Prim.Native.Nat.{ℕ, ◌≤◌, ◌<◌}
 use native.Mathlib.Omega.{arith}
@@ -21,7 +21,7 @@ unfolding judged_before_rows
 front-short bytes n hn l = rw (lt-ltb (length bytes) (head_length false) (omega arith))
 
 -- the head was accepted, so all of it is there
-pub head-kept : (bytes : List ℕ) (a : Answer) (d : Bool) → a ≡ judged_head bytes → d ≡ is_done a → not d ≡ false → head_length (wide_in bytes) ≤ length bytes
+pub head-kept : (bytes : List ℕ) (a : Answer) (d : Bool) → a ≡ judged_head bytes → d ≡ is_done a → d ≡ true → head_length (wide_in bytes) ≤ length bytes
 head-kept bytes a d e t n = (head_done bytes (gone-on a (judged_head bytes) d e t n)).long
 
 module _ (bytes : List ℕ) (n : ℕ) (hn : n ≡ head_length false) (long : n ≤ length bytes) (head : Answer) (d : Bool) (e : head ≡ judged_head bytes) (t : d
@@ -30,16 +30,16 @@ module _ (bytes : List ℕ) (n : ℕ) (hn : n ≡ head_length false) (long : n �
   unfolding judged_before_rows
   front = rw (le-ltb (length bytes) (head_length false) (omega arith))
 
-  pub front-head : not d ≡ true → head ≡ judged_before_rows bytes
+  pub front-head : d ≡ false → head ≡ judged_before_rows bytes
   front-head f = refused head _ d e t _ f ∙ sym front
 
-  module _ (f : not d ≡ false) (entries : Answer) (d' : Bool) (e' : entries ≡ first_refusal relation_count (judged_entry bytes)) (t' : d'
+  module _ (f : d ≡ true) (entries : Answer) (d' : Bool) (e' : entries ≡ first_refusal relation_count (judged_entry bytes)) (t' : d'
       ≡ is_done entries) where
     after-head : judged_before_rows bytes ≡ then_ask (first_refusal relation_count (judged_entry bytes)) (judged_end bytes)
     after-head = front ∙ passed head _ d e t _ f
 
-    pub front-entries : not d' ≡ true → entries ≡ judged_before_rows bytes
+    pub front-entries : d' ≡ false → entries ≡ judged_before_rows bytes
     front-entries f' = refused entries _ d' e' t' _ f' ∙ sym after-head
 
-    pub front-end : not d' ≡ false → (a : Answer) → a ≡ judged_end bytes → a ≡ judged_before_rows bytes
+    pub front-end : d' ≡ true → (a : Answer) → a ≡ judged_end bytes → a ≡ judged_before_rows bytes
     front-end f' a h = h ∙ sym (after-head ∙ passed entries _ d' e' t' _ f')

@@ -10,7 +10,7 @@ use borrow.Author.Tests.{le-ltb}
 use lib.Arith.{lt_of_le-ne}
 use lib.Dec.{T, eqb, eqb→eq}
 use lib.ListN.{length}
-use Rattle.sets.specs.Tests.{non, when◌then◌else◌}
+use Rattle.sets.specs.Tests.{when◌then◌else◌}
 use Rattle.sets.specs.Members.{width, mem, no_set, is_empty}
 use Rattle.sets.specs.Rows.{row_words, no_rows, row_at, with_row}
 use Rattle.sets.specs.Tables.{table_at}
@@ -24,7 +24,7 @@ use Rattle.sets.proofs.Members.{mem-none, empty-no_set, within-i, whole-low}
 use Rattle.sets.proofs.RowLaws.{row-none, row-put-other, length-put}
 use Rattle.octets.proofs.Opens.{opens-is}
 use Rattle.engine.specs.Relations.{relation_count}
-use Rattle.engine.specs.Judged.{row_within, rows_within, relations_within, graph_within, judged_for, judged}
+use Rattle.engine.specs.Judged.{row_within, rows_within, relations_within, graph_within, judged}
 use Rattle.engine.proofs.Acceptable.{judged-at}
 use Rattle.graphfile.specs.Layout.{letters, wide_for, head_length, row_length, rows_length, row_place, activities_in, events_in, state_in, head_in, offset_in, count_in, sum_of}
 use Rattle.octets.specs.Editions.{wide_in}

@@ -1,12 +1,11 @@
 -- The reader's loop over the rows of a relation, and what it reads put together. Assumes nothing.
-use mathlib.Core.Path.{◌≡◌, refl, sym, ap, ◌∙◌, subst}
-use mathlib.Core.Bool.{Bool, true, false, not}
+use mathlib.Core.Path.{◌≡◌, refl, sym, ap, ◌∙◌}
+use mathlib.Core.Bool.{Bool, true, false}
 use mathlib.Core.List.{List}
 use Prim.Native.Nat.{ℕ, suc, ◌+◌, ◌-◌, ◌≤◌, ◌<◌}
 use native.Mathlib.Nat.{sub-zero, add-zero}
 use native.Mathlib.Numerals.{add-one}
 use native.Mathlib.Omega.{arith}
-use borrow.Author.Tests.{not-true, not-false}
 use lib.ListN.{length}
 use Rattle.sets.specs.Tests.{when◌then◌else◌}
 use Rattle.sets.specs.Members.{no_set}
@@ -61,11 +60,11 @@ module _ (bytes : List ℕ) (r : ℕ) where
 -- ---- row by row: judged, then put
 
 -- where something is refused, nothing is said of the tables
-pub nothing-due : (a : Answer) (d : Bool) → d ≡ is_done a → not d ≡ true → {P : Type 0} → a ≡ Done → P
+pub nothing-due : (a : Answer) (d : Bool) → d ≡ is_done a → d ≡ false → {P : Type 0} → a ≡ Done → P
 nothing-due a d t n = never_done a a d refl t n
 
 module _ (key : ℕ) (events row : Set) (above t : Bool) (ht : t ≡ is_done (row_answer events key row above)) (a : Answer)
-    (ha : a ≡ row_answer events key row false) (n : not t ≡ true) where
+    (ha : a ≡ row_answer events key row false) (n : t ≡ false) where
   refused-with : a ≡ row_answer events key row above
   refused-with = ha ∙ row-refused events key row above t ht n
 
@@ -81,13 +80,13 @@ module _ (bytes : List ℕ) (first j key : ℕ) (events row : Set) (above t : Bo
   here : row_answer events key row above ≡ judged_row bytes first j
   here = row-judged bytes first j key events row above he hk hr hu
 
-  pub take-stopped : (a : Answer) (count : ℕ) → j < count → a ≡ row_answer events key row false → not t ≡ true
+  pub take-stopped : (a : Answer) (count : ℕ) → j < count → a ≡ row_answer events key row false → t ≡ false
       → a ≡ first_refusal count (judged_row bytes first)
   take-stopped a count l ha n =
       turn-refused (judged_row bytes first) j a t (refused-with key events row above t ht a ha n ∙ here) (not_done key events row above t ht a ha n) f
       count l n
 
-  pub take-passed : not t ≡ false → first_refusal (j + 1) (judged_row bytes first) ≡ Done
+  pub take-passed : t ≡ true → first_refusal (j + 1) (judged_row bytes first) ≡ Done
   take-passed n = turn-passed (judged_row bytes first) j (row_answer events key row above) t here ht f n
 
 pub ruleset taking = (turns-begin, turns-end, take-passed, take-stopped, fill-begin, fill-turn, fill_end)
@@ -114,7 +113,7 @@ module _ (bytes tables : List ℕ) where
 
   module _ (held : List ℕ) (r : ℕ) (h : held ≡ with_relations bytes tables r) where
     pub tables-turn : (held' : List ℕ) (a : Answer) (d : Bool) → (a ≡ Done → held' ≡ with_relation bytes held r) → d ≡ is_done a
-        → not d ≡ false
+        → d ≡ true
         → held' ≡ with_relations bytes tables (r + 1)
     unfolding with_relations
     tables-turn held' a d g t n =
@@ -130,11 +129,11 @@ pub ruleset taking-relations = (turns, tables-none, tables-turn, tables-all)
 -- ---- the whole file
 
 module _ (bytes : List ℕ) (a : Answer) (d : Bool) (e : a ≡ judged_before_rows bytes) (t : d ≡ is_done a) where
-  pub front-stops : not d ≡ true → a ≡ judged_file bytes
+  pub front-stops : d ≡ false → a ≡ judged_file bytes
   unfolding judged_file
   front-stops n = refused a (judged_before_rows bytes) d e t _ n
 
-  pub rows-follow : not d ≡ false → (x : Answer) → x ≡ first_refusal relation_count (judged_relation bytes) → x ≡ judged_file bytes
+  pub rows-follow : d ≡ true → (x : Answer) → x ≡ first_refusal relation_count (judged_relation bytes) → x ≡ judged_file bytes
   unfolding judged_file
   rows-follow n x h = h ∙ sym (passed a (judged_before_rows bytes) d e t _ n)
 
@@ -160,21 +159,21 @@ module _ (bytes : List ℕ) (a : Answer) (d : Bool) (e : a ≡ judged_file bytes
   unfolding bare_tables
   held b tables tables' q h = h ∙ ap (λ (y : Bool). when y then with_relations bytes tables relation_count else no_tables relation_count) (sym (said b q))
 
-  module _ (n : not d ≡ true) where
+  module _ (n : d ≡ false) where
     pub bare-refused : ◌≡◌ {A = Bare} (record { answer = a; events = no_set; state = empty_state }) (bare_of bytes)
-    bare-refused = bare false no_set empty_state (not-true d n) refl refl
+    bare-refused = bare false no_set empty_state (n) refl refl
 
     pub bare-cleared : (tables tables' : List ℕ) → tables' ≡ no_tables relation_count → tables' ≡ bare_tables bytes tables
-    bare-cleared tables tables' h = held false tables tables' (not-true d n) h
+    bare-cleared tables tables' h = held false tables tables' (n) h
 
-  module _ (n : not d ≡ false) where
+  module _ (n : d ≡ true) where
     pub bare-filled : (tables tables' : List ℕ) → (a ≡ Done → tables' ≡ with_relations bytes tables relation_count) → tables' ≡ bare_tables bytes tables
-    bare-filled tables tables' h = held true tables tables' (not-false d n) (h (gone-on a a d refl t n))
+    bare-filled tables tables' h = held true tables tables' (n) (h (gone-on a a d refl t n))
 
     -- as the code finds them, by the form
     pub bare-found : (w : Bool) (events : Set) (s : State) → w ≡ wide_in bytes → events ≡ set_at w bytes events_place → s ≡ state_in bytes
         → ◌≡◌ {A = Bare} (record { answer = a; events = events; state = s }) (bare_of bytes)
-    bare-found w events s hw he hs = bare true events s (not-false d n) (events-found bytes w events hw he) hs
+    bare-found w events s hw he hs = bare true events s (n) (events-found bytes w events hw he) hs
 
 -- the same with the set
 module _ (bytes : List ℕ) (b : Bare) (e : b ≡ bare_of bytes) (d : Bool) (t : d ≡ is_done b.answer) where

@@ -1,6 +1,6 @@
 -- What the code finds by a file's form is what stands there; and the numbers that it counts with are a machine's. Assumes nothing.
-use mathlib.Core.Path.{◌≡◌, refl, sym, ap, ◌∙◌, subst}
-use mathlib.Core.Bool.{Bool, true, false}
+use mathlib.Core.Path.{◌≡◌, sym, ap, ◌∙◌, subst}
+use mathlib.Core.Bool.{Bool}
 use mathlib.Core.List.{List}
 use Prim.Native.Nat.{ℕ, suc, ◌+◌, ◌-◌, ◌*◌, ◌^◌, ◌≤◌, ◌<◌}
 use native.Mathlib.Omega.{arith}
@@ -17,8 +17,8 @@ use Rattle.engine.specs.Relations.{relation_count, head_of, in_tables}
 use Rattle.engine.specs.Enabled.{marked}
 use Rattle.octets.specs.Numbers.{number_length, number_at}
 use Rattle.octets.specs.Sets.{set_length, set_at}
-use Rattle.octets.specs.Editions.{wide_edition, edition_for, edition_in}
-use Rattle.graphfile.specs.Layout.{wide_for, activities_place, events_place, executed_place, entries_place, entry_length, head_length, rows_length}
+use Rattle.octets.specs.Editions.{edition_for, edition_in}
+use Rattle.graphfile.specs.Layout.{wide_for, activities_place, events_place, executed_place, entries_place, head_length, rows_length}
 use Rattle.octets.specs.Editions.{wide_in}
 use Rattle.graphfile.specs.Layout.{events_in, state_at, state_in, marking_at, head_at, head_in, offset_in, count_in, row_place, key_in, row_in}
 use Rattle.graphfile.specs.Markings.{marking_length}

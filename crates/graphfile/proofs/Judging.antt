@@ -1,10 +1,10 @@
 -- The refusals of a file's parts, as the code finds them one after the other. Assumes nothing.
 use mathlib.Core.Path.{◌≡◌, refl, sym, ap, ap₂, ◌∙◌}
-use mathlib.Core.Bool.{Bool, true, false, not}
+use mathlib.Core.Bool.{Bool, true, false}
 use mathlib.Core.List.{List}
-use Prim.Native.Nat.{ℕ, zero, suc, ◌+◌, ◌-◌, ◌*◌, ◌≤◌, ◌<◌}
+use Prim.Native.Nat.{ℕ, zero, suc, ◌+◌, ◌-◌, ◌≤◌, ◌<◌}
 use native.Mathlib.Omega.{arith}
-use borrow.Author.Tests.{lt-ltb, le-ltb, eq-eqb, ne_eqb, not-true, not-false}
+use borrow.Author.Tests.{lt-ltb, le-ltb, eq-eqb, ne_eqb}
 use lib.Dec.{ltb}
 use lib.ListN.{length}
 use Rattle.sets.specs.Tests.{◌or◌, non, when◌then◌else◌}
@@ -96,49 +96,49 @@ rises_next bytes first (suc j) before key n e f =
 pub ruleset keys = (rises-first, rises_next)
 
 module _ (events : Set) (key : ℕ) (row : Set) (above : Bool) (k : Bool) (hk : k ≡ mem events key) where
-  pub row-no-event : not k ≡ true → Outside ≡ row_answer events key row above
+  pub row-no-event : k ≡ false → Outside ≡ row_answer events key row above
   unfolding row_answer ◌or◌ non
-  row-no-event n = rw (← hk, not-true k n)
+  row-no-event n = rw (← hk, n)
 
-  module _ (yk : not k ≡ false) (w : Bool) (hw : w ≡ within row events) where
-    pub row-outside : not w ≡ true → Outside ≡ row_answer events key row above
+  module _ (yk : k ≡ true) (w : Bool) (hw : w ≡ within row events) where
+    pub row-outside : w ≡ false → Outside ≡ row_answer events key row above
     unfolding row_answer ◌or◌ non
-    row-outside n = rw (← hk, not-false k yk, ← hw, not-true w n)
+    row-outside n = rw (← hk, yk, ← hw, n)
 
-    module _ (yw : not w ≡ false) (e : Bool) (he : e ≡ is_empty row) where
+    module _ (yw : w ≡ true) (e : Bool) (he : e ≡ is_empty row) where
       pub row-empty : e ≡ true → BadRow ≡ row_answer events key row above
       unfolding row_answer ◌or◌ non
-      row-empty n = rw (← hk, not-false k yk, ← hw, not-false w yw, ← he, n)
+      row-empty n = rw (← hk, yk, ← hw, yw, ← he, n)
 
-      pub row-falls : e ≡ false → not above ≡ true → BadRow ≡ row_answer events key row above
+      pub row-falls : e ≡ false → above ≡ false → BadRow ≡ row_answer events key row above
       unfolding row_answer ◌or◌ non
-      row-falls n a = rw (← hk, not-false k yk, ← hw, not-false w yw, ← he, n, not-true above a)
+      row-falls n a = rw (← hk, yk, ← hw, yw, ← he, n, a)
 
-      pub row-right : e ≡ false → not above ≡ false → Done ≡ row_answer events key row above
+      pub row-right : e ≡ false → above ≡ true → Done ≡ row_answer events key row above
       unfolding row_answer ◌or◌ non
-      row-right n a = rw (← hk, not-false k yk, ← hw, not-false w yw, ← he, n, not-false above a)
+      row-right n a = rw (← hk, yk, ← hw, yw, ← he, n, a)
 
       -- the last test decides
       pub right-above : e ≡ false → above ≡ is_done (row_answer events key row above)
       right-above n = by above refl
         where
           by : (u : Bool) → above ≡ u → u ≡ is_done (row_answer events key row above)
-          by true h = ap is_done (row-right n (ap not h))
-          by false h = ap is_done (row-falls n (ap not h))
+          by true h = ap is_done (row-right n h)
+          by false h = ap is_done (row-falls n h)
 
       pub right-empty : e ≡ true → false ≡ is_done (row_answer events key row above)
       right-empty n = ap is_done (row-empty n)
 
-    pub right-outside : not w ≡ true → false ≡ is_done (row_answer events key row above)
+    pub right-outside : w ≡ false → false ≡ is_done (row_answer events key row above)
     right-outside n = ap is_done (row-outside n)
 
-  pub right-no-event : not k ≡ true → false ≡ is_done (row_answer events key row above)
+  pub right-no-event : k ≡ false → false ≡ is_done (row_answer events key row above)
   right-no-event n = ap is_done (row-no-event n)
 
 pub ruleset right-by-row = (right-no-event, right-outside, right-empty, right-above)
 
 -- where nothing is outside, a row whose key is not above is bad, empty or not
-pub row-bad : (events : Set) (key : ℕ) (row : Set) (k : Bool) → k ≡ mem events key → not k ≡ false → (w : Bool) → w ≡ within row events → not w ≡ false
+pub row-bad : (events : Set) (key : ℕ) (row : Set) (k : Bool) → k ≡ mem events key → k ≡ true → (w : Bool) → w ≡ within row events → w ≡ true
     → BadRow ≡ row_answer events key row false
 row-bad events key row k hk yk w hw yw = by (is_empty row) refl
   where
@@ -149,12 +149,12 @@ row-bad events key row k hk yk w hw yw = by (is_empty row) refl
 pub ruleset row-by-row = (row-no-event, row-outside, row-bad)
 
 -- a row that is refused is refused with the same where its key is taken not to be above
-pub row-refused : (events : Set) (key : ℕ) (row : Set) (above t : Bool) → t ≡ is_done (row_answer events key row above) → not t ≡ true
+pub row-refused : (events : Set) (key : ℕ) (row : Set) (above t : Bool) → t ≡ is_done (row_answer events key row above) → t ≡ false
     → row_answer events key row false ≡ row_answer events key row above
 unfolding row_answer ◌or◌ non
 row-refused events key row false t h n = refl
 row-refused events key row true t h n =
-    by (non (mem events key) or non (within row events)) (is_empty row) (sym h ∙ not-true t n)
+    by (non (mem events key) or non (within row events)) (is_empty row) (sym h ∙ n)
   where
     by : (o e : Bool) → is_done (when o then Outside else when e or false then BadRow else Done) ≡ false
         → (when o then Outside else when e or true then BadRow else Done) ≡ (when o then Outside else when e or false then BadRow else Done)
@@ -179,38 +179,38 @@ module _ (bytes : List ℕ) (events low : Set) (t : Bool) (he : events ≡ event
   unfolding judged_sets
   sets-are e m pe pm = λ i. sets_answer ((sym pe ∙ ht ∙ ap₂ within he hb) i) (sym pm i)
 
-  pub sets-events : not t ≡ true → Outside ≡ judged_sets bytes
+  pub sets-events : t ≡ false → Outside ≡ judged_sets bytes
   unfolding non
-  sets-events n = sets-are false _ (not-true t n) refl
+  sets-events n = sets-are false _ (n) refl
 
-  module _ (nt : not t ≡ false) (state : State) (m : Bool) (hs : state ≡ state_in bytes) (hm : m ≡ state_within events state) where
+  module _ (nt : t ≡ true) (state : State) (m : Bool) (hs : state ≡ state_in bytes) (hm : m ≡ state_within events state) where
     state-there : state_within (events_in bytes) (state_in bytes) ≡ m
     state-there = sym (hm ∙ ap₂ state_within he hs)
 
-    pub sets-marking : not m ≡ true → Outside ≡ judged_sets bytes
+    pub sets-marking : m ≡ false → Outside ≡ judged_sets bytes
     unfolding non
-    sets-marking n = sets-are true false (not-false t nt) (state-there ∙ not-true m n)
+    sets-marking n = sets-are true false (nt) (state-there ∙ n)
 
-    pub sets-right : not m ≡ false → Done ≡ judged_sets bytes
+    pub sets-right : m ≡ true → Done ≡ judged_sets bytes
     unfolding non
-    sets-right n = sets-are true true (not-false t nt) (state-there ∙ not-false m n)
+    sets-right n = sets-are true true (nt) (state-there ∙ n)
 
 pub ruleset both-sets = (sets-events, sets-marking, sets-right)
 
 -- ---- the head
 
 module _ (bytes : List ℕ) (l : Bool) (hl : l ≡ opens_file letters bytes) where
-  pub head-letters : not l ≡ true → WrongLetters ≡ judged_head bytes
+  pub head-letters : l ≡ false → WrongLetters ≡ judged_head bytes
   unfolding judged_head non
-  head-letters n = rw (← hl, not-true l n)
+  head-letters n = rw (← hl, n)
 
-  module _ (nl : not l ≡ false) (wide : Bool) (hw : wide ≡ wide_in bytes) (n : ℕ) (hn : n ≡ head_length wide) where
+  module _ (nl : l ≡ true) (wide : Bool) (hw : wide ≡ wide_in bytes) (n : ℕ) (hn : n ≡ head_length wide) where
     head-is : n ≡ head_length (wide_in bytes)
     head-is = hn ∙ ap head_length hw
 
     pub head-short : length bytes < n → TooShort ≡ judged_head bytes
     unfolding judged_head non
-    head-short s = rw (← hl, not-false l nl, lt-ltb (length bytes) (head_length (wide_in bytes)) (omega (arith, head-is)))
+    head-short s = rw (← hl, nl, lt-ltb (length bytes) (head_length (wide_in bytes)) (omega (arith, head-is)))
 
     module _ (long : n ≤ length bytes) (e : ℕ) (he : e ≡ edition_in bytes) (b : Bool) (hb : b ≡ beyond e (activities_in bytes)) where
       is-beyond : beyond (edition_in bytes) (activities_in bytes) ≡ b
@@ -218,11 +218,11 @@ module _ (bytes : List ℕ) (l : Bool) (hl : l ≡ opens_file letters bytes) whe
 
       pub head-above : b ≡ true → AboveLimit ≡ judged_head bytes
       unfolding judged_head non
-      head-above t = rw (← hl, not-false l nl, le-ltb (length bytes) (head_length (wide_in bytes)) (omega (arith, head-is)), is-beyond, t)
+      head-above t = rw (← hl, nl, le-ltb (length bytes) (head_length (wide_in bytes)) (omega (arith, head-is)), is-beyond, t)
 
       pub head-sets : (a : Answer) → b ≡ false → a ≡ judged_sets bytes → a ≡ judged_head bytes
       unfolding judged_head non
       head-sets a t h =
-          h ∙ rw (← hl, not-false l nl, le-ltb (length bytes) (head_length (wide_in bytes)) (omega (arith, head-is)), is-beyond, t)
+          h ∙ rw (← hl, nl, le-ltb (length bytes) (head_length (wide_in bytes)) (omega (arith, head-is)), is-beyond, t)
 
 pub ruleset heads = (head-letters, head-short, head-above, head-sets)

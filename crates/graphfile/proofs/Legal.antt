@@ -1,6 +1,6 @@
 -- Rows of a file as 01 wants them, and what the rows that they fill hold. Assumes nothing.
 use mathlib.Core.Path.{◌≡◌, refl, sym, ap, ◌∙◌, subst}
-use mathlib.Core.Bool.{Bool, true, false}
+use mathlib.Core.Bool.{true, false}
 use mathlib.Core.Logic.{◌⊎◌, inl, inr}
 use mathlib.Core.List.{List}
 use Prim.Native.Nat.{ℕ, zero, suc, ◌+◌, ◌*◌, ◌≤◌, ◌<◌, suc-le-suc}
@@ -15,7 +15,7 @@ use Rattle.sets.specs.Rows.{row_words, no_rows, row_at, with_row}
 use Rattle.sets.specs.Tables.{table_at, with_row_in}
 use Rattle.sets.specs.declared.set.Set.{Set}
 use Rattle.sets.specs.declared.answer.Answer.TheVariants.{Done, Outside, BadRow}
-use Rattle.sets.proofs.Tests.{split, either, T→true, F→false, false→F, non-false, and_i, or_l, eqb_of, neither}
+use Rattle.sets.proofs.Tests.{split, either, T→true, F→false, non-false, and_i, or_l, eqb_of, neither}
 use Rattle.sets.proofs.RowLaws.{length-put, row-put-same, row-put-other}
 use Rattle.sets.proofs.TableLaws.{table-put-same, table-put-other, length-put-in, table_none}
 use Rattle.engine.specs.Judged.{row_within}

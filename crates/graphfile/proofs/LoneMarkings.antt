@@ -1,12 +1,12 @@
 -- A marking by itself in bytes, from a place on: what the code reads and stores there; that what is stored is read again, and does not show
 -- elsewhere. Assumes nothing.
 use mathlib.Core.Path.{◌≡◌, refl, sym, ap, ◌∙◌}
-use mathlib.Core.Bool.{Bool, true, false, not}
+use mathlib.Core.Bool.{Bool, true, false}
 use mathlib.Core.Logic.{inl, inr}
 use mathlib.Core.List.{List, ◌++◌}
 use Prim.Native.Nat.{ℕ, ◌+◌, ◌*◌, ◌≤◌}
 use native.Mathlib.Omega.{arith}
-use borrow.Author.Tests.{le-ltb, ltb-false, not-true, not-false}
+use borrow.Author.Tests.{le-ltb, ltb-false}
 use lib.Dec.{ltb}
 use lib.ListN.{length, take, drop, length-append}
 use lib.Seq.{sets, length-sets, drop-drop}
@@ -33,8 +33,8 @@ module _ (wide : Bool) (bytes : List ℕ) (at : ℕ) (few : Bool) (n : ℕ) (hn 
   pub marking-room : few ≡ false → at + marking_length wide ≤ length bytes
   marking-room h = ltb-false (length bytes) (at + marking_length wide) (sym e ∙ h)
 
-  pub marking-room-not : not few ≡ true → at + marking_length wide ≤ length bytes
-  marking-room-not h = marking-room (not-true few h)
+  pub marking-room-not : few ≡ false → at + marking_length wide ≤ length bytes
+  marking-room-not h = marking-room (h)
 
   pub held_none : few ≡ true → empty_marking ≡ marking_held wide bytes at
   unfolding marking_held
@@ -44,14 +44,14 @@ module _ (wide : Bool) (bytes : List ℕ) (at : ℕ) (few : Bool) (n : ℕ) (hn 
   unfolding marking_held
   held-some m h k = k ∙ ap (λ (t : Bool). when t then empty_marking else marking_at wide bytes at) (sym h ∙ e)
 
-  pub put-nothing : (m : Marking) → not few ≡ false → bytes ≡ marking_put wide m bytes at
+  pub put-nothing : (m : Marking) → few ≡ true → bytes ≡ marking_put wide m bytes at
   unfolding marking_put
   put-nothing m h =
-      ap (λ (t : Bool). when t then bytes else sets bytes at (marking_bytes wide m)) (sym (not-false few h) ∙ e)
+      ap (λ (t : Bool). when t then bytes else sets bytes at (marking_bytes wide m)) (sym (h) ∙ e)
 
-  pub put_some : (m : Marking) (bytes' : List ℕ) → not few ≡ true → bytes' ≡ sets bytes at (marking_bytes wide m) → bytes' ≡ marking_put wide m bytes at
+  pub put_some : (m : Marking) (bytes' : List ℕ) → few ≡ false → bytes' ≡ sets bytes at (marking_bytes wide m) → bytes' ≡ marking_put wide m bytes at
   unfolding marking_put
-  put_some m bytes' h k = k ∙ ap (λ (t : Bool). when t then bytes else sets bytes at (marking_bytes wide m)) (sym (not-true few h) ∙ e)
+  put_some m bytes' h k = k ∙ ap (λ (t : Bool). when t then bytes else sets bytes at (marking_bytes wide m)) (sym (h) ∙ e)
 
 pub ruleset lone = (marking-room, marking-room-not, held_none, held-some, put-nothing, put_some)
 

@@ -1,7 +1,7 @@
 -- How many bytes rows have, in either form: laws for `omega`, to which the product of two unknown numbers is closed. Assumes nothing.
 use mathlib.Core.Path.{◌≡◌, refl, sym, ap}
 use mathlib.Core.Bool.{Bool, true, false}
-use Prim.Native.Nat.{ℕ, zero, suc, ◌+◌, ◌*◌, ◌≤◌, ◌<◌}
+use Prim.Native.Nat.{ℕ, suc, ◌+◌, ◌*◌, ◌≤◌}
 use native.Mathlib.Omega.{arith}
 use Rattle.octets.specs.Sets.{set_length}
 use Rattle.graphfile.specs.Layout.{row_length, rows_length}

@@ -23,7 +23,7 @@ use Rattle.octets.proofs.Codec.{length-number}
 use Rattle.octets.proofs.Parts.{follow}
 use Rattle.octets.proofs.NumberLaws.{number-stored, number-kept}
 use Rattle.octets.proofs.SetLaws.{length-set, set-stored, set-kept}
-use Rattle.graphfile.specs.Layout.{letters, events_place, executed_place, state_length, entries_place, entry_length, head_length, row_length, rows_length, sum_of}
+use Rattle.graphfile.specs.Layout.{letters, events_place, state_length, entries_place, entry_length, head_length, rows_length, sum_of}
 use Rattle.graphfile.specs.Refusals.{most_rows}
 use Rattle.graphfile.specs.Writing.{row_of, rows_for, rows_from, count_from, row_count, counts_of, total_of, rows_before, entry_bytes, entries_for, entries_bytes}
 use Rattle.graphfile.specs.declared.writer.Counts.{Counts}

@@ -5,7 +5,7 @@ use Prim.Native.Nat.{ℕ, ◌*◌, ◌≤◌, ◌<◌}
 use native.Mathlib.Omega.{arith}
 use borrow.Author.Tests.{ltb-true, ltb-false}
 use lib.Dec.{T, eqb, ltb}
-use Rattle.sets.specs.Tests.{◌and◌, when◌then◌else◌}
+use Rattle.sets.specs.Tests.{when◌then◌else◌}
 use Rattle.sets.specs.Members.{width, word, mem, those, no_set, within}
 use Rattle.sets.specs.Sizes.{most_activities}
 use Rattle.sets.specs.declared.set.Set.{Set}

@@ -1,12 +1,11 @@
 -- The ways out of a write, judged or not: its answer and length, and what the buffer holds. Assumes nothing.
 use mathlib.Core.Path.{◌≡◌, refl, sym, ap, ◌∙◌}
-use mathlib.Core.Bool.{Bool, true, false, not}
+use mathlib.Core.Bool.{Bool, true, false}
 use mathlib.Core.List.{List, ◌++◌}
-use Prim.Native.Nat.{ℕ, ◌+◌, ◌*◌, ◌≤◌, ◌<◌}
+use Prim.Native.Nat.{ℕ, ◌+◌, ◌≤◌, ◌<◌}
 use native.Mathlib.Nat.{zero-add}
 use native.Mathlib.Omega.{arith}
-use borrow.Author.Tests.{lt-ltb, le-ltb, not-true}
-use lib.Dec.{ltb}
+use borrow.Author.Tests.{lt-ltb, le-ltb}
 use lib.ListN.{length, drop}
 use lib.Seq.{sets, sets-eq}
 use Rattle.sets.specs.Tests.{when◌then◌else◌}
@@ -74,30 +73,30 @@ file-room tables out rows head long wide hl hh hr l = omega (arith, hr ∙ ap (r
 -- ---- judged first
 
 module _ (g : Graph) (out : List ℕ) (a : Answer) (d : Bool) (e : a ≡ judged g) (t : d ≡ is_done a) where
-  answer-refused : not d ≡ true → a ≡ judged_write g (length out)
+  answer-refused : d ≡ false → a ≡ judged_write g (length out)
   unfolding judged_write
   answer-refused n = refused a (judged g) d e t _ n
 
-  not_done : not d ≡ true → is_done (judged_write g (length out)) ≡ false
-  not_done n = ap is_done (sym (answer-refused n)) ∙ sym t ∙ not-true d n
+  not_done : d ≡ false → is_done (judged_write g (length out)) ≡ false
+  not_done n = ap is_done (sym (answer-refused n)) ∙ sym t ∙ n
 
-  pub write-refused : not d ≡ true → ◌≡◌ {A = Written} (record { answer = a; length = 0 }) (written_of g (length out))
+  pub write-refused : d ≡ false → ◌≡◌ {A = Written} (record { answer = a; length = 0 }) (written_of g (length out))
   unfolding written_of
   write-refused n = ap (λ (x : Answer). record { answer = x; length = 0 }) (answer-refused n) ∙ sym (written_is g _ false (not_done n))
 
-  pub refused-keeps : not d ≡ true → out ≡ file_after g out
+  pub refused-keeps : d ≡ false → out ≡ file_after g out
   unfolding file_after
   refused-keeps n = sym (buffer-is g (judged_write g (length out)) false (not_done n) out)
 
-  passes : not d ≡ false → judged_room g (length out) ≡ judged_write g (length out)
+  passes : d ≡ true → judged_room g (length out) ≡ judged_write g (length out)
   unfolding judged_write
   passes n = sym (passed a (judged g) d e t _ n)
 
-  pub write-passed : (w : Written) → not d ≡ false → w ≡ unjudged_of g (length out) → w ≡ written_of g (length out)
+  pub write-passed : (w : Written) → d ≡ true → w ≡ unjudged_of g (length out) → w ≡ written_of g (length out)
   unfolding written_of unjudged_of
   write-passed w n h = h ∙ ap (λ (x : Answer). written_for x g) (passes n)
 
-  pub passed-after : (out' : List ℕ) → not d ≡ false → out' ≡ unjudged_after g out → out' ≡ file_after g out
+  pub passed-after : (out' : List ℕ) → d ≡ true → out' ≡ unjudged_after g out → out' ≡ file_after g out
   unfolding file_after unjudged_after
   passed-after out' n h = h ∙ ap (λ (x : Answer). buffer_for x g out) (passes n)
 

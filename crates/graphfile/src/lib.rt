@@ -1,4 +1,6 @@
 // Graph files (01, "Two files, contents first": Graph): from bytes to a graph and back.
+#![tactic(auto)]
+
 pub mod head;
 mod layout;
 pub mod marking;

@@ -16,7 +16,7 @@ use sets::rows::WORDS;
 use sets::{Activity, Answer, Set, tables};
 
 // What a read gives: the answer, and the graph; the empty graph where the file is refused.
-#[derive(Drop)]
+#[derive(Clone, Copy)]
 pub struct Reading {
     pub answer: Answer,
     pub graph: Graph,
@@ -132,7 +132,7 @@ fn take(bytes: &[u8], events: Set, state: State, held: &mut Relations, wide: boo
 }
 
 // What a read without the set of enabled activities gives, beside the relations: for callers that hand no marking on. Of a refused file nothing.
-#[derive(Drop)]
+#[derive(Clone, Copy)]
 pub struct Bare {
     pub answer: Answer,
     pub events: Set,

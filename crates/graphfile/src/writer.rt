@@ -21,7 +21,7 @@ use sets::activity::WORD;
 use sets::{Activity, Answer, Set, tables};
 
 // What a write gives: the answer, and the file's length; 0 where it is refused.
-#[derive(Drop)]
+#[derive(Clone, Copy)]
 pub struct Written {
     pub answer: Answer,
     pub length: usize,
@@ -76,7 +76,7 @@ fn row_count(relations: &Relations, r: u8, wide: bool) -> usize
 }
 
 // How many rows of each relation the file has: what its length and its entries are made of, so that the rows are counted once.
-#[derive(Drop)]
+#[derive(Clone, Copy)]
 struct Counts {
     conditions: usize,
     responses: usize,

@@ -1,60 +1,75 @@
-// The listing program: a log on standard input, its listing on standard output, in the profile that its one argument names, light where there is
-// none (02, 3/12 and 11/12).
+// The listing program: a log on standard input, its listing on standard output, in the profile that its one argument names, light where
+// there is none (02, 3/12 and 11/12).
 // All that matters is in the library `report`.
-use io::write_all;
-use libc::{STDIN_FILENO, STDOUT_FILENO};
+#![tactic(auto)]
+
 use report::Choice;
 use rules::Profile;
 use sets::Answer;
+use std::env::{Env, FillError};
+use std::io;
+use std::io::Read;
+
+// One byte more than the longest log has: what is longer gets the number of these bytes (crates/calllog/proofs/Long.antt).
+const LOG_ROOM: u64 = 36871;
+
+// No listing is longer.
+const LISTING_ROOM: usize = 671799;
 
 // Writes the first n bytes. They are always there: no listing is longer than the buffer (crates/report/proofs/Longest.antt).
-fn write_first(out: &[u8], n: usize) {
+fn write_first(rt: &impl Print, out: &[u8], n: usize) -> io::Result<()> {
     if n <= out.len() {
-        write_all(STDOUT_FILENO, &out[0..n]);
+        rt.write_all(&out[0..n])?;
     }
+    Ok(())
 }
 
 // Lists a log into the bytes lent, and writes what came of it.
-fn list_into(log: &[u8], profile: Profile, out: &mut [u8]) {
+fn list_into(rt: &impl Print, log: &[u8], profile: Profile, out: &mut [u8]) -> io::Result<()> {
     let listed = report::write_listing(log, profile, out);
-    write_first(out, listed.length);
+    write_first(rt, out, listed.length)
 }
 
-// Lists what is on standard input.
-fn list(profile: Profile) {
-    // One byte more than the longest log has: what is longer gets the number of these bytes (crates/calllog/proofs/Long.antt).
-    let mut log = [0u8; 36871];
-    let n = io::read_full(STDIN_FILENO, &mut log);
-    // No listing is longer.
-    let mut out = [0u8; 671799];
-    list_into(&log[..n], profile, &mut out);
+// Lists what is on standard input. What is there beyond the room for a log stays unread: the reader asks the system for no byte more.
+fn list(rt: &(impl Input + Print + Alloc), profile: Profile) -> io::Result<()> {
+    let mut log = Vec::new(rt.alloc());
+    rt.reader().take(LOG_ROOM).read_to_end(&mut log)?;
+    // On the heap, since a function pays at its start for the size of its locals.
+    let mut out = vec![in rt.alloc(); 0u8; LISTING_ROOM]?;
+    list_into(rt, &log, profile, &mut out)
 }
 
 // The one line of a refusal, with nothing read.
-fn refuse(answer: Answer) {
+fn refuse(rt: &impl Print, answer: Answer) -> io::Result<()> {
     // No such line is longer.
     let mut out = [0u8; 11];
     let n = report::write_refused(answer, &mut out);
-    write_first(&out, n);
+    write_first(rt, &out, n)
+}
+
+// Whether there is an argument i. One that has bytes does not fit where there is no room, but it is there.
+fn is_given(rt: &impl Env, i: usize) -> bool {
+    !matches!(rt.arg(i, &mut []), Err(FillError::NotPresent))
 }
 
 // How many arguments there are beside the program's name.
-fn argument_count() -> usize {
-    let words = os::arg_count();
-    if words == 0 {
-        return 0;
+fn argument_count(rt: &impl Env) -> usize {
+    for i in 1..usize::MAX {
+        if !is_given(rt, i) {
+            return i - 1;
+        }
     }
-    words - 1
+    usize::MAX
 }
 
-fn main() {
+fn main(rt: HostRuntime) -> io::Result<()> {
     // Longer than both words. An argument that is longer still counts as one of no bytes, and that names no profile either.
     let mut argument = [0u8; 16];
-    let n = os::arg(1, &mut argument);
-    let count = argument_count();
+    let n = rt.arg(1, &mut argument).unwrap_or(0);
+    let count = argument_count(&rt);
     let choice = report::choose(count, &argument[..n]);
     match choice {
-        Choice::Listing(profile) => list(profile),
-        Choice::Refused(answer) => refuse(answer),
+        Choice::Listing(profile) => list(&rt, profile),
+        Choice::Refused(answer) => refuse(&rt, answer),
     }
 }

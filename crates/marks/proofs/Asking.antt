@@ -1,10 +1,9 @@
 -- The refusals in their order, and what holds where there is none. Assumes nothing.
 use mathlib.Core.Path.{◌≡◌, refl, sym, ap, ◌∙◌}
-use mathlib.Core.Bool.{Bool, true, false, not}
+use mathlib.Core.Bool.{Bool, true, false}
 use mathlib.Core.List.{List}
 use Prim.Native.Nat.{ℕ, ◌≤◌, ◌<◌}
-use native.Mathlib.Omega.{arith}
-use borrow.Author.Tests.{eq-eqb, ne_eqb, lt-ltb, le-ltb, ltb-false, not-true, not-false}
+use borrow.Author.Tests.{eq-eqb, ne_eqb, lt-ltb, le-ltb, ltb-false}
 use lib.Dec.{eqb, ltb, eqb→eq}
 use lib.ListN.{length}
 use Rattle.sets.specs.Tests.{non, when◌then◌else◌}
@@ -13,13 +12,12 @@ use Rattle.sets.specs.Answers.{is_done, then_ask}
 use Rattle.sets.specs.declared.answer.Answer.{Answer}
 use Rattle.sets.specs.declared.answer.Answer.TheVariants.{Done, AboveLimit, BufferTooSmall, LabelsNotAsMany, LabelAboveOne}
 use Rattle.sets.proofs.Tests.{true→T}
-use Rattle.sets.proofs.Asking.{both, went, refused, passed, gone-on, done-is}
+use Rattle.sets.proofs.Asking.{both, went, refused, passed, gone-on}
 use Rattle.engine.specs.Judged.{judged}
 use Rattle.engine.specs.declared.graph.Graph.{Graph}
 use Rattle.calllog.specs.Judged.{all_below}
 use Rattle.calllog.specs.Logs.{log_of, judged_of}
 use Rattle.calllog.specs.declared.judge.Judged.{Judged}
-use Rattle.calllog.proofs.Traces.{read-within}
 use Rattle.marks.specs.Labels.{judged_labels}
 use Rattle.marks.specs.Marks.{judged_both, judged_marks, judged_guesses}
 use Rattle.marks.specs.Replays.{judged_replays}
@@ -39,13 +37,13 @@ module _ (traces : ℕ) (bytes : List ℕ) where
     unfolding judged_labels
     tested t q = sym (λ i. by_tests (eq-eqb (length bytes) traces e i) ((sym h ∙ q) i))
 
-    pub labels-above-one : not r ≡ true → LabelAboveOne ≡ judged_labels traces bytes
+    pub labels-above-one : r ≡ false → LabelAboveOne ≡ judged_labels traces bytes
     unfolding non
-    labels-above-one n = tested false (not-true r n)
+    labels-above-one n = tested false (n)
 
-    pub labels-fit : not r ≡ false → Done ≡ judged_labels traces bytes
+    pub labels-fit : r ≡ true → Done ≡ judged_labels traces bytes
     unfolding non
-    labels-fit n = tested true (not-false r n)
+    labels-fit n = tested true (n)
 
 pub ruleset labelling = (labels-not-as-many, labels-above-one, labels-fit)
 
@@ -62,10 +60,10 @@ as_many traces bytes d = same (eqb (length bytes) traces) refl
 -- ---- one question, then another
 
 module _ (a b : Answer) (d : Bool) (hd : d ≡ is_done a) where
-  pub first-refused : not d ≡ true → a ≡ then_ask a b
+  pub first-refused : d ≡ false → a ≡ then_ask a b
   first-refused n = refused a a d refl hd b n
 
-  pub second-asked : (x : Answer) → not d ≡ false → x ≡ b → x ≡ then_ask a b
+  pub second-asked : (x : Answer) → d ≡ true → x ≡ b → x ≡ then_ask a b
   second-asked x n e = e ∙ sym (passed a a d refl hd b n)
 
 pub ruleset in-turn = (first-refused, second-asked)
@@ -78,11 +76,11 @@ module _ (log : List ℕ) (g : Graph) (j : Judged) (a : Answer) (d : Bool) (hj :
   both_is = ha ∙ ap (λ (x : Judged). then_ask x.answer (judged g)) hj
 
   module _ (labels : List ℕ) where
-    pub marks-refused : not d ≡ true → a ≡ judged_marks g log labels
+    pub marks-refused : d ≡ false → a ≡ judged_marks g log labels
     unfolding judged_marks
     marks-refused n = refused a (judged_both g log) d both_is hd (judged_labels (length (log_of log).traces) labels) n
 
-    pub marks-asked : (b : Answer) → not d ≡ false → b ≡ judged_labels j.traces labels → b ≡ judged_marks g log labels
+    pub marks-asked : (b : Answer) → d ≡ true → b ≡ judged_labels j.traces labels → b ≡ judged_marks g log labels
     unfolding judged_marks
     marks-asked b n e =
         e
@@ -93,24 +91,24 @@ module _ (log : List ℕ) (g : Graph) (j : Judged) (a : Answer) (d : Bool) (hj :
     abbrev room_for : Bool → Answer
     room_for t = when t then BufferTooSmall else Done
 
-    pub replays-refused : not d ≡ true → a ≡ judged_replays g log room
+    pub replays-refused : d ≡ false → a ≡ judged_replays g log room
     unfolding judged_replays
     replays-refused n = refused a (judged_both g log) d both_is hd (room_for (ltb room (length (log_of log).traces))) n
 
-    room-asked : (t : Bool) → ltb room j.traces ≡ t → not d ≡ false → room_for t ≡ judged_replays g log room
+    room-asked : (t : Bool) → ltb room j.traces ≡ t → d ≡ true → room_for t ≡ judged_replays g log room
     unfolding judged_replays
     room-asked t e n =
         sym (ap room_for e)
         ∙ ap (λ (x : Judged). room_for (ltb room x.traces)) hj
         ∙ sym (passed a (judged_both g log) d both_is hd (room_for (ltb room (length (log_of log).traces))) n)
 
-    pub replays-small : not d ≡ false → room < j.traces → BufferTooSmall ≡ judged_replays g log room
+    pub replays-small : d ≡ true → room < j.traces → BufferTooSmall ≡ judged_replays g log room
     replays-small n l = room-asked true (lt-ltb room j.traces l) n
 
-    pub replays-done : not d ≡ false → j.traces ≤ room → Done ≡ judged_replays g log room
+    pub replays-done : d ≡ true → j.traces ≤ room → Done ≡ judged_replays g log room
     replays-done n l = room-asked false (le-ltb room j.traces l) n
 
-  pub both-done : not d ≡ false → judged_both g log ≡ Done
+  pub both-done : d ≡ true → judged_both g log ≡ Done
   both-done n = gone-on a (judged_both g log) d both_is hd n
 
 pub ruleset judging = (marks-refused, marks-asked)
@@ -129,12 +127,12 @@ module _ (guesses labels : List ℕ) where
   too-many_lem l = sym (by-limit true (lt-ltb most_traces (length labels) l))
 
   module _ (l : length labels ≤ most_traces) (a : Answer) (d : Bool) (ha : a ≡ judged_labels (length guesses) labels) (hd : d ≡ is_done a) where
-    pub guesses-refused : not d ≡ true → a ≡ judged_guesses guesses labels
+    pub guesses-refused : d ≡ false → a ≡ judged_guesses guesses labels
     guesses-refused n =
         refused a (judged_labels (length guesses) labels) d ha hd (judged_labels (length labels) guesses) n
         ∙ sym (by-limit false (le-ltb most_traces (length labels) l))
 
-    pub guesses-asked : (b : Answer) → not d ≡ false → b ≡ judged_labels (length labels) guesses → b ≡ judged_guesses guesses labels
+    pub guesses-asked : (b : Answer) → d ≡ true → b ≡ judged_labels (length labels) guesses → b ≡ judged_guesses guesses labels
     guesses-asked b n e =
         e
         ∙ sym (passed a (judged_labels (length guesses) labels) d ha hd (judged_labels (length labels) guesses) n)

@@ -1,10 +1,9 @@
 -- The ways out of `mark` and `mark_guesses`. Assumes nothing.
-use mathlib.Core.Path.{◌≡◌, refl, sym, ap, ap₂, ◌∙◌}
-use mathlib.Core.Bool.{Bool, true, false, not}
+use mathlib.Core.Path.{◌≡◌, refl, sym, ap, ◌∙◌}
+use mathlib.Core.Bool.{Bool, true, false}
 use mathlib.Core.List.{List}
-use Prim.Native.Nat.{ℕ, ◌≤◌, ◌<◌}
+use Prim.Native.Nat.{ℕ, ◌≤◌}
 use native.Mathlib.Omega.{arith}
-use borrow.Author.Tests.{not-true, not-false}
 use lib.ListN.{length}
 use Rattle.sets.specs.Tests.{when◌then◌else◌}
 use Rattle.sets.specs.Sizes.{most_traces}
@@ -45,13 +44,13 @@ module _ (g : Graph) (log labels : List ℕ) where
     labelled = as_many T labels marks-parts.1
 
   module _ (a : Answer) (d : Bool) (ha : a ≡ judged_marks g log labels) (hd : d ≡ is_done a) where
-    pub mark-refused : not d ≡ true → ◌≡◌ {A = Marked} (record { answer = a; counts = no_counts }) (marks_of g log labels)
+    pub mark-refused : d ≡ false → ◌≡◌ {A = Marked} (record { answer = a; counts = no_counts }) (marks_of g log labels)
     unfolding marks_of
-    mark-refused n = marked-as a _ (counts_of T (verdict_of g log) (says_yes labels)) no_counts false ha (sym hd ∙ not-true d n) refl
+    mark-refused n = marked-as a _ (counts_of T (verdict_of g log) (says_yes labels)) no_counts false ha (sym hd ∙ n) refl
 
-    module _ (n : not d ≡ false) where
+    module _ (n : d ≡ true) where
       all_done : judged_marks g log labels ≡ Done
-      all_done = sym ha ∙ done-is a (sym hd ∙ not-false d n)
+      all_done = sym ha ∙ done-is a (sym hd ∙ n)
 
       pub mark-few : length labels ≤ most_traces
       mark-few = omega (arith, labelled all_done, (read-within log).number)
@@ -60,7 +59,7 @@ module _ (g : Graph) (log labels : List ℕ) where
           → ◌≡◌ {A = Marked} (record { answer = a; counts = c }) (marks_of g log labels)
       unfolding marks_of
       mark-done c h =
-          marked-as a _ (counts_of T (verdict_of g log) (says_yes labels)) c true ha (sym hd ∙ not-false d n)
+          marked-as a _ (counts_of T (verdict_of g log) (says_yes labels)) c true ha (sym hd ∙ n)
           (h
           ∙ ap (λ (m : ℕ). counts_of m (λ k. is_yes (part_replay g.head g.relations log k)) (says_yes labels)) (labelled all_done)
           ∙ counts-ext T _ (verdict_of g log) (says_yes labels) (λ k l. ap is_yes (part-replayed g log (marks-parts all_done).0 k l)))
@@ -70,14 +69,14 @@ pub ruleset marking = (mark-refused, mark-few, mark-done)
 -- ---- guesses
 
 module _ (guesses labels : List ℕ) (a : Answer) (d : Bool) (ha : a ≡ judged_guesses guesses labels) (hd : d ≡ is_done a) where
-  pub guess-refused : not d ≡ true → ◌≡◌ {A = Marked} (record { answer = a; counts = no_counts }) (guesses_of guesses labels)
+  pub guess-refused : d ≡ false → ◌≡◌ {A = Marked} (record { answer = a; counts = no_counts }) (guesses_of guesses labels)
   unfolding guesses_of
   guess-refused n =
-      marked-as a _ (counts_of (length labels) (says_yes guesses) (says_yes labels)) no_counts false ha (sym hd ∙ not-true d n) refl
+      marked-as a _ (counts_of (length labels) (says_yes guesses) (says_yes labels)) no_counts false ha (sym hd ∙ n) refl
 
-  module _ (n : not d ≡ false) where
+  module _ (n : d ≡ true) where
     guesses-done : judged_guesses guesses labels ≡ Done
-    guesses-done = sym ha ∙ done-is a (sym hd ∙ not-false d n)
+    guesses-done = sym ha ∙ done-is a (sym hd ∙ n)
 
     pub guess-few : length labels ≤ most_traces
     guess-few = labels-few guesses labels guesses-done
@@ -88,6 +87,6 @@ module _ (guesses labels : List ℕ) (a : Answer) (d : Bool) (ha : a ≡ judged_
     pub guess-done : (c : Counts) → c ≡ counts_of (length labels) (says_yes guesses) (says_yes labels)
         → ◌≡◌ {A = Marked} (record { answer = a; counts = c }) (guesses_of guesses labels)
     unfolding guesses_of
-    guess-done c h = marked-as a _ (counts_of (length labels) (says_yes guesses) (says_yes labels)) c true ha (sym hd ∙ not-false d n) h
+    guess-done c h = marked-as a _ (counts_of (length labels) (says_yes guesses) (says_yes labels)) c true ha (sym hd ∙ n) h
 
 pub ruleset marking-guesses = (guess-refused, guess-few, guess-many, guess-done)

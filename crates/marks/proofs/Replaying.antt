@@ -1,13 +1,12 @@
 -- The replays of a log's parts are those of its traces, and their bytes are put one after another. Assumes nothing.
 use mathlib.Core.Path.{◌≡◌, refl, sym, ap, ap₂, ◌∙◌}
-use mathlib.Core.Bool.{Bool, true, false, not}
+use mathlib.Core.Bool.{Bool, true, false}
 use mathlib.Core.List.{List, [], ◌∷◌, ◌++◌}
-use Prim.Native.Nat.{ℕ, zero, suc, ◌+◌, ◌-◌, ◌≤◌, ◌<◌}
+use Prim.Native.Nat.{ℕ, zero, suc, ◌+◌, ◌≤◌, ◌<◌}
 use native.Mathlib.Nat.{zero-add, add-suc, suc-add}
 use native.Mathlib.Numerals.{add-one}
 use native.Mathlib.Omega.{arith}
-use borrow.Author.Tests.{not-true, not-false}
-use lib.ListN.{length, get_or, take, drop, set, length-set}
+use lib.ListN.{length, get_or, drop, set, length-set}
 use lib.Seq.{drop-cons, set_at, append_snoc}
 use Rattle.sets.specs.Tests.{◌and◌, when◌then◌else◌}
 use Rattle.sets.specs.Rows.{list_from}
@@ -40,13 +39,13 @@ part-ended head tables log k σ r e h =
     h ∙ ap (λ (l : List ℕ). walked_of (replay_from head.events (in_tables tables) head.opening.state 0 l)) e
 
 module _ (r : Walked) (d : Bool) (hd : d ≡ is_done r.answer) where
-  pub no-yes : not d ≡ true → false ≡ (is_done r.answer and r.accepting)
+  pub no-yes : d ≡ false → false ≡ (is_done r.answer and r.accepting)
   unfolding ◌and◌
-  no-yes n = sym (ap (λ (b : Bool). b and r.accepting) (sym hd ∙ not-true d n))
+  no-yes n = sym (ap (λ (b : Bool). b and r.accepting) (sym hd ∙ n))
 
-  pub then-accepting : not d ≡ false → r.accepting ≡ (is_done r.answer and r.accepting)
+  pub then-accepting : d ≡ true → r.accepting ≡ (is_done r.answer and r.accepting)
   unfolding ◌and◌
-  then-accepting n = sym (ap (λ (b : Bool). b and r.accepting) (sym hd ∙ not-false d n))
+  then-accepting n = sym (ap (λ (b : Bool). b and r.accepting) (sym hd ∙ n))
 
 module _ (r : Walked) (q : Replayed) (b : Bool) (e : r ≡ walked_of q) (h : b ≡ (is_done r.answer and r.accepting)) where
   pub verdict-is : b ≡ is_yes q
@@ -132,25 +131,25 @@ module _ (g : Graph) (log out : List ℕ) where
   )
 
   module _ (j : Judged) (a : Answer) (d : Bool) (hj : j ≡ judged_of log) (ha : a ≡ then_ask j.answer (judged g)) (hd : d ≡ is_done a) where
-    pub refused-given : not d ≡ true → given a 0 ≡ replays_of g log (length out)
-    refused-given n = (by_answer a false (replays-refused log g j a d hj ha hd (length out) n) (sym hd ∙ not-true d n)).0
+    pub refused-given : d ≡ false → given a 0 ≡ replays_of g log (length out)
+    refused-given n = (by_answer a false (replays-refused log g j a d hj ha hd (length out) n) (sym hd ∙ n)).0
 
-    pub refused-kept : not d ≡ true → out ≡ replays_after g log out
-    refused-kept n = (by_answer a false (replays-refused log g j a d hj ha hd (length out) n) (sym hd ∙ not-true d n)).1
+    pub refused-kept : d ≡ false → out ≡ replays_after g log out
+    refused-kept n = (by_answer a false (replays-refused log g j a d hj ha hd (length out) n) (sym hd ∙ n)).1
 
-    pub small-given : not d ≡ false → length out < j.traces → given BufferTooSmall 0 ≡ replays_of g log (length out)
+    pub small-given : d ≡ true → length out < j.traces → given BufferTooSmall 0 ≡ replays_of g log (length out)
     small-given n l = (by_answer BufferTooSmall false (replays-small log g j a d hj ha hd (length out) n l) refl).0
 
-    pub small-kept : not d ≡ false → length out < j.traces → out ≡ replays_after g log out
+    pub small-kept : d ≡ true → length out < j.traces → out ≡ replays_after g log out
     small-kept n l = (by_answer BufferTooSmall false (replays-small log g j a d hj ha hd (length out) n l) refl).1
 
-    module _ (n : not d ≡ false) (l : j.traces ≤ length out) where
+    module _ (n : d ≡ true) (l : j.traces ≤ length out) where
       done-answer : a ≡ judged_replays g log (length out)
       done-answer = both_is log g j a d hj ha hd ∙ both-done log g j a d hj ha hd n ∙ replays-done log g j a d hj ha hd (length out) n l
 
       pub done-given : given a j.traces ≡ replays_of g log (length out)
       done-given =
-          ap (λ (x : Judged). given a x.traces) hj ∙ (by_answer a true done-answer (sym hd ∙ not-false d n)).0
+          ap (λ (x : Judged). given a x.traces) hj ∙ (by_answer a true done-answer (sym hd ∙ n)).0
 
       pub done_held : (out' : List ℕ) → out' ≡ bytes_put (λ k. replay_byte (part_replay g.head g.relations log k)) j.traces out
           → out' ≡ replays_after g log out
@@ -160,6 +159,6 @@ module _ (g : Graph) (log out : List ℕ) where
           ∙ ap (λ (w : List ℕ). w ++ drop (length (log_of log).traces) out)
           (list_ext (length (log_of log).traces) 0 _ (λ k. replay_byte (replay_of g (trace_number log k)))
           (λ k m. ap replay_byte (part-replayed g log (both-done log g j a d hj ha hd n) k (omega (arith, zero-add (length (log_of log).traces))))))
-          ∙ (by_answer a true done-answer (sym hd ∙ not-false d n)).1
+          ∙ (by_answer a true done-answer (sym hd ∙ n)).1
 
 pub ruleset writing = (refused-given, refused-kept, small-given, small-kept, done-given, done_held)

@@ -1,6 +1,6 @@
 -- All replays of a log at once, a byte for each trace (issue 25). And the words of inner contracts: what a replay on lent relations gives
 -- of a part of the bytes.
-use Rattle.std.specs.Prelude.{List, ◌++◌, ℕ, ltb, length, take, drop}
+use Rattle.std.specs.Prelude.{List, ◌++◌, ℕ, ltb, length, drop}
 use Rattle.sets.specs.Tests.{when◌then◌else◌}
 use Rattle.sets.specs.Rows.{list_from}
 use Rattle.sets.specs.Answers.{number_of, is_done, then_ask}

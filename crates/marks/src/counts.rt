@@ -3,7 +3,7 @@ ghost use Rattle.std.specs.Prelude.{◌≡◌};
 ghost use Rattle.marks.specs.Counts.{Few, counted_of, precision_of, recall_of, accuracy_of};
 
 // Traces by verdict and label. The verdict is positive where it is yes, and true where the label agrees.
-#[derive(Drop)]
+#[derive(Clone, Copy)]
 pub struct Counts {
     pub true_positives: u16,
     pub false_positives: u16,
@@ -12,7 +12,7 @@ pub struct Counts {
 }
 
 // Two whole numbers, not reduced and not rounded: a part of a whole.
-#[derive(Drop)]
+#[derive(Clone, Copy)]
 pub struct Measure {
     pub part: u32,
     pub whole: u32,

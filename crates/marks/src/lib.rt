@@ -1,4 +1,6 @@
 // Marks in exact numbers (02, 9/12): how a graph's verdicts, or a student's guesses, agree with labels; and all replays of a log at once.
+#![tactic(auto)]
+
 pub mod counts;
 pub mod labels;
 pub mod marks;

@@ -14,7 +14,7 @@ use engine::{Head, Relations};
 use sets::Answer;
 
 // The answer, and the four counts; all 0 where refused.
-#[derive(Drop)]
+#[derive(Clone, Copy)]
 pub struct Marked {
     pub answer: Answer,
     pub counts: Counts,

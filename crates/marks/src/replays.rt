@@ -17,7 +17,7 @@ use sets::Answer;
 const YES: u8 = 128;
 
 // The answer, and how many bytes were written; 0 where refused.
-#[derive(Drop)]
+#[derive(Clone, Copy)]
 pub struct Replays {
     pub answer: Answer,
     pub traces: usize,

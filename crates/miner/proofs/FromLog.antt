@@ -60,11 +60,11 @@ module _ (bytes : List ℕ) (p : Profile) (j : Judged) (r : Bool) (hj : j ≡ ju
   abbrev found_in : Graph
   found_in = graph_found_in (ltb word j.activities) j.activities (walked bytes j.traces 0) p
 
-  refused : not r ≡ true → ◌≡◌ {A = Mined} (record { answer = j.answer; graph = empty_graph }) (mined_of bytes p)
+  refused : r ≡ false → ◌≡◌ {A = Mined} (record { answer = j.answer; graph = empty_graph }) (mined_of bytes p)
   unfolding mined_of
-  refused n = λ i. record { answer = the-answer i; graph = passed-by _ found empty_graph empty_graph (sym (is-done_lem ∙ not-true r n)) refl i }
+  refused n = λ i. record { answer = the-answer i; graph = passed-by _ found empty_graph empty_graph (sym (is-done_lem ∙ n)) refl i }
 
-  done : not r ≡ false → ◌≡◌ {A = Mined} (record { answer = j.answer; graph = found_in }) (mined_of bytes p)
+  done : r ≡ true → ◌≡◌ {A = Mined} (record { answer = j.answer; graph = found_in }) (mined_of bytes p)
   unfolding mined_of
   done n =
       let read =
@@ -72,23 +72,23 @@ module _ (bytes : List ℕ) (p : Profile) (j : Judged) (r : Bool) (hj : j ≡ ju
       ∙ ap (λ (L : Traces). graph_found_in (ltb word (log_of bytes).activities) (log_of bytes).activities L p) (walk-all bytes)
       ∙ form-graph (log_of bytes).activities (log_of bytes).traces (file-accepted bytes) p
       ∙ pair-for-pair (log_of bytes).traces (small _ _ (file-accepted bytes)) p (log_of bytes).activities in
-      λ i. record { answer = the-answer i; graph = taken _ found empty_graph found_in (sym (is-done_lem ∙ not-false r n)) read i }
+      λ i. record { answer = the-answer i; graph = taken _ found empty_graph found_in (sym (is-done_lem ∙ n)) read i }
 
   abbrev headed : Mined → Headed
   headed m = record { answer = m.answer; head = m.graph.head }
 
   -- a graph is known by its head and its relations
   module _ (h : Head) (t : List ℕ) where
-    pub head-refused : not r ≡ true → h ≡ empty_graph.head → ◌≡◌ {A = Headed} (record { answer = j.answer; head = h }) (headed_of bytes p)
+    pub head-refused : r ≡ false → h ≡ empty_graph.head → ◌≡◌ {A = Headed} (record { answer = j.answer; head = h }) (headed_of bytes p)
     head-refused n e = (λ i. record { answer = j.answer; head = e i }) ∙ ap headed (refused n)
 
-    pub tables-refused : not r ≡ true → t ≡ empty_graph.relations → t ≡ (mined_of bytes p).graph.relations
+    pub tables-refused : r ≡ false → t ≡ empty_graph.relations → t ≡ (mined_of bytes p).graph.relations
     tables-refused n e = e ∙ ap (λ (m : Mined). m.graph.relations) (refused n)
 
-    pub head_done : not r ≡ false → h ≡ found_in.head → ◌≡◌ {A = Headed} (record { answer = j.answer; head = h }) (headed_of bytes p)
+    pub head_done : r ≡ true → h ≡ found_in.head → ◌≡◌ {A = Headed} (record { answer = j.answer; head = h }) (headed_of bytes p)
     head_done n e = (λ i. record { answer = j.answer; head = e i }) ∙ ap headed (done n)
 
-    pub tables-done : not r ≡ false → t ≡ found_in.relations → t ≡ (mined_of bytes p).graph.relations
+    pub tables-done : r ≡ true → t ≡ found_in.relations → t ≡ (mined_of bytes p).graph.relations
     tables-done n e = e ∙ ap (λ (m : Mined). m.graph.relations) (done n)
 
 pub ruleset lent = (head-refused, tables-refused, head_done, tables-done)

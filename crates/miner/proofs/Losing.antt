@@ -90,7 +90,7 @@ module _ (P : ℕ → Relation) where
             (λ a x la lx. F→false _ (λ t. let u = some-e width _ t in false→F (passed_none all u.0) (and_l _ _ u.2)));
       }
 
-  pub lost-turn : (rows left left' : List ℕ) (all rest rest' : Set) (k : ℕ) (r : Bool) → Lost rows all rest left → r ≡ is_empty rest → not r ≡ true
+  pub lost-turn : (rows left left' : List ℕ) (all rest rest' : Set) (k : ℕ) (r : Bool) → Lost rows all rest left → r ≡ is_empty rest → r ≡ false
       → k ≡ least_below width (mem rest) → Less left (P k) left' → rest' ≡ those (λ b. mem rest b and non (eqb b (least_below width (mem rest))))
       → Lost rows all rest' left'
   lost-turn rows left left' all rest rest' k r inv hr hn hk hs hm =
@@ -103,7 +103,7 @@ module _ (P : ℕ → Relation) where
             (less-more rows left left' _ _ inv.less hs);
       }
 
-  pub lost-end : (rows left : List ℕ) (all rest : Set) (r : Bool) → Lost rows all rest left → r ≡ is_empty rest → not r ≡ false
+  pub lost-end : (rows left : List ℕ) (all rest : Set) (r : Bool) → Lost rows all rest left → r ≡ is_empty rest → r ≡ true
       → Less rows (λ a x. some_below width (λ u. mem all u and P u a x)) left
   lost-end rows left all rest r inv hr hn =
       less_as rows left _ _
@@ -119,7 +119,7 @@ module _ (p : Relation) (rows left : List ℕ) where
   own_row k row hr hl =
       less_as rows left _ _ (λ a x la lx. ap (λ (b : Bool). eqb a k and b) (is-those row _ hr x lx) ∙ at_same a k (λ n. p n x)) (less-row rows left k row hl)
 
-  pub own-end : (all rest : Set) (r : Bool) → Lost (own p) rows all rest left → r ≡ is_empty rest → not r ≡ false
+  pub own-end : (all rest : Set) (r : Bool) → Lost (own p) rows all rest left → r ≡ is_empty rest → r ≡ true
       → Less rows (λ a x. mem all a and p a x) left
   own-end all rest r inv hr hn =
       less_as rows left _ _

@@ -86,11 +86,11 @@ module _ (wide : Bool) (includes : List ℕ) (u : ℕ) where
           (λ a x la lx. ap (λ (l : List ℕ). to_come (past_at σ i) l a x) (drop_of_length-le σ h) ∙ and-false (reaches wide x))
 
     -- a place before which no u has come
-    pub reopen-skip : (begun : Bool) (i : ℕ) (rows : List ℕ) → Reopens begun no_set i rows → i < length σ → not begun ≡ true
+    pub reopen-skip : (begun : Bool) (i : ℕ) (rows : List ℕ) → Reopens begun no_set i rows → i < length σ → begun ≡ false
         → Reopens (eqb (get_or σ i 0) u) no_set (i + 1) rows
     unfolding ◌or◌ ◌and◌
     reopen-skip begun i rows inv h hb =
-        let no = not-true begun hb in
+        let no = hb in
         subst (λ (b : Bool). Reopens b no_set (i + 1) rows)
         (ap (λ (b : Bool). eqb u (get_or σ i 0) or b) no ∙ or-false _ ∙ eqb-sym u (get_or σ i 0))
         (place begun no_set i rows inv h no_set rows

@@ -20,15 +20,15 @@ use Rattle.sets.proofs.MadeSets.{is-those}
 
 -- ---- what a turn's functions give
 -- what e excludes goes, then what it includes comes
-pub included-by : (wide : Bool) (included kept r in_row come out-row : Set) (includes excludes : List ℕ) (e : ℕ)
+pub included-by : (wide : Bool) (included kept r row-in come out-row : Set) (includes excludes : List ℕ) (e : ℕ)
     → out-row ≡ row_at excludes e → kept ≡ those (λ x. mem included x and non (mem out-row x))
-    → in_row ≡ row_at includes e → come ≡ those (λ x. reaches wide x and mem in_row x) → r ≡ those (λ x. mem kept x or mem come x)
+    → row-in ≡ row_at includes e → come ≡ those (λ x. reaches wide x and mem row-in x) → r ≡ those (λ x. mem kept x or mem come x)
     → r ≡ those (λ x. mem included x and non (in_row excludes e x) or reaches wide x and in_row includes e x)
 unfolding in_row
-included-by wide included kept r in_row come out-row includes excludes e ho hk hi hc hr =
+included-by wide included kept r row-in come out-row includes excludes e ho hk hi hc hr =
     hr ∙ those-of kept (λ x. mem included x and non (mem out-row x)) (λ x t. t or mem come x) hk
-    ∙ those-of come (λ x. reaches wide x and mem in_row x) (λ x t. mem included x and non (mem out-row x) or t) hc
-    ∙ ap (λ (s : Set). those (λ x. mem included x and non (mem s x) or reaches wide x and mem in_row x)) ho
+    ∙ those-of come (λ x. reaches wide x and mem row-in x) (λ x t. mem included x and non (mem out-row x) or t) hc
+    ∙ ap (λ (s : Set). those (λ x. mem included x and non (mem s x) or reaches wide x and mem row-in x)) ho
     ∙ ap (λ (s : Set). those (λ x. mem included x and non (mem (row_at excludes e) x) or reaches wide x and mem s x)) hi
 
 -- a row joined with what the form holds of a set that is known

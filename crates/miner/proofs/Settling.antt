@@ -1,6 +1,6 @@
 -- What one u makes redundant, from what the calls of a stage of step 7 ensure. Assumes nothing.
 use mathlib.Core.Path.{◌≡◌, refl, sym, ap, ap₂, ◌∙◌, subst}
-use mathlib.Core.Bool.{Bool, false, not}
+use mathlib.Core.Bool.{Bool, true, false}
 use mathlib.Core.List.{List}
 use Prim.Native.Nat.{ℕ, ◌<◌}
 use borrow.Author.Tests.{eq-eqb, ne_eqb, not-false}
@@ -97,15 +97,15 @@ module _ (tally followers includes excludes : List ℕ) (L : Traces) (u : ℕ) (
       → Less rows (redundant_by tally followers includes excludes L u) left
   lost-by left l = less_by rows left _ _ (λ r hr a x la lx. where-so (r a x) _ _ (λ t. ap non (same-gone r hr a x la lx t))) l
 
-  pub none-lost : not b ≡ false → Less rows (redundant_by tally followers includes excludes L u) rows
+  pub none-lost : b ≡ true → Less rows (redundant_by tally followers includes excludes L u) rows
   none-lost n =
       lost-by rows
       (less_none rows rows _ refl
-      (λ a x la lx. F→false _ (λ t. empty-e asked (true→T (sym hb ∙ not-false b n)) x lx (and_r _ _ (and_l _ _ t)))))
+      (λ a x la lx. F→false _ (λ t. empty-e asked (true→T (sym hb ∙ n)) x lx (and_r _ _ (and_l _ _ t)))))
 
 pub redundant-end : (tally followers includes excludes : List ℕ) (L : Traces) (rows left : List ℕ) (all rest : Set) (b : Bool)
     → followers ≡ followers_of all tally
-    → Lost (redundant_by tally followers includes excludes L) rows all rest left → b ≡ is_empty rest → not b ≡ false
+    → Lost (redundant_by tally followers includes excludes L) rows all rest left → b ≡ is_empty rest → b ≡ true
     → Less rows (λ a x. some_below width (λ u. mem all u and redundant_by tally (followers_of all tally) includes excludes L u a x)) left
 redundant-end tally followers includes excludes L rows left all rest b hf l hb n =
     subst (λ (f : List ℕ). Less rows (λ a x. some_below width (λ u. mem all u and redundant_by tally f includes excludes L u a x)) left) hf

@@ -24,7 +24,7 @@ use steps::{reduce, relations};
 use tally::{Tally, log};
 
 // What mining gives: the log's answer, and its graph; the empty graph where the log is refused.
-#[derive(Drop)]
+#[derive(Clone, Copy)]
 pub struct Mined {
     pub answer: Answer,
     pub graph: Graph,
@@ -156,7 +156,7 @@ fn graph_found(
 }
 
 // What mining gives beside the relations: the log's answer, and the head of its graph.
-#[derive(Drop)]
+#[derive(Clone, Copy)]
 pub struct Headed {
     pub answer: Answer,
     pub head: Head,

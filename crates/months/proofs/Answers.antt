@@ -109,20 +109,20 @@ module _ (log t : List ℕ) (j : Judged) (hj : j ≡ judged_of log) (r : Bool) (
     sym (ap (λ (b : Bool). when b then tally_of (log_of log).activities (log_of log).traces ++ drop tally_length t else t) (ap is_done h ∙ n)),
   )
 
-  pub fill-refused : not r ≡ true → (j.answer ≡ fill_answer log t) × (t ≡ filled_of log t)
+  pub fill-refused : r ≡ false → (j.answer ≡ fill_answer log t) × (t ≡ filled_of log t)
   unfolding fill_answer
   fill-refused n =
-      let no : is_done (log_of log).answer ≡ false = ap is_done (sym the-answer) ∙ sym hr ∙ not-true r n in
+      let no : is_done (log_of log).answer ≡ false = ap is_done (sym the-answer) ∙ sym hr ∙ n in
       fill-stays j.answer
       (ap (λ (b : Bool). when b then room (too_few t) (too_many (log_of log).activities) else (log_of log).answer) no ∙ sym the-answer)
       (ap is_done the-answer ∙ no)
 
-  module _ (y : not r ≡ false) where
+  module _ (y : r ≡ true) where
     asked-next : fill_answer log t ≡ room (too_few t) (too_many j.activities)
     unfolding fill_answer
     asked-next =
         ap (λ (b : Bool). when b then room (too_few t) (too_many (log_of log).activities) else (log_of log).answer)
-        (ap is_done (sym the-answer) ∙ sym hr ∙ not-false r y)
+        (ap is_done (sym the-answer) ∙ sym hr ∙ y)
         ∙ ap (λ (x : Judged). room (too_few t) (too_many x.activities)) (sym hj)
 
     pub fill-few : length t < tally_length → (BufferTooSmall ≡ fill_answer log t) × (t ≡ filled_of log t)

@@ -97,14 +97,14 @@ module _ (R : Relation) (all : Set) where
   pub gather-start : GatheredFrom R all no_set all
   gather-start = union-start (rows_of R) all
 
-  pub gather-turn : (out out' row rest rest' : Set) (k : ℕ) (r : Bool) → GatheredFrom R all out rest → r ≡ is_empty rest → not r ≡ true
+  pub gather-turn : (out out' row rest rest' : Set) (k : ℕ) (r : Bool) → GatheredFrom R all out rest → r ≡ is_empty rest → r ≡ false
       → k ≡ least_below width (mem rest) → row ≡ those (R k) → out' ≡ those (λ a. mem out a or mem row a)
       → rest' ≡ those (λ b. mem rest b and non (eqb b (least_below width (mem rest)))) → GatheredFrom R all out' rest'
   gather-turn out out' row rest rest' k r inv hr hn hk hw hu hm =
       union-turn (rows_of R) all out out' row rest rest' r inv.0 inv.1 hr hn
       (hw ∙ ap (λ (n : ℕ). those (R n)) hk ∙ sym (row-rows_of R _ (least-low rest rest' r hr hn hm))) hu hm
 
-  pub gather-end : (out rest : Set) (r : Bool) → GatheredFrom R all out rest → r ≡ is_empty rest → not r ≡ false
+  pub gather-end : (out rest : Set) (r : Bool) → GatheredFrom R all out rest → r ≡ is_empty rest → r ≡ true
       → out ≡ those (λ x. some_below width (λ u. mem all u and R u x))
   gather-end out rest r inv hr hn =
       union-end (rows_of R) all out rest r inv.1 hr hn

@@ -19,7 +19,7 @@ use sets::activity::WIDTH;
 use sets::{Activity, Place, Rows, Set, rows};
 
 // What was seen of a trace, and how many activities that is.
-#[derive(Drop)]
+#[derive(Clone, Copy)]
 struct Seen {
     set: Set,
     count: usize,

@@ -22,7 +22,7 @@ use steps::relations;
 use tally::{Tally, log};
 
 // What a tally gives: A, the events and the relations after step 8; nothing of it where the tally is refused.
-#[derive(Drop)]
+#[derive(Clone, Copy)]
 pub struct Known {
     pub answer: Answer,
     pub activities: u8,

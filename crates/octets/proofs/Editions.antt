@@ -3,14 +3,13 @@ use mathlib.Core.Path.{◌≡◌, refl, sym, ap, ◌∙◌}
 use mathlib.Core.Bool.{Bool, true, false, not}
 use mathlib.Core.List.{List}
 use Prim.Native.Nat.{ℕ, ◌≤◌, ◌<◌}
-use native.Mathlib.Omega.{arith}
-use borrow.Author.Tests.{lt-ltb, le-ltb, ltb-false, eq-eqb, ne_eqb, eqb-true, not-true, not-false}
-use lib.Dec.{T, eqb, ltb}
+use borrow.Author.Tests.{lt-ltb, le-ltb, ltb-false, eq-eqb, ne_eqb, eqb-true}
+use lib.Dec.{eqb, ltb}
 use Rattle.sets.specs.Tests.{◌and◌, ◌or◌, non, when◌then◌else◌}
 use Rattle.sets.specs.Members.{word}
 use Rattle.sets.specs.Sizes.{most_activities}
 use Rattle.octets.specs.Opens.{opens_with}
-use Rattle.sets.proofs.Tests.{neither, T→true, true→T, F→false, false→F, non-false}
+use Rattle.sets.proofs.Tests.{neither, T→true, non-false}
 use Rattle.octets.specs.Editions.{narrow_edition, wide_edition, edition_for, edition_in, opens_file, beyond}
 
 module _ (a : ℕ) where
@@ -23,14 +22,14 @@ module _ (a : ℕ) where
   edition-narrow l = sym (ap (λ (t : Bool). when t then wide_edition else narrow_edition) (le-ltb word a l))
 
 module _ (letters bytes : List ℕ) (o : Bool) (eo : o ≡ opens_with letters bytes) where
-  pub opens_not : not o ≡ true → false ≡ opens_file letters bytes
+  pub opens_not : o ≡ false → false ≡ opens_file letters bytes
   unfolding opens_file ◌and◌
-  opens_not h = ap (λ (t : Bool). t and (eqb (edition_in bytes) narrow_edition or eqb (edition_in bytes) wide_edition)) (sym (not-true o h) ∙ eo)
+  opens_not h = ap (λ (t : Bool). t and (eqb (edition_in bytes) narrow_edition or eqb (edition_in bytes) wide_edition)) (sym (h) ∙ eo)
 
-  module _ (e : ℕ) (ee : e ≡ edition_in bytes) (h : not o ≡ false) where
+  module _ (e : ℕ) (ee : e ≡ edition_in bytes) (h : o ≡ true) where
     opens-so : (eqb (edition_in bytes) narrow_edition or eqb (edition_in bytes) wide_edition) ≡ opens_file letters bytes
     unfolding opens_file ◌and◌
-    opens-so = ap (λ (t : Bool). t and (eqb (edition_in bytes) narrow_edition or eqb (edition_in bytes) wide_edition)) (sym (not-false o h) ∙ eo)
+    opens-so = ap (λ (t : Bool). t and (eqb (edition_in bytes) narrow_edition or eqb (edition_in bytes) wide_edition)) (sym (h) ∙ eo)
 
     pub opens-narrow : e ≡ narrow_edition → true ≡ opens_file letters bytes
     unfolding ◌or◌

@@ -1,10 +1,10 @@
 -- Numbers in bytes: what is read where bytes are missing, what is stored, and what is read, put down again. Assumes nothing.
 use mathlib.Core.Path.{◌≡◌, refl, sym, ap, ◌∙◌, subst}
-use mathlib.Core.Bool.{Bool, true, false, not}
+use mathlib.Core.Bool.{Bool, true, false}
 use mathlib.Core.List.{List, [], ◌∷◌}
 use Prim.Native.Nat.{ℕ, zero, suc, ◌+◌, ◌*◌, ◌^◌, ◌≤◌, ◌<◌}
 use native.Mathlib.Omega.{arith}
-use borrow.Author.Tests.{le-ltb, ltb-true, not-true, not-false}
+use borrow.Author.Tests.{le-ltb, ltb-true}
 use lib.Dec.{ltb}
 use lib.ListN.{length, get_or, take, drop, get_or-eq_default}
 use lib.Seq.{sets, length-sets}
@@ -41,13 +41,13 @@ module _ (bytes : List ℕ) (at : ℕ) (few : Bool) (e : few ≡ ltb (length byt
       let none : get_or bytes (at + 1) 0 ≡ 0 = get_or-eq_default bytes 0 (omega arith) in
       omega (arith, two-bytes_lem bytes at)
 
-  pub put-nothing : (x : ℕ) → not few ≡ false → bytes ≡ number_put bytes at x
+  pub put-nothing : (x : ℕ) → few ≡ true → bytes ≡ number_put bytes at x
   unfolding number_put
-  put-nothing x h = ap (λ (t : Bool). when t then bytes else sets bytes at (little_endian number_length x)) (sym (not-false few h) ∙ e)
+  put-nothing x h = ap (λ (t : Bool). when t then bytes else sets bytes at (little_endian number_length x)) (sym (h) ∙ e)
 
-  pub put_some : (x : ℕ) (bytes' : List ℕ) → not few ≡ true → bytes' ≡ sets bytes at (little_endian number_length x) → bytes' ≡ number_put bytes at x
+  pub put_some : (x : ℕ) (bytes' : List ℕ) → few ≡ false → bytes' ≡ sets bytes at (little_endian number_length x) → bytes' ≡ number_put bytes at x
   unfolding number_put
-  put_some x bytes' h k = k ∙ ap (λ (t : Bool). when t then bytes else sets bytes at (little_endian number_length x)) (sym (not-true few h) ∙ e)
+  put_some x bytes' h k = k ∙ ap (λ (t : Bool). when t then bytes else sets bytes at (little_endian number_length x)) (sym (h) ∙ e)
 
 pub ruleset numbering = (byte_past, number-few, put-nothing, put_some)
 

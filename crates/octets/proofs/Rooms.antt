@@ -1,10 +1,10 @@
 -- Whether so many bytes are left from a place on. Assumes nothing.
 use mathlib.Core.Path.{◌≡◌, refl, sym, ◌∙◌}
-use mathlib.Core.Bool.{Bool, true, false, not}
+use mathlib.Core.Bool.{Bool, true, false}
 use mathlib.Core.List.{List}
 use Prim.Native.Nat.{ℕ, ◌+◌, ◌-◌, ◌≤◌, ◌<◌}
 use native.Mathlib.Omega.{arith}
-use borrow.Author.Tests.{lt-ltb, le-ltb, ltb-true, ltb-false, not-true}
+use borrow.Author.Tests.{lt-ltb, le-ltb, ltb-true, ltb-false}
 use lib.Dec.{ltb}
 use lib.ListN.{length}
 use Rattle.sets.proofs.Tests.{split, either, T→true, F→false}
@@ -23,8 +23,8 @@ module _ (bytes : List ℕ) (at n : ℕ) (few : Bool) (e : few ≡ ltb (length b
   pub room : few ≡ false → at + n ≤ length bytes
   room h = ltb-false (length bytes) (at + n) (sym e ∙ h)
 
-  pub room-not : not few ≡ true → at + n ≤ length bytes
-  room-not h = room (not-true few h)
+  pub room-not : few ≡ false → at + n ≤ length bytes
+  room-not h = room (h)
 
 pub ruleset rooms = (few-whole, few-rest, room, room-not)
 

@@ -1,11 +1,11 @@
 -- Sets in bytes: what is put is read again at its place, and does not show elsewhere; what is read, put down again, is what was there. Assumes nothing.
 use mathlib.Core.Path.{◌≡◌, refl, sym, ap, ap₂, ◌∙◌, subst}
-use mathlib.Core.Bool.{Bool, true, false, not}
+use mathlib.Core.Bool.{Bool, true, false}
 use mathlib.Core.Logic.{inl, inr}
 use mathlib.Core.List.{List, [], ◌∷◌, ◌++◌}
 use Prim.Native.Nat.{ℕ, ◌+◌, ◌*◌, ◌^◌, ◌≤◌, ◌<◌}
 use native.Mathlib.Omega.{arith}
-use borrow.Author.Tests.{lt-ltb, le-ltb, ltb-false, not-true, not-false}
+use borrow.Author.Tests.{lt-ltb, le-ltb, ltb-false}
 use lib.Dec.{T, ltb}
 use lib.ListN.{length, get_or, take, drop, length-append}
 use lib.Seq.{sets, length-sets, take_at, drop_at}
@@ -81,25 +81,25 @@ module _ (wide : Bool) (bytes : List ℕ) (at : ℕ) (few : Bool) (n : ℕ) (k :
   pub place-second : few ≡ false → wide ≡ true → length bytes < 2 ^ 64 → at + word_length < 2 ^ 64
   place-second h w l = let r = room-second h w in omega arith
 
-  pub put-place_lem : not few ≡ true → wide ≡ true → length bytes < 2 ^ 64 → at + word_length < 2 ^ 64
-  put-place_lem h w l = place-second (not-true few h) w l
+  pub put-place_lem : few ≡ false → wide ≡ true → length bytes < 2 ^ 64 → at + word_length < 2 ^ 64
+  put-place_lem h w l = place-second (h) w l
 
-  pub put_first : not few ≡ true → at + word_length ≤ length bytes
-  put_first h = room-first (not-true few h)
+  pub put_first : few ≡ false → at + word_length ≤ length bytes
+  put_first h = room-first (h)
 
-  pub put_second : (mid : List ℕ) → length mid ≡ length bytes → not few ≡ true → wide ≡ true → at + word_length + word_length ≤ length mid
-  put_second mid q h w = let l = room-second (not-true few h) w in omega arith
+  pub put_second : (mid : List ℕ) → length mid ≡ length bytes → few ≡ false → wide ≡ true → at + word_length + word_length ≤ length mid
+  put_second mid q h w = let l = room-second (h) w in omega arith
 
   module _ (s : Set) where
-    pub put-nothing : not few ≡ false → bytes ≡ set_put wide bytes at s
+    pub put-nothing : few ≡ true → bytes ≡ set_put wide bytes at s
     unfolding set_put
-    put-nothing h = ap (λ (t : Bool). when t then bytes else sets bytes at (set_bytes wide s)) (sym (not-false few h) ∙ is-few)
+    put-nothing h = ap (λ (t : Bool). when t then bytes else sets bytes at (set_bytes wide s)) (sym (h) ∙ is-few)
 
-    put_some : (bytes' : List ℕ) → not few ≡ true → bytes' ≡ sets bytes at (set_bytes wide s) → bytes' ≡ set_put wide bytes at s
+    put_some : (bytes' : List ℕ) → few ≡ false → bytes' ≡ sets bytes at (set_bytes wide s) → bytes' ≡ set_put wide bytes at s
     unfolding set_put
-    put_some bytes' h q = q ∙ ap (λ (t : Bool). when t then bytes else sets bytes at (set_bytes wide s)) (sym (not-true few h) ∙ is-few)
+    put_some bytes' h q = q ∙ ap (λ (t : Bool). when t then bytes else sets bytes at (set_bytes wide s)) (sym (h) ∙ is-few)
 
-    pub put-narrow : (bytes' : List ℕ) → not few ≡ true → wide ≡ false → bytes' ≡ sets bytes at (little_endian word_length s.low) → bytes' ≡ set_put wide bytes at s
+    pub put-narrow : (bytes' : List ℕ) → few ≡ false → wide ≡ false → bytes' ≡ sets bytes at (little_endian word_length s.low) → bytes' ≡ set_put wide bytes at s
     unfolding set_bytes
     put-narrow bytes' h w q =
         put_some bytes' h
@@ -107,7 +107,7 @@ module _ (wide : Bool) (bytes : List ℕ) (at : ℕ) (few : Bool) (n : ℕ) (k :
         (sym (append-nil (little_endian word_length s.low))
         ∙ ap (λ (t : Bool). little_endian word_length s.low ++ (when t then little_endian word_length s.high else [])) (sym w)))
 
-    pub put-wide : (mid bytes' : List ℕ) → not few ≡ true → wide ≡ true → mid ≡ sets bytes at (little_endian word_length s.low)
+    pub put-wide : (mid bytes' : List ℕ) → few ≡ false → wide ≡ true → mid ≡ sets bytes at (little_endian word_length s.low)
         → bytes' ≡ sets mid (at + word_length) (little_endian word_length s.high) → bytes' ≡ set_put wide bytes at s
     unfolding set_bytes
     put-wide mid bytes' h w qm q =

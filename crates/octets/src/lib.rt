@@ -1,4 +1,6 @@
 // What the files of this house share: what a file opens with, editions, numbers and sets as bytes (01, "Sizes").
+#![tactic(auto)]
+
 pub mod edition;
 pub mod number;
 pub mod opening;

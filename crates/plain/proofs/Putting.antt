@@ -1,11 +1,11 @@
 -- A relation's rows put down as pairs: what the loops of `fill` leave, and what the list then holds. Assumes nothing.
 use mathlib.Core.Path.{◌≡◌, refl, sym, ap, ◌∙◌, subst}
-use mathlib.Core.Bool.{Bool, true, false, not}
+use mathlib.Core.Bool.{Bool, true, false}
 use mathlib.Core.List.{List, [], ◌∷◌, ◌++◌, append_assoc}
 use Prim.Native.Nat.{ℕ, zero, suc, ◌+◌, ◌*◌, ◌/◌, ◌%◌, ◌≤◌, ◌<◌}
 use native.Mathlib.Numerals.{add-one}
 use native.Mathlib.Omega.{arith}
-use borrow.Author.Tests.{lt-ltb, le-ltb, ltb-true, ltb-false, eq-eqb, ne_eqb, not-true, not-false}
+use borrow.Author.Tests.{lt-ltb, le-ltb, ltb-false, eq-eqb, ne_eqb}
 use lib.Dec.{T, eqb, ltb, eqb→eq, lt→ltb, ltb→lt}
 use lib.ListN.{length, get_or, set, drop, length-append, length-set}
 use lib.Seq.{drop-cons, set_at}
@@ -15,13 +15,13 @@ use Rattle.sets.specs.Rows.{Relation, row_at, in_row}
 use Rattle.sets.specs.Tables.{table_at}
 use Rattle.sets.specs.declared.set.Set.{Set}
 use Rattle.sets.specs.declared.answer.Answer.TheVariants.{Done, BufferTooSmall}
-use Rattle.sets.proofs.Tests.{and_l, and_r, and_i, T-ext, T→true, F→false, eqb_of, split, either, or-false}
+use Rattle.sets.proofs.Tests.{and_l, and_r, and_i, T-ext, F→false, eqb_of, split, either, or-false}
 use Rattle.sets.proofs.Below.{some-i, some-e, some-last}
 use Rattle.sets.proofs.Bits.{digit-le}
 use Rattle.plain.specs.declared.fill.Filled.{Filled}
-use Rattle.plain.specs.Pairs.{most_pairs, pair_of, source_of, target_of, some_in, is_among}
+use Rattle.plain.specs.Pairs.{most_pairs, source_of, target_of, some_in, is_among}
 use Rattle.plain.specs.Filling.{relation_at, questions, numbered, is_pair, pairs_below, pairs_of, put_down, filled_of, memory_after}
-use Rattle.plain.specs.Same.{pair_in, Holds}
+use Rattle.plain.specs.Same.{pair_in}
 
 -- ---- one pair of the relation
 
@@ -47,20 +47,20 @@ module _ (tables : List ℕ) (kind k : ℕ) (row : Set) (q : Bool) where
 -- the place after a pair that is wanted or not
 
 module _ (q : Bool) where
-  pub digit-none : not q ≡ true → 0 ≡ digit q
-  digit-none h = ap digit (sym (not-true q h))
+  pub digit-none : q ≡ false → 0 ≡ digit q
+  digit-none h = ap digit (sym (h))
 
-  pub digit-one : not q ≡ false → 1 ≡ digit q
-  digit-one h = ap digit (sym (not-false q h))
+  pub digit-one : q ≡ true → 1 ≡ digit q
+  digit-one h = ap digit (sym (h))
 
   module _ (n : ℕ) where
-    pub place_none : not q ≡ true → n ≡ n + digit q
+    pub place_none : q ≡ false → n ≡ n + digit q
     place_none h = let d = digit-none h in omega arith
 
-    pub place-one : not q ≡ false → n + 1 ≡ n + digit q
+    pub place-one : q ≡ true → n + 1 ≡ n + digit q
     place-one h = let d = digit-one h in omega arith
 
-    pub place-room : (l : ℕ) → n + digit q ≤ l → not q ≡ false → n < l
+    pub place-room : (l : ℕ) → n + digit q ≤ l → q ≡ true → n < l
     place-room l g h = let d = digit-one h in omega arith
 
 -- ---- the list grows
@@ -179,11 +179,11 @@ put-length memory memory₀ out n p q h e = ap length e ∙ by q ∙ h
     by true = length-set memory n p
     by false = refl
 
-pub put_one : (memory : List ℕ) (n p : ℕ) (q : Bool) → not q ≡ false → set memory n p ≡ when q then set memory n p else memory
-put_one memory n p q h = ap (λ (b : Bool). when b then set memory n p else memory) (sym (not-false q h))
+pub put_one : (memory : List ℕ) (n p : ℕ) (q : Bool) → q ≡ true → set memory n p ≡ when q then set memory n p else memory
+put_one memory n p q h = ap (λ (b : Bool). when b then set memory n p else memory) (sym (h))
 
-pub put-none : (memory : List ℕ) (n p : ℕ) (q : Bool) → not q ≡ true → memory ≡ when q then set memory n p else memory
-put-none memory n p q h = ap (λ (b : Bool). when b then set memory n p else memory) (sym (not-true q h))
+pub put-none : (memory : List ℕ) (n p : ℕ) (q : Bool) → q ≡ false → memory ≡ when q then set memory n p else memory
+put-none memory n p q h = ap (λ (b : Bool). when b then set memory n p else memory) (sym (h))
 
 -- ---- the answer
 

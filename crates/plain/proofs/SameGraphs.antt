@@ -3,7 +3,7 @@
 use mathlib.Core.Path.{◌≡◌, refl, sym, ap, ◌∙◌, subst}
 use mathlib.Core.Bool.{Bool, true, false}
 use mathlib.Core.List.{List}
-use Prim.Native.Nat.{ℕ, ◌+◌, ◌*◌, ◌<◌}
+use Prim.Native.Nat.{ℕ, ◌<◌}
 use native.Mathlib.Omega.{arith}
 use borrow.Author.Tests.{lt-ltb, le-ltb, ltb-false}
 use lib.Dec.{T, ltb, ltb→lt, lt→ltb}
@@ -15,7 +15,7 @@ use Rattle.sets.specs.Rows.{Relation, row_at, in_row}
 use Rattle.sets.specs.Tables.{table_at}
 use Rattle.sets.specs.Answers.{is_done}
 use Rattle.sets.specs.declared.set.Set.{Set}
-use Rattle.sets.proofs.Tests.{and_l, and_r, and_i, or-e, or_l, or_r, T-ext, T-eq, T→true, F→false, true→T, false→F, non-i, non-e, split}
+use Rattle.sets.proofs.Tests.{and_l, and_r, and_i, or-e, or_l, or_r, T-ext, T-eq, T→true, F→false, true→T, non-i, split}
 use Rattle.sets.proofs.Tests.{either, and-true, true-and, false-and, or-false}
 use Rattle.sets.proofs.Below.{every-i, every-e}
 use Rattle.sets.proofs.Members.{within-e, within-i, empty-e, mem-none}
@@ -25,11 +25,11 @@ use Rattle.engine.specs.declared.graph.Head.{Head}
 use Rattle.engine.specs.declared.graph.Graph.{Graph}
 use Rattle.engine.specs.Markings.{empty_marking}
 use Rattle.engine.specs.Relations.{graph_of, relations_of}
-use Rattle.engine.specs.Steps.{enabled, after, accepting}
+use Rattle.engine.specs.Steps.{accepting}
 use Rattle.engine.specs.Enabled.{is_true}
 use Rattle.engine.specs.Judged.{state_within, row_within, rows_within, relations_within, head_within, graph_within, found, judged_for, judged_with}
-use Rattle.engine.specs.Replay.{enabled_of, stepped_of, accepting_of, ending, replay_from, replay_of}
-use Rattle.plain.specs.Pairs.{most_pairs, pair_of, source_of, target_of, is_among, in_pairs, every_in, pair_within, pairs_within}
+use Rattle.engine.specs.Replay.{enabled_of, stepped_of, accepting_of, ending, replay_of}
+use Rattle.plain.specs.Pairs.{most_pairs, pair_of, source_of, target_of, is_among, in_pairs, pair_within, pairs_within}
 use Rattle.plain.specs.Graphs.{PlainGraph, plain_of, plain_relations, list_fits, lists_fit, lists_within, plain_within, plain_judged_for}
 use Rattle.plain.specs.Graphs.{plain_above, plain_judged_with}
 use Rattle.plain.specs.Results.{plain_enabled_of, plain_stepped_of, plain_accepting_of, plain_replay_of}

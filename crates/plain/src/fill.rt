@@ -10,7 +10,7 @@ use sets::activity::WIDTH;
 use sets::{Activity, Answer, tables};
 
 // Whether there was room, and how many pairs were put down.
-#[derive(Drop)]
+#[derive(Clone, Copy)]
 pub struct Filled {
     pub answer: Answer,
     pub pairs: usize,
@@ -60,7 +60,7 @@ fn count(relations: &Relations, kind: u8) -> usize
 fn put_pair(memory: &mut [u16], n: usize, k: usize, wanted: bool) -> usize
     requires { (k < questions) × (n + digit wanted ≤ length memory.old) }
     ensures value { result ≡ n + digit wanted }
-    ensures memory_after { memory.new ≡ when wanted then set memory.old n (numbered k) else (λ x. x.now) memory.entry }
+    ensures memory_after { memory.new ≡ when wanted then set memory.old n (numbered k) else memory.old }
 {
     if !wanted {
         return n;

@@ -54,7 +54,7 @@ module _ (file : List ℕ) (r : Bare) (hr : r ≡ bare_of file) where
     file-done t h = sym (ap is_done bare-answer) ∙ sym hd ∙ h
 
     -- of a file that is accepted
-    module _ (n : not d ≡ false) where
+    module _ (n : d ≡ true) where
       accepted : judged_file file ≡ Done
       unfolding read_of
       accepted = gone-on r.answer (judged_file file) d bare-answer hd n

@@ -86,16 +86,16 @@ module _ (file table : List ℕ) where
         passed-by (ltb (length table) (table_length (wide_in file))) BufferTooSmall (read_of file).answer r.answer
         (room-for_lem (length table) room (table_length (wide_in file)) least long) (ap (λ (x : Reading). x.answer) hr)
 
-    pub open-no-file : (n : ℕ) → not d ≡ true → n ≡ packed_of r.answer no_place → n ≡ desk_open_number file table
-    open-no-file n t e = open-refused-number r.answer the-file (sym hd ∙ not-true d t) n e
+    pub open-no-file : (n : ℕ) → d ≡ false → n ≡ packed_of r.answer no_place → n ≡ desk_open_number file table
+    open-no-file n t e = open-refused-number r.answer the-file (sym hd ∙ t) n e
 
-    pub open-no-file-table : not d ≡ true → table ≡ desk_open_table file table
-    open-no-file-table t = open-refused-table r.answer the-file (sym hd ∙ not-true d t)
+    pub open-no-file-table : d ≡ false → table ≡ desk_open_table file table
+    open-no-file-table t = open-refused-table r.answer the-file (sym hd ∙ t)
 
-    before : not d ≡ false → is_done (before_open file table) ≡ true
-    before t = ap is_done (sym the-file) ∙ sym hd ∙ not-false d t
+    before : d ≡ true → is_done (before_open file table) ≡ true
+    before t = ap is_done (sym the-file) ∙ sym hd ∙ t
 
-    pub open-served : (n : ℕ) (o : Opened) → not d ≡ false → o ≡ opened_of r.graph table → n ≡ packed_of o.answer o.place
+    pub open-served : (n : ℕ) (o : Opened) → d ≡ true → o ≡ opened_of r.graph table → n ≡ packed_of o.answer o.place
         → n ≡ desk_open_number file table
     unfolding desk_opened_of
     open-served n o t q e =
@@ -104,7 +104,7 @@ module _ (file table : List ℕ) where
         (served (before_open file table) (before t) (opened_of (read_of file).graph table) (refused_open (before_open file table)) o
         (q ∙ ap (λ (x : Reading). opened_of x.graph table) hr))
 
-    pub open-served-table : (table' : List ℕ) → not d ≡ false → table' ≡ table_opened r.graph table
+    pub open-served-table : (table' : List ℕ) → d ≡ true → table' ≡ table_opened r.graph table
         → table' ≡ desk_open_table file table
     unfolding desk_open_table
     open-served-table table' t q =
@@ -144,9 +144,9 @@ module _ (file table : List ℕ) (p : ℕ) where
     hb : b ≡ place_answer (wide_in file) table p
     hb = told ∙ ap (λ (v : Bool). place_answer v table p) hw
 
-    module _ (t : not d ≡ true) where
+    module _ (t : d ≡ false) where
       no-place_lem : is_done b ≡ false
-      no-place_lem = sym hd ∙ not-true d t
+      no-place_lem = sym hd ∙ t
 
       pub the-place : b ≡ before_place file table p
       unfolding before_place
@@ -164,18 +164,18 @@ module _ (file table : List ℕ) (p : ℕ) where
       pub close-no-place-table : table ≡ desk_close_table file table p
       close-no-place-table = close-refused-table b the-place no-place_lem
 
-    module _ (t : not d ≡ false) (x : Answer) (f : Bool) (hx : x ≡ (read_of file).answer) (hf : f ≡ is_done x) where
+    module _ (t : d ≡ true) (x : Answer) (f : Bool) (hx : x ≡ (read_of file).answer) (hf : f ≡ is_done x) where
       pub the-file-then : x ≡ before_place file table p
       unfolding before_place
-      the-file-then = hx ∙ sym (ask-on (place_answer (wide_in file) table p) (read_of file).answer (sym hb ∙ done-is b (sym hd ∙ not-false d t)))
+      the-file-then = hx ∙ sym (ask-on (place_answer (wide_in file) table p) (read_of file).answer (sym hb ∙ done-is b (sym hd ∙ t)))
 
-      pub asked : not f ≡ false → is_done (before_place file table p) ≡ true
-      asked u = ap is_done (sym the-file-then) ∙ sym hf ∙ not-false f u
+      pub asked : f ≡ true → is_done (before_place file table p) ≡ true
+      asked u = ap is_done (sym the-file-then) ∙ sym hf ∙ u
 
-    module _ (t : not d ≡ false) (r : Bare) (f : Bool) (hr : r ≡ bare_of file) (hf : f ≡ is_done r.answer) where
-      module _ (u : not f ≡ true) where
+    module _ (t : d ≡ true) (r : Bare) (f : Bool) (hr : r ≡ bare_of file) (hf : f ≡ is_done r.answer) where
+      module _ (u : f ≡ false) where
         no-file : is_done r.answer ≡ false
-        no-file = sym hf ∙ not-true f u
+        no-file = sym hf ∙ u
 
         its-answer : r.answer ≡ before_place file table p
         its-answer = the-file-then t r.answer f (bare-answer file r hr) hf
@@ -194,8 +194,8 @@ module _ (file table : List ℕ) (p : ℕ) where
 
 -- the graph of a file that was read, and judged by reading it
 module _ (file : List ℕ) (small : Bytes file) (table : List ℕ) (p : ℕ) (w : Bool) (hw : w ≡ wide_in file) (b : Answer) (d : Bool)
-    (told : b ≡ place_answer w table p) (hd : d ≡ is_done b) (t : not d ≡ false) (r : Bare) (f : Bool) (hr : r ≡ bare_of file)
-    (hf : f ≡ is_done r.answer) (u : not f ≡ false) (tables : List ℕ) (ht : tables ≡ bare_tables file (no_tables relation_count)) where
+    (told : b ≡ place_answer w table p) (hd : d ≡ is_done b) (t : d ≡ true) (r : Bare) (f : Bool) (hr : r ≡ bare_of file)
+    (hf : f ≡ is_done r.answer) (u : f ≡ true) (tables : List ℕ) (ht : tables ≡ bare_tables file (no_tables relation_count)) where
   there : is_done (before_place file table p) ≡ true
   there = asked file table p w hw b d told hd t r.answer f (bare-answer file r hr) hf u
 

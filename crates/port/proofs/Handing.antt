@@ -26,14 +26,14 @@ use Rattle.port.specs.Classroom.{handed, fill_number, fill_memory}
 -- ---- x is the answer that the definition has, a the one that the code was given
 
 module _ (x a : Answer) (d : Bool) (h : a ≡ x) (k : d ≡ is_done a) where
-  pub refused-step_lem : (y : Stepped) → not d ≡ true → refused_step a ≡ when is_done x then y else refused_step x
+  pub refused-step_lem : (y : Stepped) → d ≡ false → refused_step a ≡ when is_done x then y else refused_step x
   refused-step_lem y t = passed-by (is_done x) y _ _ (failed (is_done x) d (k ∙ ap is_done h) t) (ap refused_step h)
 
-  pub refused-number : (n y : ℕ) → not d ≡ true → n ≡ packed_of a 0 → n ≡ when is_done x then y else packed_of x 0
+  pub refused-number : (n y : ℕ) → d ≡ false → n ≡ packed_of a 0 → n ≡ when is_done x then y else packed_of x 0
   refused-number n y t e =
       passed-by (is_done x) y _ n (failed (is_done x) d (k ∙ ap is_done h) t) (e ∙ ap (λ (b : Answer). packed_of b 0) h)
 
-  pub went_on : {A : Type 0} (y w z : A) → not d ≡ false → z ≡ y → z ≡ when is_done x then y else w
+  pub went_on : {A : Type 0} (y w z : A) → d ≡ true → z ≡ y → z ≡ when is_done x then y else w
   went_on y w z t e = taken (is_done x) y w z (held (is_done x) d (k ∙ ap is_done h) t) e
 
 -- ---- the head was read from its bytes
@@ -74,23 +74,23 @@ module _ (file : List ℕ) (kind : ℕ) (memory : List ℕ) (r : Reading) (d : B
   abbrev given : Reading → Filled
   given y = filled_of (relation_at y.graph.relations kind) memory
 
-  pub fill-refused : (n : ℕ) → not d ≡ true → n ≡ packed_of r.answer 0 → n ≡ fill_number file kind memory
+  pub fill-refused : (n : ℕ) → d ≡ false → n ≡ packed_of r.answer 0 → n ≡ fill_number file kind memory
   unfolding fill_number
   fill-refused n t e = refused-number (read_of file).answer r.answer d (ap (λ (y : Reading). y.answer) hr) hd n _ t e
 
-  pub fill-kept : not d ≡ true → memory ≡ fill_memory file kind memory
+  pub fill-kept : d ≡ false → memory ≡ fill_memory file kind memory
   unfolding fill_memory
   fill-kept t =
       passed-by (is_done (read_of file).answer) _ memory memory
       (failed (is_done (read_of file).answer) d (hd ∙ ap (λ (y : Reading). is_done y.answer) hr) t) (λ _. memory)
 
-  pub fill-number_lem : (f : Filled) (n : ℕ) → not d ≡ false → f ≡ given r → n ≡ packed_of f.answer f.pairs → n ≡ fill_number file kind memory
+  pub fill-number_lem : (f : Filled) (n : ℕ) → d ≡ true → f ≡ given r → n ≡ packed_of f.answer f.pairs → n ≡ fill_number file kind memory
   unfolding fill_number
   fill-number_lem f n t q e =
       went_on (read_of file).answer r.answer d (ap (λ (y : Reading). y.answer) hr) hd _ _ n t
       (e ∙ ap (λ (y : Filled). packed_of y.answer y.pairs) (q ∙ ap given hr))
 
-  pub fill-memory_lem : (memory' : List ℕ) → not d ≡ false → memory' ≡ memory_after (relation_at r.graph.relations kind) memory
+  pub fill-memory_lem : (memory' : List ℕ) → d ≡ true → memory' ≡ memory_after (relation_at r.graph.relations kind) memory
       → memory' ≡ fill_memory file kind memory
   unfolding fill_memory
   fill-memory_lem memory' t e =

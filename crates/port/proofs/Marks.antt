@@ -30,12 +30,12 @@ module _ (file log : List ℕ) (j : Judged) (d : Bool) (hj : j ≡ judged_of log
   log_is = ap (λ (x : Judged). x.answer) hj
 
   -- the log is refused
-  module _ (n : not d ≡ true) where
+  module _ (n : d ≡ false) where
     log-first : j.answer ≡ before_marks file log
     log-first = refused j.answer (log_of log).answer d log_is hd (read_of file).answer n
 
     log-not : is_done (before_marks file log) ≡ false
-    log-not = ap is_done (sym log-first) ∙ sym hd ∙ not-true d n
+    log-not = ap is_done (sym log-first) ∙ sym hd ∙ n
 
     pub log-marks : (labels : List ℕ) → refused_marks j.answer ≡ marks_in file log labels
     unfolding marks_in
@@ -56,7 +56,7 @@ module _ (file log : List ℕ) (j : Judged) (d : Bool) (hj : j ≡ judged_of log
     unfolding replays_buffer
     log-buffer buffer = sym (ap (λ (t : Bool). when t then replays_after (read_of file).graph log buffer else buffer) log-not)
 
-  module _ (n : not d ≡ false) (r : Reading) (b : Bool) (hr : r ≡ read_of file) (hb : b ≡ is_done r.answer) where
+  module _ (n : d ≡ true) (r : Reading) (b : Bool) (hr : r ≡ read_of file) (hb : b ≡ is_done r.answer) where
     file-next : r.answer ≡ before_marks file log
     file-next =
         ap (λ (x : Reading). x.answer) hr ∙ sym (passed j.answer (log_of log).answer d log_is hd (read_of file).answer n)
@@ -71,11 +71,11 @@ module _ (file log : List ℕ) (j : Judged) (d : Bool) (hj : j ≡ judged_of log
       by-marks t e =
           ap (λ (x : Bool). when x then marks_of (read_of file).graph log labels else refused_marks (before_marks file log)) (asked t e)
 
-      pub file-marks : not b ≡ true → refused_marks r.answer ≡ marks_in file log labels
-      file-marks e = ap refused_marks file-next ∙ sym (by-marks false (not-true b e))
+      pub file-marks : b ≡ false → refused_marks r.answer ≡ marks_in file log labels
+      file-marks e = ap refused_marks file-next ∙ sym (by-marks false (e))
 
-      pub graph-marks : (m : Marked) → not b ≡ false → m ≡ marks_of r.graph log labels → m ≡ marks_in file log labels
-      graph-marks m e h = h ∙ ap (λ (x : Reading). marks_of x.graph log labels) hr ∙ sym (by-marks true (not-false b e))
+      pub graph-marks : (m : Marked) → b ≡ true → m ≡ marks_of r.graph log labels → m ≡ marks_in file log labels
+      graph-marks m e h = h ∙ ap (λ (x : Reading). marks_of x.graph log labels) hr ∙ sym (by-marks true (e))
 
     module _ (room k : ℕ) where
       abbrev numbered : Bool → ℕ
@@ -87,28 +87,28 @@ module _ (file log : List ℕ) (j : Judged) (d : Bool) (hj : j ≡ judged_of log
       unfolding replays_number
       by_number t e = sym (ap numbered (asked t e))
 
-      pub file-number : not b ≡ true → k ≡ packed_of r.answer 0 → k ≡ replays_number file log room
-      file-number e h = h ∙ ap (λ (a : Answer). packed_of a 0) file-next ∙ by_number false (not-true b e)
+      pub file-number : b ≡ false → k ≡ packed_of r.answer 0 → k ≡ replays_number file log room
+      file-number e h = h ∙ ap (λ (a : Answer). packed_of a 0) file-next ∙ by_number false (e)
 
-      pub graph-number : (q : Replays) → not b ≡ false → q ≡ replays_of r.graph log room → k ≡ packed_of q.answer q.traces
+      pub graph-number : (q : Replays) → b ≡ true → q ≡ replays_of r.graph log room → k ≡ packed_of q.answer q.traces
           → k ≡ replays_number file log room
       graph-number q e hq h =
           h
           ∙ ap (λ (x : Replays). packed_of x.answer x.traces) (hq ∙ ap (λ (x : Reading). replays_of x.graph log room) hr)
-          ∙ by_number true (not-false b e)
+          ∙ by_number true (e)
 
     module _ (buffer : List ℕ) where
       by-buffer : (t : Bool) → b ≡ t → (when t then replays_after (read_of file).graph log buffer else buffer) ≡ replays_buffer file log buffer
       unfolding replays_buffer
       by-buffer t e = sym (ap (λ (x : Bool). when x then replays_after (read_of file).graph log buffer else buffer) (asked t e))
 
-      pub file-buffer : not b ≡ true → buffer ≡ replays_buffer file log buffer
-      file-buffer e = by-buffer false (not-true b e)
+      pub file-buffer : b ≡ false → buffer ≡ replays_buffer file log buffer
+      file-buffer e = by-buffer false (e)
 
-      pub graph-buffer : (buffer' : List ℕ) → not b ≡ false → buffer' ≡ replays_after r.graph log buffer
+      pub graph-buffer : (buffer' : List ℕ) → b ≡ true → buffer' ≡ replays_after r.graph log buffer
           → buffer' ≡ replays_buffer file log buffer
       graph-buffer buffer' e h =
-          h ∙ ap (λ (x : Reading). replays_after x.graph log buffer) hr ∙ by-buffer true (not-false b e)
+          h ∙ ap (λ (x : Reading). replays_after x.graph log buffer) hr ∙ by-buffer true (e)
 
 pub ruleset marking-file = (log-marks, file-marks, graph-marks)
 

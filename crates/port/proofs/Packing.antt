@@ -74,25 +74,25 @@ blocked-is a n low b t e h = ap₂ (λ (x y : ℕ). x + 1099511627776 * y) e h
 -- ---- a graph written
 
 module _ (a : Answer) (g : Graph) (out : List ℕ) (r : Bool) (hr : r ≡ is_done a) where
-  pub put_refused : (n : ℕ) → not r ≡ true → n ≡ packed_of a 0 → n ≡ put_number a g (length out)
+  pub put_refused : (n : ℕ) → r ≡ false → n ≡ packed_of a 0 → n ≡ put_number a g (length out)
   unfolding put_number
-  put_refused n h e = e ∙ sym (ap (λ (t : Bool). when t then packed_of (written_of g (length out)).answer (written_of g (length out)).length else packed_of a 0) (sym hr ∙ not-true r h))
+  put_refused n h e = e ∙ sym (ap (λ (t : Bool). when t then packed_of (written_of g (length out)).answer (written_of g (length out)).length else packed_of a 0) (sym hr ∙ h))
 
-  pub put-kept : not r ≡ true → out ≡ put_buffer a g out
+  pub put-kept : r ≡ false → out ≡ put_buffer a g out
   unfolding put_buffer
-  put-kept h = sym (ap (λ (t : Bool). when t then file_after g out else out) (sym hr ∙ not-true r h))
+  put-kept h = sym (ap (λ (t : Bool). when t then file_after g out else out) (sym hr ∙ h))
 
-  pub put-done : (n : ℕ) (w : Written) → judged g ≡ Done → not r ≡ false → w ≡ unjudged_of g (length out) → n ≡ packed_of w.answer w.length
+  pub put-done : (n : ℕ) (w : Written) → judged g ≡ Done → r ≡ true → w ≡ unjudged_of g (length out) → n ≡ packed_of w.answer w.length
       → n ≡ put_number a g (length out)
   unfolding put_number
   put-done n w ok h hw e =
       e
       ∙ ap (λ (x : Written). packed_of x.answer x.length) (hw ∙ unjudged-written g out ok)
-      ∙ sym (ap (λ (t : Bool). when t then packed_of (written_of g (length out)).answer (written_of g (length out)).length else packed_of a 0) (sym hr ∙ not-false r h))
+      ∙ sym (ap (λ (t : Bool). when t then packed_of (written_of g (length out)).answer (written_of g (length out)).length else packed_of a 0) (sym hr ∙ h))
 
-  pub put-filled : (out' : List ℕ) → judged g ≡ Done → not r ≡ false → out' ≡ unjudged_after g out → out' ≡ put_buffer a g out
+  pub put-filled : (out' : List ℕ) → judged g ≡ Done → r ≡ true → out' ≡ unjudged_after g out → out' ≡ put_buffer a g out
   unfolding put_buffer
-  put-filled out' ok h e = e ∙ unjudged-after_lem g out ok ∙ sym (ap (λ (t : Bool). when t then file_after g out else out) (sym hr ∙ not-false r h))
+  put-filled out' ok h e = e ∙ unjudged-after_lem g out ok ∙ sym (ap (λ (t : Bool). when t then file_after g out else out) (sym hr ∙ h))
 
 pub ruleset putting = (put_refused, put-kept, put-done, put-filled)
 
@@ -173,22 +173,22 @@ module _ (file trace : List ℕ) (r : Bare) (hr : r ≡ bare_of file) (d : Bool)
       (replay_of (read_of file).graph trace).accepting
       else blocked_of (read_of file).answer 0 false
 
-  pub replay-refused : (n : ℕ) → not d ≡ true → n ≡ blocked_of r.answer 0 false → n ≡ replay_number file trace
+  pub replay-refused : (n : ℕ) → d ≡ false → n ≡ blocked_of r.answer 0 false → n ≡ replay_number file trace
   unfolding replay_number
   replay-refused n h e =
-      e ∙ ap (λ (x : Answer). blocked_of x 0 false) (bare-answer file r hr) ∙ sym (ap shown (file-done file r hr d hd false (not-true d h)))
+      e ∙ ap (λ (x : Answer). blocked_of x 0 false) (bare-answer file r hr) ∙ sym (ap shown (file-done file r hr d hd false (h)))
 
   abbrev said : Walked → ℕ
   said x = blocked_of x.answer x.place.0 x.accepting
 
-  pub replay-too-long : (n : ℕ) → not d ≡ false → longest_trace < length trace → n ≡ blocked_of AboveLimit 0 false → n ≡ replay_number file trace
+  pub replay-too-long : (n : ℕ) → d ≡ true → longest_trace < length trace → n ≡ blocked_of AboveLimit 0 false → n ≡ replay_number file trace
   unfolding replay_number
   replay-too-long n h l e =
       e
       ∙ ap (λ (x : Replayed). said (walked_of x)) (sym (replay-long (read_of file).graph trace l))
-      ∙ sym (ap shown (file-done file r hr d hd true (not-false d h)))
+      ∙ sym (ap shown (file-done file r hr d hd true (h)))
 
-  pub replay-run : (n : ℕ) (h : not d ≡ false) → Bytes file → (tables : List ℕ) → tables ≡ bare_tables file (no_tables relation_count)
+  pub replay-run : (n : ℕ) (h : d ≡ true) → Bytes file → (tables : List ℕ) → tables ≡ bare_tables file (no_tables relation_count)
       → length trace ≤ longest_trace → (w : Bool) → w ≡ wide_in file
       → (p : Walked) → p ≡ walked_of (replay_from r.events (gains_for w (in_tables tables)) (state_for w r.state) 0 trace) → n ≡ said p
       → n ≡ replay_number file trace
@@ -202,7 +202,7 @@ module _ (file trace : List ℕ) (r : Bare) (hr : r ≡ bare_of file) (d : Bool)
       walked_of
       (replay_from (bare-events file r hr d hd h j) (in_tables (bare-relations file r hr d hd h tables ht j)) (bare-state file r hr d hd h j) 0 trace))
       ∙ ap walked_of (sym (replay-judged (read_of file).graph (read-judged file r hr d hd h small) trace l)))
-      ∙ sym (ap shown (file-done file r hr d hd true (not-false d h)))
+      ∙ sym (ap shown (file-done file r hr d hd true (h)))
 
 pub ruleset replaying = (replay-refused, replay-too-long)
 
@@ -221,19 +221,19 @@ module _ (file bytes : List ℕ) (a : ℕ) where
     unfolding step_of
     choice t short e l = sym (ap₂ chosen (file-done file r hr d hd t e) l)
 
-    pub step-refused : not d ≡ true → refused_step r.answer ≡ step_of file bytes a
+    pub step-refused : d ≡ false → refused_step r.answer ≡ step_of file bytes a
     unfolding non
-    step-refused n = ap refused_step (bare-answer file r hr) ∙ choice false _ (not-true d n) refl
+    step-refused n = ap refused_step (bare-answer file r hr) ∙ choice false _ (n) refl
 
-    pub step-short : (room : ℕ) → not d ≡ false → room ≡ marking_length (wide_in file) → length bytes < room
+    pub step-short : (room : ℕ) → d ≡ true → room ≡ marking_length (wide_in file) → length bytes < room
         → refused_step BufferTooSmall ≡ step_of file bytes a
     unfolding non
-    step-short room n e l = choice true true (not-false d n) (sym (short-of (length bytes) room (marking_length (wide_in file)) e l))
+    step-short room n e l = choice true true (n) (sym (short-of (length bytes) room (marking_length (wide_in file)) e l))
 
 -- reading has judged the graph
 pub step-taken : (file : List ℕ) → Bytes file → (bytes : List ℕ) (a : ℕ) (r : Bare) (d : Bool) → r ≡ bare_of file → d ≡ is_done r.answer
     → (tables : List ℕ) → tables ≡ bare_tables file (no_tables relation_count)
-    → (m : Marking) (s : Stepped) (room : ℕ) → not d ≡ false → room ≡ marking_length (wide_in file) → room ≤ length bytes
+    → (m : Marking) (s : Stepped) (room : ℕ) → d ≡ true → room ≡ marking_length (wide_in file) → room ≤ length bytes
     → m ≡ marking_from (wide_in file) bytes
     → s ≡ stepped_on r.events (in_tables tables) m a → s ≡ step_of file bytes a
 unfolding non
@@ -242,7 +242,7 @@ step-taken file small bytes a r d hr hd tables ht m s room n e l hm hs =
     ∙ ap (λ (x : Marking). stepped_on r.events (in_tables tables) x a) hm
     ∙ bare-graph file r hr d hd n tables ht (λ E R. stepped_on E R (marking_from (wide_in file) bytes) a)
     ∙ sym (stepped-on_lem (read_of file).graph (read-judged file r hr d hd n small) (marking_from (wide_in file) bytes) a)
-    ∙ choice file bytes a r d hr hd true false (not-false d n) (sym (room-for_lem (length bytes) room (marking_length (wide_in file)) e l))
+    ∙ choice file bytes a r d hr hd true false (n) (sym (room-for_lem (length bytes) room (marking_length (wide_in file)) e l))
 
 -- of any step that gives s
 module _ (s x : Stepped) (hs : s ≡ x) where
@@ -271,24 +271,24 @@ module _ (file bytes : List ℕ) (r : Reading) (d : Bool) (hr : r ≡ read_of fi
   unfolding opening_bytes
   left a e = ap (λ (x : Answer). when is_done x then marking_into (wide_in file) (read_of file).graph.head.opening bytes else bytes) (sym e)
 
-  module _ (n : not d ≡ true) where
+  module _ (n : d ≡ false) where
     refused : opening_answer file (length bytes) ≡ r.answer
     unfolding opening_answer
     refused =
         ap (λ (x : Reading). then_ask x.answer (when ltb (length bytes) (marking_length (wide_in file)) then BufferTooSmall else Done)) (sym hr)
-        ∙ ask-stop r.answer _ (sym hd ∙ not-true d n)
+        ∙ ask-stop r.answer _ (sym hd ∙ n)
 
     pub opening-refused : (k : ℕ) → k ≡ number_of r.answer → k ≡ number_of (opening_answer file (length bytes))
     opening-refused k e = e ∙ ap number_of (sym refused)
 
     pub opening-kept : bytes ≡ opening_bytes file bytes
     opening-kept =
-        ap (λ (t : Bool). when t then marking_into (wide_in file) (read_of file).graph.head.opening bytes else bytes) (sym (sym hd ∙ not-true d n))
+        ap (λ (t : Bool). when t then marking_into (wide_in file) (read_of file).graph.head.opening bytes else bytes) (sym (sym hd ∙ n))
         ∙ left r.answer refused
 
-  module _ (n : not d ≡ false) where
+  module _ (n : d ≡ true) where
     read : (read_of file).answer ≡ Done
-    read = ap (λ (x : Reading). x.answer) (sym hr) ∙ done-is r.answer (sym hd ∙ not-false d n)
+    read = ap (λ (x : Reading). x.answer) (sym hr) ∙ done-is r.answer (sym hd ∙ n)
 
     module _ (room : ℕ) (enough : room ≡ marking_length (wide_in file)) (l : length bytes < room) where
       few : opening_answer file (length bytes) ≡ BufferTooSmall

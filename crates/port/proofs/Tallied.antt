@@ -101,21 +101,21 @@ module _ (t out : List ℕ) (p : Profile) (k : Known) (hk : k ≡ known_of t p) 
     sym (ap (λ (b : Bool). when b then known_bytes (known_of t p) ++ drop known_length out else out) (ap is_done h ∙ k)),
   )
 
-  pub read-refused : (n : ℕ) → not r ≡ true → n ≡ number_of k.answer
+  pub read-refused : (n : ℕ) → r ≡ false → n ≡ number_of k.answer
       → (n ≡ relations_number t (length out) p) × (out ≡ relations_buffer t p out)
   unfolding relations_answer
   read-refused n y e =
-      let no : is_done k.answer ≡ false = sym hr ∙ not-true r y in
+      let no : is_done k.answer ≡ false = sym hr ∙ y in
       stays k.answer n
       (ap (λ (x : Known). then_ask x.answer (when ltb (length out) known_length then BufferTooSmall else Done)) (sym hk)
       ∙ ap (λ (b : Bool). when b then (when ltb (length out) known_length then BufferTooSmall else Done) else k.answer) no) no e
 
-  module _ (y : not r ≡ false) where
+  module _ (y : r ≡ true) where
     then-room : relations_answer t p (length out) ≡ (when ltb (length out) known_length then BufferTooSmall else Done)
     unfolding relations_answer
     then-room =
         ap (λ (x : Known). then_ask x.answer (when ltb (length out) known_length then BufferTooSmall else Done)) (sym hk)
-        ∙ ap (λ (b : Bool). when b then (when ltb (length out) known_length then BufferTooSmall else Done) else k.answer) (sym hr ∙ not-false r y)
+        ∙ ap (λ (b : Bool). when b then (when ltb (length out) known_length then BufferTooSmall else Done) else k.answer) (sym hr ∙ y)
 
     pub read-few : (n : ℕ) → length out < known_length → n ≡ number_of BufferTooSmall
         → (n ≡ relations_number t (length out) p) × (out ≡ relations_buffer t p out)
@@ -127,7 +127,7 @@ module _ (t out : List ℕ) (p : Profile) (k : Known) (hk : k ≡ known_of t p) 
     unfolding relations_buffer
     read_done n out' l e h =
         let answer = then-room ∙ ap (λ (b : Bool). when b then BufferTooSmall else Done) (le-ltb (length out) known_length l) in
-        let zero : number_of k.answer ≡ 0 = eqb-true (number_of k.answer) 0 (sym hr ∙ not-false r y) in (
+        let zero : number_of k.answer ≡ 0 = eqb-true (number_of k.answer) 0 (sym hr ∙ y) in (
           e ∙ zero ∙ ap number_of (sym answer),
           h ∙ ap (λ (x : Known). known_bytes x ++ drop known_length out) hk
               ∙ sym (ap (λ (b : Bool). when b then known_bytes (known_of t p) ++ drop known_length out else out) (ap is_done answer)),

@@ -67,14 +67,14 @@ module _ (file marking : List ℕ) (room : ℕ) where
     choice t short narrow e l n =
         sym (ap₂ (λ (x y : Bool). chosen x y (ltb room 4)) (file-done file r hr d hd t e) l ∙ ap (chosen t short) n)
 
-    pub finish-refused : not d ≡ true → finished_by r.answer [] ≡ finish_in file marking room
+    pub finish-refused : d ≡ false → finished_by r.answer [] ≡ finish_in file marking room
     unfolding non
-    finish-refused n = ap (λ (x : Answer). finished_by x []) (bare-answer file r hr) ∙ choice false _ _ (not-true d n) refl refl
+    finish-refused n = ap (λ (x : Answer). finished_by x []) (bare-answer file r hr) ∙ choice false _ _ (n) refl refl
 
-    module _ (n : not d ≡ false) (least : ℕ) (e : least ≡ marking_length (wide_in file)) where
+    module _ (n : d ≡ true) (least : ℕ) (e : least ≡ marking_length (wide_in file)) where
       pub finish-short : length marking < least → finished_by BufferTooSmall [] ≡ finish_in file marking room
       unfolding non
-      finish-short l = choice true true _ (not-false d n) (sym (short-of (length marking) least (marking_length (wide_in file)) e l)) refl
+      finish-short l = choice true true _ (n) (sym (short-of (length marking) least (marking_length (wide_in file)) e l)) refl
 
       module _ (l : least ≤ length marking) where
         enough : ltb (length marking) (marking_length (wide_in file)) ≡ false
@@ -82,16 +82,16 @@ module _ (file marking : List ℕ) (room : ℕ) where
 
         pub finish-narrow : room < 4 → finished_by BufferTooSmall [] ≡ finish_in file marking room
         unfolding non
-        finish-narrow k = choice true false true (not-false d n) enough (lt-ltb room 4 k)
+        finish-narrow k = choice true false true (n) enough (lt-ltb room 4 k)
 
         found : 4 ≤ room → finish_of (read_of file).graph (marking_from (wide_in file) marking) ≡ finish_in file marking room
         unfolding non
-        found k = choice true false false (not-false d n) enough (le-ltb room 4 k)
+        found k = choice true false false (n) enough (le-ltb room 4 k)
 
 -- reading has judged the graph
 pub finish-searched : (file : List ℕ) → Bytes file → (marking : List ℕ) (room : ℕ) (r : Bare) (d : Bool) → r ≡ bare_of file → d ≡ is_done r.answer
     → (tables : List ℕ) → tables ≡ bare_tables file (no_tables relation_count)
-    → (m : Marking) (f : Finished) → not d ≡ false → (least : ℕ) → least ≡ marking_length (wide_in file) → least ≤ length marking → 4 ≤ room
+    → (m : Marking) (f : Finished) → d ≡ true → (least : ℕ) → least ≡ marking_length (wide_in file) → least ≤ length marking → 4 ≤ room
     → m ≡ marking_from (wide_in file) marking → f ≡ finish_on r.events (in_tables tables) m → f ≡ finish_in file marking room
 finish-searched file small marking room r d hr hd tables ht m f n least e l k hm hf =
     hf
@@ -121,15 +121,15 @@ module _ (file table : List ℕ) (p room : ℕ) where
   refused-there a same e = ap (λ (x : Answer). finished_by x []) same ∙ by_both false _ (ap is_done (sym same) ∙ e) refl
 
   module _ (w : Bool) (hw : w ≡ wide_in file) (b : Answer) (d : Bool) (told : b ≡ place_answer w table p) (hd : d ≡ is_done b) where
-    pub no-such-call : not d ≡ true → finished_by b [] ≡ desk_finish_in file table p room
-    no-such-call t = refused-there b (the-place file table p w hw b d told hd t) (sym hd ∙ not-true d t)
+    pub no-such-call : d ≡ false → finished_by b [] ≡ desk_finish_in file table p room
+    no-such-call t = refused-there b (the-place file table p w hw b d told hd t) (sym hd ∙ t)
 
-    module _ (t : not d ≡ false) (r : Bare) (f : Bool) (hr : r ≡ bare_of file) (hf : f ≡ is_done r.answer) where
-      pub no-graph-there : not f ≡ true → finished_by r.answer [] ≡ desk_finish_in file table p room
+    module _ (t : d ≡ true) (r : Bare) (f : Bool) (hr : r ≡ bare_of file) (hf : f ≡ is_done r.answer) where
+      pub no-graph-there : f ≡ false → finished_by r.answer [] ≡ desk_finish_in file table p room
       no-graph-there u =
-          refused-there r.answer (the-file-then file table p w hw b d told hd t r.answer f (bare-answer file r hr) hf) (sym hf ∙ not-true f u)
+          refused-there r.answer (the-file-then file table p w hw b d told hd t r.answer f (bare-answer file r hr) hf) (sym hf ∙ u)
 
-      module _ (u : not f ≡ false) where
+      module _ (u : f ≡ true) where
         before : is_done (before_place file table p) ≡ true
         before = asked file table p w hw b d told hd t r.answer f (bare-answer file r hr) hf u
 
@@ -147,7 +147,7 @@ module _ (file table : List ℕ) (p room : ℕ) where
             ∙ by_both true false before (le-ltb room 4 k)
 
 pub searched-there : (file : List ℕ) → Bytes file → (table : List ℕ) (p room : ℕ) (w : Bool) → w ≡ wide_in file → (b : Answer) (d : Bool)
-    → b ≡ place_answer w table p → d ≡ is_done b → not d ≡ false → (r : Bare) (f : Bool) → r ≡ bare_of file → f ≡ is_done r.answer → not f ≡ false
+    → b ≡ place_answer w table p → d ≡ is_done b → d ≡ true → (r : Bare) (f : Bool) → r ≡ bare_of file → f ≡ is_done r.answer → f ≡ true
     → (tables : List ℕ) → tables ≡ bare_tables file (no_tables relation_count) → (x : Finished) → 4 ≤ room
     → x ≡ finished_on w r.events (in_tables tables) table p → x ≡ desk_finish_in file table p room
 searched-there file small table p room w hw b d told hd t r f hr hf u tables ht x k e =
@@ -161,13 +161,13 @@ module _ (f : Finished) (way : List ℕ) (t : Bool) (ht : t ≡ is_done f.answer
   abbrev left : Bool → List ℕ
   left b = when b then way_into f.way way else way
 
-  pub way-given : (way' : List ℕ) → not t ≡ false → way' ≡ way_into f.way way → way' ≡ way_after f way
+  pub way-given : (way' : List ℕ) → t ≡ true → way' ≡ way_into f.way way → way' ≡ way_after f way
   unfolding way_after
-  way-given way' y e = e ∙ ap left (sym (not-false t y) ∙ ht)
+  way-given way' y e = e ∙ ap left (sym (y) ∙ ht)
 
-  pub way-kept : not t ≡ true → way ≡ way_after f way
+  pub way-kept : t ≡ false → way ≡ way_after f way
   unfolding way_after
-  way-kept y = ap left (sym (not-true t y) ∙ ht)
+  way-kept y = ap left (sym (y) ∙ ht)
 
 pub ruleset leaving = (way-given, way-kept)
 
@@ -190,17 +190,17 @@ module _ (file trace : List ℕ) (a : ℕ) (r : Reading) (d : Bool) (hr : r ≡ 
   tested-read : (t : Bool) → d ≡ t → is_done (read_of file).answer ≡ t
   tested-read t e = sym (ap (λ (x : Reading). is_done x.answer) hr) ∙ sym hd ∙ e
 
-  pub shut-refused : (n : ℕ) → not d ≡ true → n ≡ packed_of r.answer 255 → n ≡ shut_number file trace a
+  pub shut-refused : (n : ℕ) → d ≡ false → n ≡ packed_of r.answer 255 → n ≡ shut_number file trace a
   unfolding shut_number
-  shut-refused n t e = e ∙ ap (λ (x : Reading). packed_of x.answer 255) hr ∙ sym (ap packed_where (tested-read false (not-true d t)))
+  shut-refused n t e = e ∙ ap (λ (x : Reading). packed_of x.answer 255) hr ∙ sym (ap packed_where (tested-read false (t)))
 
-  pub shut-told : (n by : ℕ) → not d ≡ false → by ≡ shut_by (relations_of r.graph) trace a → n ≡ packed_of r.answer by
+  pub shut-told : (n by : ℕ) → d ≡ true → by ≡ shut_by (relations_of r.graph) trace a → n ≡ packed_of r.answer by
       → n ≡ shut_number file trace a
   unfolding shut_number
   shut-told n by t h e =
       e
       ∙ ap (packed_of r.answer) h
       ∙ ap (λ (x : Reading). packed_of x.answer (shut_by (relations_of x.graph) trace a)) hr
-      ∙ sym (ap packed_where (tested-read true (not-false d t)))
+      ∙ sym (ap packed_where (tested-read true (t)))
 
 pub ruleset shut_out = (shut-refused, shut-told)

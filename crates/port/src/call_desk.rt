@@ -1,7 +1,9 @@
-// The call desk's functions (02, 5/12), on the graph of a file and a table of 1,056 lent bytes, or 2,080 by the file's edition. The file is judged where the desk judges its graph:
-// after the table, and after the place of step and close. Reading has judged it, so that step and close judge the call's marking alone.
+// The call desk's functions (02, 5/12), on the graph of a file and a table of 1,056 lent bytes, or 2,080 by the file's edition. The file is
+// judged where the desk judges its graph: after the table, and after the place of step and close. Reading has judged it, so that step and
+// close judge the call's marking alone.
 ghost use Rattle.std.specs.Prelude.{◌≡◌};
-ghost use Rattle.port.specs.Desk.{desk_open_number, desk_open_table, desk_step_number, desk_step_table, desk_close_number, desk_close_table};
+ghost use Rattle.port.specs.Desk.{desk_open_number, desk_open_table, desk_step_number, desk_step_table};
+ghost use Rattle.port.specs.Desk.{desk_close_number, desk_close_table};
 
 use crate::{lent, packed, packed_blocker};
 use engine::Relations;
@@ -10,8 +12,7 @@ use sets::rows::WORDS;
 use sets::{Activity, Answer};
 
 // Opens the lowest free place: the number and the place; 255 where it is refused.
-#[unsafe(no_mangle)]
-pub extern "C" fn skelfora_desk_open(file: &[u8], table: &mut [u8]) -> u64
+pub fn skelfora_desk_open(file: &[u8], table: &mut [u8]) -> u64
     ensures value { result ≡ desk_open_number file.now table.old }
     ensures table_after { table.new ≡ desk_open_table file.now table.old }
 {
@@ -30,13 +31,7 @@ pub extern "C" fn skelfora_desk_open(file: &[u8], table: &mut [u8]) -> u64
 }
 
 // One activity at one place: the number, and the blocker.
-#[unsafe(no_mangle)]
-pub extern "C" fn skelfora_desk_step(
-    file: &[u8],
-    table: &mut [u8],
-    place: usize,
-    activity: u8,
-) -> u64
+pub fn skelfora_desk_step(file: &[u8], table: &mut [u8], place: usize, activity: u8) -> u64
     ensures value { result ≡ desk_step_number file.now table.old place activity }
     ensures table_after { table.new ≡ desk_step_table file.now table.old place activity }
 {
@@ -56,8 +51,7 @@ pub extern "C" fn skelfora_desk_step(
 }
 
 // Frees a place whose call is accepting: the number.
-#[unsafe(no_mangle)]
-pub extern "C" fn skelfora_desk_close(file: &[u8], table: &mut [u8], place: usize) -> u64
+pub fn skelfora_desk_close(file: &[u8], table: &mut [u8], place: usize) -> u64
     ensures value { result ≡ desk_close_number file.now table.old place }
     ensures table_after { table.new ≡ desk_close_table file.now table.old place }
 {

@@ -61,8 +61,7 @@ fn plain_stepped<'a>(
 }
 
 // One step at a marking of 32 or 64 lent bytes; they stay as they were where it is refused.
-#[unsafe(no_mangle)]
-pub extern "C" fn skelfora_plain_step<'a, 'm>(
+pub fn skelfora_plain_step<'a, 'm>(
     head: &'a [u8],
     conditions: &'a [u16],
     responses: &'a [u16],
@@ -89,8 +88,7 @@ pub extern "C" fn skelfora_plain_step<'a, 'm>(
 }
 
 // Whether a marking of 32 or 64 bytes is accepting: the number, and 2^32 where it is.
-#[unsafe(no_mangle)]
-pub extern "C" fn skelfora_plain_accepting<'a>(
+pub fn skelfora_plain_accepting<'a>(
     head: &'a [u8],
     conditions: &'a [u16],
     responses: &'a [u16],
@@ -113,8 +111,7 @@ pub extern "C" fn skelfora_plain_accepting<'a>(
 }
 
 // Replays a trace from the opening marking: the number, the place, 2^32 where it ends accepting, and the blocker.
-#[unsafe(no_mangle)]
-pub extern "C" fn skelfora_plain_replay<'a>(
+pub fn skelfora_plain_replay<'a>(
     head: &'a [u8],
     conditions: &'a [u16],
     responses: &'a [u16],
@@ -136,8 +133,7 @@ pub extern "C" fn skelfora_plain_replay<'a>(
 }
 
 // A relation of a graph file, by its number in 01's order, as pairs in lent memory: the number, and how many there are.
-#[unsafe(no_mangle)]
-pub extern "C" fn skelfora_fill(file: &[u8], kind: u8, memory: &mut [u16]) -> u64
+pub fn skelfora_fill(file: &[u8], kind: u8, memory: &mut [u16]) -> u64
     ensures value { result ≡ fill_number file.now kind memory.old }
     ensures memory_after { memory.new ≡ fill_memory file.now kind memory.old }
 {

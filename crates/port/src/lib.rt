@@ -1,9 +1,11 @@
-// The functions that Rust and C call (docs/PORT-OTHER.md). A slice passes as a pointer and then a length; every answer is one number:
-// that of 01, and above it what goes with it.
+// The functions that Rust and C call (docs/PORT-OTHER.md), by the exports of the crate `port_c`. Every answer is one number: that of 01,
+// and above it what goes with it.
+#![tactic(auto)]
+
 ghost use Rattle.std.specs.Prelude.{◌≡◌, ◌^◌, ◌<◌, length};
-ghost use Rattle.port.specs.Port.{packed_of, verdict_of, blocked_of, step_number, stored_of, put_number, put_buffer, profile_of, in_profile};
-ghost use Rattle.port.specs.Port.{in_profile_buffer, mine_number, mine_buffer, rewrite_number, rewrite_buffer, replay_number, listing_number};
-ghost use Rattle.port.specs.Port.{summary_number, step_of, step_bytes, opening_answer, opening_bytes};
+ghost use Rattle.port.specs.Port.{packed_of, verdict_of, blocked_of, step_number, stored_of, put_number, put_buffer, profile_of};
+ghost use Rattle.port.specs.Port.{in_profile, in_profile_buffer, mine_number, mine_buffer, rewrite_number, rewrite_buffer, replay_number};
+ghost use Rattle.port.specs.Port.{listing_number, summary_number, step_of, step_bytes, opening_answer, opening_bytes};
 ghost use Rattle.sets.specs.Answers.{number_of};
 ghost use Rattle.sets.specs.declared.answer.Answer.TheVariants.{Done};
 ghost use Rattle.engine.specs.Relations.{graph_of};
@@ -104,8 +106,7 @@ fn mine(log: &[u8], profile: Profile, file: &mut [u8]) -> u64
 }
 
 // The same for a profile by its number: 0 full, 1 light, 12 for any other.
-#[unsafe(no_mangle)]
-pub extern "C" fn skelfora_mine(log: &[u8], profile: u8, file: &mut [u8]) -> u64
+pub fn skelfora_mine(log: &[u8], profile: u8, file: &mut [u8]) -> u64
     ensures value { result ≡ in_profile profile (mine_number log.now (length file.old)) }
     ensures file_after { file.new ≡ in_profile_buffer profile (mine_buffer log.now) file.old }
 {
@@ -127,8 +128,7 @@ fn list(log: &[u8], profile: Profile, out: &mut [u8]) -> u64
 }
 
 // The same for a profile by its number.
-#[unsafe(no_mangle)]
-pub extern "C" fn skelfora_listing(log: &[u8], profile: u8, out: &mut [u8]) -> u64
+pub fn skelfora_listing(log: &[u8], profile: u8, out: &mut [u8]) -> u64
     ensures value { result ≡ in_profile profile (listing_number log.now (length out.old)) }
     ensures out_after { out.new ≡ in_profile_buffer profile (listing_after log.now) out.old }
 {
@@ -140,8 +140,7 @@ pub extern "C" fn skelfora_listing(log: &[u8], profile: u8, out: &mut [u8]) -> u
 }
 
 // The summary of a log, for a profile by its number; the number given is 12, the log's own, or 7.
-#[unsafe(no_mangle)]
-pub extern "C" fn skelfora_summary(log: &[u8], profile: u8, out: &mut [u8]) -> u64
+pub fn skelfora_summary(log: &[u8], profile: u8, out: &mut [u8]) -> u64
     ensures value { result ≡ in_profile profile (λ p. summary_number log.now (length out.old)) }
     ensures out_after { out.new ≡ in_profile_buffer profile (summary_after log.now) out.old }
 {
@@ -154,8 +153,7 @@ pub extern "C" fn skelfora_summary(log: &[u8], profile: u8, out: &mut [u8]) -> u
 }
 
 // Reads a graph file and writes it again.
-#[unsafe(no_mangle)]
-pub extern "C" fn skelfora_rewrite(file: &[u8], out: &mut [u8]) -> u64
+pub fn skelfora_rewrite(file: &[u8], out: &mut [u8]) -> u64
     ensures value { result ≡ rewrite_number file.now (length out.old) }
     ensures out_after { out.new ≡ rewrite_buffer file.now out.old }
 {
@@ -164,10 +162,9 @@ pub extern "C" fn skelfora_rewrite(file: &[u8], out: &mut [u8]) -> u64
     put(answer, r.graph.head, &r.graph.relations, out)
 }
 
-// Replays a trace on the graph of a file: the number, the place, 2^32 where it ends accepting, and the blocker. Reading has judged the graph, so
-// only the trace's length is left to judge; no set of enabled activities is worked out, and nothing copies the rows.
-#[unsafe(no_mangle)]
-pub extern "C" fn skelfora_replay(file: &[u8], trace: &[u8]) -> u64
+// Replays a trace on the graph of a file: the number, the place, 2^32 where it ends accepting, and the blocker. Reading has judged the
+// graph, so only the trace's length is left to judge; no set of enabled activities is worked out, and nothing copies the rows.
+pub fn skelfora_replay(file: &[u8], trace: &[u8]) -> u64
     ensures { result ≡ replay_number file.now trace.now }
 {
     let mut relations: Relations = [0; KINDS as usize * WORDS];
@@ -191,7 +188,8 @@ pub extern "C" fn skelfora_replay(file: &[u8], trace: &[u8]) -> u64
     packed_blocker(a, place, p.accepting)
 }
 
-// A step on the graph of a file: the file's refusals, then 7 where the marking has too few bytes, then the step's. Reading has judged the graph.
+// A step on the graph of a file: the file's refusals, then 7 where the marking has too few bytes, then the step's. Reading has judged
+// the graph.
 fn stepped<'a>(file: &'a [u8], marking: &'a [u8], a: Activity) -> Stepped
     ensures { result ≡ step_of file.now marking.now a.0 }
 {
@@ -214,9 +212,9 @@ fn stepped<'a>(file: &'a [u8], marking: &'a [u8], a: Activity) -> Stepped
     engine::step::step_on(r.events, &relations, m, a)
 }
 
-// One step at a marking of 32 lent bytes, or 64 by the file's edition: executed, pending, included, enabled; they stay as they were where it is refused.
-#[unsafe(no_mangle)]
-pub extern "C" fn skelfora_step(file: &[u8], marking: &mut [u8], activity: u8) -> u64
+// One step at a marking of 32 lent bytes, or 64 by the file's edition: executed, pending, included, enabled; they stay as they were where
+// it is refused.
+pub fn skelfora_step(file: &[u8], marking: &mut [u8], activity: u8) -> u64
     ensures value { result ≡ step_number (step_of file.now marking.old activity) }
     ensures marking_after { marking.new ≡ step_bytes file.now marking.old activity }
 {
@@ -224,9 +222,9 @@ pub extern "C" fn skelfora_step(file: &[u8], marking: &mut [u8], activity: u8) -
     store(s, marking, graphfile::is_wide(file))
 }
 
-// The opening marking of a graph file, with the steps enabled there, into lent bytes, 32 or 64 by the file's edition: where a caller that steps begins.
-#[unsafe(no_mangle)]
-pub extern "C" fn skelfora_opening(file: &[u8], marking: &mut [u8]) -> u64
+// The opening marking of a graph file, with the steps enabled there, into lent bytes, 32 or 64 by the file's edition: where a caller that
+// steps begins.
+pub fn skelfora_opening(file: &[u8], marking: &mut [u8]) -> u64
     ensures value { result ≡ number_of (opening_answer file.now (length marking.old)) }
     ensures marking_after { marking.new ≡ opening_bytes file.now marking.old }
 {

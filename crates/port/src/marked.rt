@@ -52,8 +52,7 @@ fn packed_counts(m: Marked) -> u64
 }
 
 // The marks of a file's graph in one number: true positives, false positives, false negatives, true negatives.
-#[unsafe(no_mangle)]
-pub extern "C" fn skelfora_marks<'a>(file: &'a [u8], log: &'a [u8], labels: &'a [u8]) -> u64
+pub fn skelfora_marks<'a>(file: &'a [u8], log: &'a [u8], labels: &'a [u8]) -> u64
     ensures { result ≡ counts_number (marks_in file.now log.now labels.now) }
 {
     let m = marked(file, log, labels);
@@ -71,8 +70,7 @@ fn put_text(m: Marked, out: &mut [u8]) -> u64
 }
 
 // The text of the marks of a file's graph.
-#[unsafe(no_mangle)]
-pub extern "C" fn skelfora_marks_text<'a, 'w>(
+pub fn skelfora_marks_text<'a, 'w>(
     file: &'a [u8],
     log: &'a [u8],
     labels: &'a [u8],
@@ -86,12 +84,7 @@ pub extern "C" fn skelfora_marks_text<'a, 'w>(
 }
 
 // The text of the marks of guesses.
-#[unsafe(no_mangle)]
-pub extern "C" fn skelfora_guesses_text<'a, 'w>(
-    guesses: &'a [u8],
-    labels: &'a [u8],
-    out: &'w mut [u8],
-) -> u64
+pub fn skelfora_guesses_text<'a, 'w>(guesses: &'a [u8], labels: &'a [u8], out: &'w mut [u8]) -> u64
     ensures value { result ≡ text_number (guesses_of guesses.now labels.now) (length out.old) }
     ensures out_after { out.new ≡ marked_after (guesses_of guesses.now labels.now) out.old }
 {
@@ -101,8 +94,7 @@ pub extern "C" fn skelfora_guesses_text<'a, 'w>(
 
 // Replays each trace of a log on the graph of a file, which is read once: a byte for each, 128 where the verdict is yes, else the replay's
 // number. The number, and 256 times how many bytes were written.
-#[unsafe(no_mangle)]
-pub extern "C" fn skelfora_replays<'a, 'w>(file: &'a [u8], log: &'a [u8], out: &'w mut [u8]) -> u64
+pub fn skelfora_replays<'a, 'w>(file: &'a [u8], log: &'a [u8], out: &'w mut [u8]) -> u64
     ensures value { result ≡ replays_number file.now log.now (length out.old) }
     ensures out_after { out.new ≡ replays_buffer file.now log.now out.old }
 {

@@ -24,8 +24,7 @@ const ROWS_START: usize = 1 + set::NARROW;
 const LENGTH: usize = ROWS_START + ROWS * set::NARROW;
 
 // Fills a tally with a log: the number.
-#[unsafe(no_mangle)]
-pub extern "C" fn skelfora_tally(log: &[u8], tally: &mut [u8]) -> u64
+pub fn skelfora_tally(log: &[u8], tally: &mut [u8]) -> u64
     ensures value { result ≡ number_of (fill_answer log.now tally.old) }
     ensures tally_after { tally.new ≡ filled_of log.now tally.old }
 {
@@ -34,8 +33,7 @@ pub extern "C" fn skelfora_tally(log: &[u8], tally: &mut [u8]) -> u64
 }
 
 // Joins another tally to the first: the number.
-#[unsafe(no_mangle)]
-pub extern "C" fn skelfora_tally_join(tally: &mut [u8], other: &[u8]) -> u64
+pub fn skelfora_tally_join(tally: &mut [u8], other: &[u8]) -> u64
     ensures value { result ≡ number_of (join_answer tally.old other.now) }
     ensures tally_after { tally.new ≡ joined_of tally.old other.now }
 {
@@ -96,8 +94,7 @@ fn relations_read(tally: &[u8], profile: Profile, out: &mut [u8]) -> u64
 }
 
 // A, the events and the relations after step 8 that a tally gives, for a profile by its number: 0 full, 1 light, 12 for any other.
-#[unsafe(no_mangle)]
-pub extern "C" fn skelfora_tally_relations(tally: &[u8], profile: u8, out: &mut [u8]) -> u64
+pub fn skelfora_tally_relations(tally: &[u8], profile: u8, out: &mut [u8]) -> u64
     ensures value { result ≡ in_profile profile (relations_number tally.now (length out.old)) }
     ensures out_after { out.new ≡ in_profile_buffer profile (relations_buffer tally.now) out.old }
 {

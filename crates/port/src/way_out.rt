@@ -43,7 +43,8 @@ fn given(f: Finished, way: &mut [u8]) -> u64
     answer.number() as u64
 }
 
-// The way out: the file's refusals, then 7 where the marking or the room for the way has too few bytes, then the search's. Reading has judged the graph.
+// The way out: the file's refusals, then 7 where the marking or the room for the way has too few bytes, then the search's. Reading has
+// judged the graph.
 fn finished<'a>(file: &'a [u8], marking: &'a [u8], room: usize) -> Finished
     ensures { result ≡ finish_in file.now marking.now room }
 {
@@ -72,13 +73,9 @@ fn finished<'a>(file: &'a [u8], marking: &'a [u8], room: usize) -> Finished
     finish::search::way_out_on(r.events, &relations, m)
 }
 
-// The way out from a marking of 32 or 64 bytes into four lent bytes, 255 in those that are not used; they stay as they were where it is refused.
-#[unsafe(no_mangle)]
-pub extern "C" fn skelfora_finish<'a, 'w>(
-    file: &'a [u8],
-    marking: &'a [u8],
-    way: &'w mut [u8],
-) -> u64
+// The way out from a marking of 32 or 64 bytes into four lent bytes, 255 in those that are not used; they stay as they were where it is
+// refused.
+pub fn skelfora_finish<'a, 'w>(file: &'a [u8], marking: &'a [u8], way: &'w mut [u8]) -> u64
     ensures value { result ≡ finish_number file.now marking.now (length way.old) }
     ensures way_after { way.new ≡ finish_bytes file.now marking.now way.old }
 {
@@ -117,8 +114,7 @@ fn finished_at<'a>(file: &'a [u8], table: &'a [u8], place: usize, room: usize) -
 }
 
 // The same for the call at a place of the desk; the table is lent to be read.
-#[unsafe(no_mangle)]
-pub extern "C" fn skelfora_desk_finish<'a, 'w>(
+pub fn skelfora_desk_finish<'a, 'w>(
     file: &'a [u8],
     table: &'a [u8],
     place: usize,
@@ -132,8 +128,7 @@ pub extern "C" fn skelfora_desk_finish<'a, 'w>(
 }
 
 // What shut a step out last in a trace and was not followed by what lets it in: the number, and 256 times that activity.
-#[unsafe(no_mangle)]
-pub extern "C" fn skelfora_shut_by(file: &[u8], trace: &[u8], activity: u8) -> u64
+pub fn skelfora_shut_by(file: &[u8], trace: &[u8], activity: u8) -> u64
     ensures { result ≡ shut_number file.now trace.now activity }
 {
     let r = graphfile::read(file);

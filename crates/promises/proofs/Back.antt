@@ -52,21 +52,21 @@ module _ (file before : List ℕ) (r : Reading) (t : Bool) (hr : r ≡ read_of f
   unfolding read_of
   the-answer = ap (λ (x : Reading). x.answer) hr
 
-  pub file-refused : not t ≡ true → (◌≡◌ {A = Written} (record { answer = r.answer; length = 0 }) (file_back file (length before))) × (before ≡ file_copied file before)
+  pub file-refused : t ≡ false → (◌≡◌ {A = Written} (record { answer = r.answer; length = 0 }) (file_back file (length before))) × (before ≡ file_copied file before)
   unfolding file_back file_copied judged_copy
   file-refused n =
-      let refused : is_done (judged_file file) ≡ false = ap is_done (sym the-answer) ∙ sym ht ∙ not-true t n in
+      let refused : is_done (judged_file file) ≡ false = ap is_done (sym the-answer) ∙ sym ht ∙ n in
       let stops : then_ask (judged_file file) (when ltb (length before) (length file) then BufferTooSmall else Done) ≡ judged_file file = ask-stop _ _ refused in
       let not_done = ap is_done stops ∙ refused in (
         (λ i. record { answer = (the-answer ∙ sym stops) i; length = when sym not_done i then length file else 0 }),
         (λ i. when sym not_done i then file ++ drop (length file) before else before),
       )
 
-  pub file-done : not t ≡ false → Bytes file → (w : Written) (after : List ℕ) → w ≡ written_of r.graph (length before) → after ≡ file_after r.graph before
+  pub file-done : t ≡ true → Bytes file → (w : Written) (after : List ℕ) → w ≡ written_of r.graph (length before) → after ≡ file_after r.graph before
       → (w ≡ file_back file (length before)) × (after ≡ file_copied file before)
   unfolding read_of
   file-done y small w after hw ha =
-      let ok : judged_file file ≡ Done = sym the-answer ∙ done-is r.answer (sym ht ∙ not-false t y) in
+      let ok : judged_file file ≡ Done = sym the-answer ∙ done-is r.answer (sym ht ∙ y) in
       let held : r.graph ≡ graph_in file = ap (λ (x : Reading). x.graph) hr ∙ ap (λ (a : Answer). when is_done a then graph_in file else empty_graph) ok in (
         hw ∙ ap (λ (g : Graph). written_of g (length before)) held ∙ written-copy file small ok (length before),
         ha ∙ ap (λ (g : Graph). file_after g before) held ∙ buffer-copy file small ok before,
@@ -79,18 +79,18 @@ module _ (g : Graph) (before after : List ℕ) (w : Written) (t : Bool) (hw : w 
   unfolding written_of
   the-write = ap (λ (x : Written). x.answer) hw
 
-  pub graph-refused : not t ≡ true → (e : Graph) → e ≡ empty_graph
+  pub graph-refused : t ≡ false → (e : Graph) → e ≡ empty_graph
       → (◌≡◌ {A = Reading} (record { answer = w.answer; graph = e }) (graph_back g (length before))) × (after ≡ file_after g before)
   unfolding graph_back
   graph-refused n e he =
-      let refused : is_done (judged_write g (length before)) ≡ false = ap is_done (sym the-write) ∙ sym ht ∙ not-true t n in (
+      let refused : is_done (judged_write g (length before)) ≡ false = ap is_done (sym the-write) ∙ sym ht ∙ n in (
         (λ i. record { answer = the-write i; graph = (he ∙ sym (ap (λ (b : Bool). when b then g else empty_graph) refused)) i }),
         ha,
       )
 
-  module _ (y : not t ≡ false) where
+  module _ (y : t ≡ true) where
     done : judged_write g (length before) ≡ Done
-    done = sym the-write ∙ done-is w.answer (sym ht ∙ not-false t y)
+    done = sym the-write ∙ done-is w.answer (sym ht ∙ y)
 
     legal : judged g ≡ Done
     unfolding judged_write

@@ -95,18 +95,18 @@ module _ (log : List ℕ) (k : ℕ) (f : Found) (t : Bool) (hf : f ≡ found_of 
   the-answer : f.answer ≡ finding_of log k
   the-answer = ap (λ (x : Found). x.answer) hf ∙ found-answer log k
 
-  pub own-refused : (p : Profile) → not t ≡ true → OwnReplayed log p k (ending f.answer 0 empty_marking false)
+  pub own-refused : (p : Profile) → t ≡ false → OwnReplayed log p k (ending f.answer 0 empty_marking false)
   unfolding own_replay
   own-refused p n =
-      let refused : is_done (finding_of log k) ≡ false = ap is_done (sym the-answer) ∙ sym ht ∙ not-true t n in (
+      let refused : is_done (finding_of log k) ≡ false = ap is_done (sym the-answer) ∙ sym ht ∙ n in (
         ap (λ (a : Answer). ending a 0 empty_marking false) the-answer
             ∙ sym (ap (λ (b : Bool). when b then replay_of (mined_of log p).graph (trace_of log k) else ending (finding_of log k) 0 empty_marking false) refused),
         (the-answer, (ap length (sym (finds-nothing log k refused)), (refl, sym refused))),
       )
 
-  module _ (y : not t ≡ false) where
+  module _ (y : t ≡ true) where
     was-found : f.answer ≡ Done
-    was-found = done-is f.answer (sym ht ∙ not-false t y)
+    was-found = done-is f.answer (sym ht ∙ y)
 
     pub own-within : f.start + f.length ≤ length log
     own-within = (found-trace log k f hf was-found).0

@@ -1,5 +1,7 @@
 // The three demands, for a reader to open first. The theorems stand in proofs/Demands.antt; here are functions that call the
 // project's own code and whose statements are the promises that join several of its functions.
+#![tactic(auto)]
+
 pub mod replayed;
 pub mod returned;
 

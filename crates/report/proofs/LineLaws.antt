@@ -56,26 +56,26 @@ row_text letter s targets = pair_lines letter (with_each s (passing (mem targets
 
 module _ (o : List ℕ) (a : ℕ) (whole : List ℕ) (o₁ : List ℕ) (a₁ : ℕ) (letter : List ℕ) (s : ℕ) (rest : Set) (r : Bool) (h : r
     ≡ is_empty rest) (l : Left o a whole o₁ a₁ (row_text letter s rest)) where
-  row-text_lem : (rest' : Set) → not r ≡ true → rest' ≡ those (λ b. mem rest b and non (eqb b (least_below width (mem rest))))
+  row-text_lem : (rest' : Set) → r ≡ false → rest' ≡ those (λ b. mem rest b and non (eqb b (least_below width (mem rest))))
       → row_text letter s rest ≡ pair_line letter (pair s (least_below width (mem rest))) ++ row_text letter s rest'
   unfolding pair_lines
-  row-text_lem rest' t e = ap (λ (ts : List ℕ). pair_lines letter (with_each s ts)) (members-turn rest rest' (sym h ∙ not-true r t) e)
+  row-text_lem rest' t e = ap (λ (ts : List ℕ). pair_lines letter (with_each s ts)) (members-turn rest rest' (sym h ∙ t) e)
 
-  pub row_room : (t : ℕ) → not r ≡ true → t ≡ least_below width (mem rest) → a + length whole ≤ length o
+  pub row_room : (t : ℕ) → r ≡ false → t ≡ least_below width (mem rest) → a + length whole ≤ length o
       → a₁ + length (pair_line letter (pair s t)) ≤ length o₁
   row_room t n e room =
       subst (λ (x : ℕ). a₁ + length (pair_line letter (pair s x)) ≤ length o₁) (sym e)
       (left-room l (pair_line letter (pair s (least_below width (mem rest)))) _ (row-text_lem _ n refl) room)
 
-  pub row-turn : (t : ℕ) (o₂ : List ℕ) (a₂ : ℕ) (rest' : Set) → not r ≡ true → t ≡ least_below width (mem rest)
+  pub row-turn : (t : ℕ) (o₂ : List ℕ) (a₂ : ℕ) (rest' : Set) → r ≡ false → t ≡ least_below width (mem rest)
       → Put o₁ a₁ (pair_line letter (pair s t)) o₂ a₂ → rest' ≡ those (λ b. mem rest b and non (eqb b (least_below width (mem rest))))
       → Left o a whole o₂ a₂ (row_text letter s rest')
   row-turn t o₂ a₂ rest' n e p f =
       left-next l (row_text letter s rest') (row-text_lem rest' n f) (put_as (ap (λ (x : ℕ). pair_line letter (pair s x)) e) p)
 
-  pub row-end : not r ≡ false → Put o a whole o₁ a₁
+  pub row-end : r ≡ true → Put o a whole o₁ a₁
   unfolding pair_lines
-  row-end n = left-none l (ap (λ (ts : List ℕ). pair_lines letter (with_each s ts)) (members-none rest (sym h ∙ not-false r n)))
+  row-end n = left-none l (ap (λ (ts : List ℕ). pair_lines letter (with_each s ts)) (members-none rest (sym h ∙ n)))
 
 pub ruleset members = (left-all, row_room, row-turn, row-end)
 

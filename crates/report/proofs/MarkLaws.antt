@@ -241,26 +241,26 @@ module _ (m : Marked) (out : List ℕ) where
       unfolding marked_text
       text-by t e = ap (λ (b : Bool). when b then marks_text m.counts else refused_line m.answer) (sym e ∙ hd)
 
-      module _ (n : not d ≡ true) where
+      module _ (n : d ≡ false) where
         pub line-fits : 0 + length (refused_line m.answer) ≤ length out
-        line-fits = text-fits _ (text-by false (not-true d n))
+        line-fits = text-fits _ (text-by false (n))
 
         module _ (out' : List ℕ) (k : ℕ) (put : Put out 0 (refused_line m.answer) out' k) where
           pub line_marked : ◌≡◌ {A = Listed} (record { answer = m.answer; length = k }) (marked_of m (length out))
-          line_marked = text-marked _ (text-by false (not-true d n)) out' k put
+          line_marked = text-marked _ (text-by false (n)) out' k put
 
           pub line-left : out' ≡ marked_after m out
-          line-left = text-left _ (text-by false (not-true d n)) out' k put
+          line-left = text-left _ (text-by false (n)) out' k put
 
-      module _ (n : not d ≡ false) where
+      module _ (n : d ≡ true) where
         pub marks-fit : 0 + length (marks_text m.counts) ≤ length out
-        marks-fit = text-fits _ (text-by true (not-false d n))
+        marks-fit = text-fits _ (text-by true (n))
 
         module _ (out' : List ℕ) (k : ℕ) (put : Put out 0 (marks_text m.counts) out' k) where
           pub marks-marked : ◌≡◌ {A = Listed} (record { answer = m.answer; length = k }) (marked_of m (length out))
-          marks-marked = text-marked _ (text-by true (not-false d n)) out' k put
+          marks-marked = text-marked _ (text-by true (n)) out' k put
 
           pub marks-left : out' ≡ marked_after m out
-          marks-left = text-left _ (text-by true (not-false d n)) out' k put
+          marks-left = text-left _ (text-by true (n)) out' k put
 
 pub ruleset writing-marks = (small-marked, small-left, line-fits, line_marked, line-left, marks-fit, marks-marked, marks-left)

@@ -170,19 +170,19 @@ module _ (log : List ℕ) (p : Profile) (out : List ℕ) (given : Headed) (table
   unfolding summary_after
   kept_by b e = ap (λ (t : Bool). when t then summary_of log p ++ drop (summary_length log) out else out) e
 
-  module _ (t : not r ≡ true) where
+  module _ (t : r ≡ false) where
     pub refused-answer : whole.answer ≡ summary_answer log (length out)
     unfolding summary_answer
-    refused-answer = answer-is ∙ sym (ask-stop (log_of log).answer _ (ended false (not-true r t)))
+    refused-answer = answer-is ∙ sym (ask-stop (log_of log).answer _ (ended false (t)))
 
     pub refused-kept : out ≡ summary_after log p out
-    refused-kept = sym (kept_by false (ap is_done (sym refused-answer) ∙ sym hr ∙ not-true r t))
+    refused-kept = sym (kept_by false (ap is_done (sym refused-answer) ∙ sym hr ∙ t))
 
-  module _ (t : not r ≡ false) where
+  module _ (t : r ≡ true) where
     asked-room : (b : Bool) → ltb (length out) (summary_length log) ≡ b → summary_answer log (length out) ≡ when b then BufferTooSmall else Done
     unfolding summary_answer
     asked-room b e =
-        ask-on (log_of log).answer _ (done-is _ (ended true (not-false r t))) ∙ ap (λ (x : Bool). when x then BufferTooSmall else Done) e
+        ask-on (log_of log).answer _ (done-is _ (ended true (t))) ∙ ap (λ (x : Bool). when x then BufferTooSmall else Done) e
 
     module _ (most : ℕ) (said : most ≡ most_in log) where
       module _ (small : length out < 2 * most) where
@@ -200,14 +200,14 @@ module _ (log : List ℕ) (p : Profile) (out : List ℕ) (given : Headed) (table
         summary-fits = omega (arith, length-text most whole.graph.relations)
 
         pub summary-answer_lem : whole.answer ≡ summary_answer log (length out)
-        summary-answer_lem = done-is _ (sym hr ∙ not-false r t) ∙ sym big-answer
+        summary-answer_lem = done-is _ (sym hr ∙ t) ∙ sym big-answer
 
         summary-is : summary_text most whole.graph.relations ≡ summary_of log p
         unfolding mined_of summary_of
         summary-is =
             ap₂ (λ (n : ℕ) (g : Graph). summary_text n g.relations) said
             (ap (λ (x : Mined). x.graph) hm
-            ∙ ap (λ (b : Bool). when b then mined_graph (log_of log).activities (log_of log).traces p else empty_graph) (ended true (not-false r t)))
+            ∙ ap (λ (b : Bool). when b then mined_graph (log_of log).activities (log_of log).traces p else empty_graph) (ended true (t)))
             ∙ text-is (most_in log) (most-few log) (log_of log).activities (log_of log).traces p
 
         pub summary-held : (out' : List ℕ) (n : ℕ) → Put out 0 (summary_text most whole.graph.relations) out' n → out' ≡ summary_after log p out

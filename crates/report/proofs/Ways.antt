@@ -70,9 +70,9 @@ module _ (log : List ℕ) (p : Profile) (out : List ℕ) (asked : ℕ) (said : a
       done-is : (b : Bool) → r ≡ b → is_done (log_of log).answer ≡ b
       done-is b e = ap is_done (sym answer-is) ∙ sym hr ∙ e
 
-      module _ (t : not r ≡ true) where
+      module _ (t : r ≡ false) where
         refused-is : refused_line mined.answer ≡ listing_of log p
-        refused-is = listing-refused log p mined.answer (done-is false (not-true r t)) answer-is
+        refused-is = listing-refused log p mined.answer (done-is false (t)) answer-is
 
         pub refused-fits : 0 + length (refused_line mined.answer) ≤ length out
         refused-fits = listing-fits _ refused-is
@@ -84,11 +84,11 @@ module _ (log : List ℕ) (p : Profile) (out : List ℕ) (asked : ℕ) (said : a
           pub refused-held : out' ≡ listing_after log p out
           refused-held = put-kept _ out' n refused-is put
 
-      module _ (t : not r ≡ false) where
+      module _ (t : r ≡ true) where
         graph_is : graph_text mined.graph log ≡ listing_of log p
         unfolding mined_of
         graph_is =
-            let done = done-is true (not-false r t) in
+            let done = done-is true (t) in
             listing-done log p mined.graph done
             (ap (λ (x : Mined). x.graph) hm
             ∙ ap (λ (b : Bool). when b then mined_graph (log_of log).activities (log_of log).traces p else empty_graph) done)

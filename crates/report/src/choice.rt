@@ -8,7 +8,7 @@ use rules::Profile;
 use sets::Answer;
 
 // A listing in a profile, or a refusal.
-#[derive(Drop)]
+#[derive(Clone, Copy)]
 pub enum Choice {
     Listing(Profile),
     Refused(Answer),

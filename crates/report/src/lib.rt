@@ -1,4 +1,6 @@
 // The listing of a log, its summary and the text of marks, as bytes in a lent buffer, and which listing the program's arguments ask for.
+#![tactic(auto)]
+
 pub mod choice;
 mod heading;
 pub mod lent;

@@ -14,7 +14,7 @@ use sets::{Answer, rows, tables};
 const REFUSED: [u8; 7] = *b"refused";
 
 // The log's answer, and the length of its listing; 7 and 0 where the buffer is smaller than the longest listing.
-#[derive(Drop)]
+#[derive(Clone, Copy)]
 pub struct Listed {
     pub answer: Answer,
     pub length: usize,

@@ -1,24 +1,22 @@
 -- A mined graph by its few pairs: where a log's activities are below n, its graph is the one listed if the two agree at pairs below n. So a table of worked
 -- cases computes n × n pairs, and not all that the width allows. Assumes nothing.
-use mathlib.Core.Path.{◌≡◌, refl, sym, ap, subst, ◌∙◌}
-use mathlib.Core.Bool.{Bool, true, false}
+use mathlib.Core.Path.{◌≡◌, refl, sym, subst}
+use mathlib.Core.Bool.{Bool, true}
 use mathlib.Core.List.{List, [], ◌∷◌}
 use Prim.Native.Nat.{ℕ, zero, suc, ◌≤◌, ◌<◌}
 use native.Mathlib.Nat.{lt_of_lt_of_le}
-use borrow.Author.Tests.{ltb-true, ltb-false}
-use lib.Dec.{T, eqb, eqb→eq, ltb}
+use borrow.Author.Tests.{ltb-true}
+use lib.Dec.{T, eqb→eq, ltb}
 use Rattle.sets.specs.Tests.{◌and◌, ◌or◌, non}
-use Rattle.sets.specs.Members.{width, mem, those, no_set, every_below, bits_of}
+use Rattle.sets.specs.Members.{width, those, no_set, every_below, bits_of}
 use Rattle.sets.specs.Rows.{Relation}
-use Rattle.sets.specs.declared.set.Set.{Set}
-use Rattle.sets.proofs.Tests.{T-ext, and_l, and_r, or-e, imp-e, T→true, F→false, split, either}
+use Rattle.sets.proofs.Tests.{T-ext, and_l, and_r, or-e, imp-e, T→true, either}
 use Rattle.sets.proofs.Below.{every-e}
 use Rattle.sets.proofs.Members.{those-ext}
 use Rattle.sets.proofs.TableLaws.{tables_of-ext}
-use Rattle.engine.specs.Markings.{state_of, opening_of}
-use Rattle.engine.specs.Relations.{Relations, relation_count, kept, tables_from}
+use Rattle.engine.specs.Markings.{state_of}
+use Rattle.engine.specs.Relations.{relation_count, kept}
 use Rattle.engine.specs.Enabled.{graph_at}
-use Rattle.engine.specs.declared.graph.Graph.{Graph}
 use Rattle.rules.specs.declared.Profile.{Profile}
 use Rattle.rules.specs.Traces.{Traces, ◌has◌, every_trace, some_trace}
 use Rattle.rules.specs.Mining.{event, mined}

@@ -20,6 +20,7 @@ use Rattle.rules.proofs.Demand3.{demand3}
 
 -- a trace of a log has a number, and the trace of that number is of the log
 numbered : (L : Traces) {σ : List ℕ} → Memᴰ σ L → (k : ℕ) × (k < length L) × (get_or L k [] ≡ σ)
+numbered [] {σ = σ} m = elim m [ ]
 numbered (τ ∷ L) (Memᴰ.head e) = (0, zero-lt-suc (length L), sym e)
 numbered (τ ∷ L) (Memᴰ.tail m) = let r = numbered L m in (suc r.0, suc-le-suc r.1, r.2)
 

@@ -44,12 +44,12 @@ has-past a (x ∷ past) rest h =
 
 -- ---- a trace of a log
 
-pub every_of : {L : Traces} {σ : List ℕ} (p : List ℕ → Bool) → Memᴰ σ L → T (every_trace L p) → T (p σ)
+pub every_of : {σ : List ℕ} {L : Traces} (p : List ℕ → Bool) → Memᴰ σ L → T (every_trace L p) → T (p σ)
 unfolding every_trace
 every_of p (Memᴰ.head e) h = subst (λ (τ : List ℕ). T (p τ)) (sym e) (and_l _ _ h)
 every_of p (Memᴰ.tail m) h = every_of p m (and_r _ _ h)
 
-pub some-of_lem : {L : Traces} {σ : List ℕ} (p : List ℕ → Bool) → Memᴰ σ L → T (p σ) → T (some_trace L p)
+pub some-of_lem : {σ : List ℕ} {L : Traces} (p : List ℕ → Bool) → Memᴰ σ L → T (p σ) → T (some_trace L p)
 unfolding some_trace
 some-of_lem p (Memᴰ.head e) h = or_l _ _ (subst (λ (τ : List ℕ). T (p τ)) e h)
 some-of_lem p (Memᴰ.tail m) h = or_r _ _ (some-of_lem p m h)

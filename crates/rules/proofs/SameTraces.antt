@@ -1,7 +1,7 @@
 -- 02, 12/12, "of the miner": logs with the same non-empty traces, in any order and however often each is repeated, have the same events and
 -- the same mined relations. Each question of the rules is one about some trace that the empty one fails, or about every trace that it passes;
 -- so each has the same answer, and each step the same result. Assumes nothing.
-use mathlib.Core.Path.{◌≡◌, refl, sym, ap, ◌∙◌}
+use mathlib.Core.Path.{◌≡◌, refl, ap, ◌∙◌}
 use mathlib.Core.Bool.{Bool, true, false}
 use mathlib.Core.List.{List, [], ◌∷◌, Memᴰ}
 use Prim.Native.Nat.{ℕ}
@@ -13,7 +13,7 @@ use Rattle.sets.proofs.Tests.{and_i, T-ext, true→T, false→F}
 use Rattle.engine.specs.Relations.{Relations}
 use Rattle.rules.specs.declared.Profile.{Profile}
 use Rattle.rules.specs.declared.Profile.TheVariants.{Full, Light}
-use Rattle.rules.specs.Traces.{Traces, ◌has◌, ◌begins_with◌, at_each_from, at_each, at_some_from, at_some, every_trace, some_trace}
+use Rattle.rules.specs.Traces.{Traces, ◌has◌, at_each_from, at_each, at_some_from, at_some, every_trace, some_trace}
 use Rattle.rules.specs.Mining.{no_relations, smallest_source, ◌without◌, event, some_event, ◌with◌, at_most_once, precedes, answers, chained, together, before, followed, between, alternates, before_first, step1, step2, directly_before, step3, never_together, step4, closes, step5, step6, let_in_between, makes_redundant, step7, reduced, step8, included_after, never_missed, step9, step10, after_five, after_six, after_seven, after_eight, mined}
 use Rattle.rules.specs.Mined.{graph_from, mined_graph}
 use Rattle.rules.proofs.Places.{every_of, some-of_lem, some-trace_lem}

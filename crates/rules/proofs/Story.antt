@@ -15,7 +15,7 @@ use Rattle.rules.specs.declared.Profile.{Profile}
 use Rattle.rules.specs.declared.Profile.TheVariants.{Full}
 use Rattle.rules.specs.Traces.{Traces, ◌has◌, ◌begins_with◌, at_each_from, at_some_from, every_trace, some_trace}
 use Rattle.rules.specs.Mining.{no_pair, no_relations, smallest_source, ◌without◌, event, some_event, ◌with◌, at_most_once, precedes, answers, chained, together, before, followed, between, alternates, before_first, step1, step2, directly_before, step3, never_together, step4, closes, step5, step6, let_in_between, makes_redundant, step7, reduced, step8, included_after, never_missed, step9, step10, after_five, after_six, after_seven, after_eight, mined}
-use Rattle.rules.proofs.Listed.{Pair, ◌to◌, pairs, Given, ended, end}
+use Rattle.rules.proofs.Listed.{◌to◌, pairs, Given, ended, end}
 use Rattle.rules.proofs.Cases.{story}
 
 module _ (L : Traces) where

@@ -10,11 +10,11 @@ use borrow.Author.Tests.{lt-ltb, le-ltb, ltb-true, ltb-false, eqb-true, eqb-fals
 use lib.Dec.{T, eqb, eqb→eq, ltb}
 use lib.Pow.{shr_le}
 use lib.Count.{count_trailing_zeros}
-use Rattle.sets.specs.Tests.{◌and◌, ◌or◌, non, when◌then◌else◌}
+use Rattle.sets.specs.Tests.{◌and◌, ◌or◌, when◌then◌else◌}
 use Rattle.sets.specs.Members.{width, word, bit, mem, those, no_set, least_below, next_above}
 use Rattle.sets.specs.Rows.{Relation, no_rows, row_at, with_row, rows_of, rows_for, turned}
 use Rattle.sets.specs.declared.set.Set.{Set}
-use Rattle.sets.proofs.Tests.{T-ext, and_l, and_r, and_i, or-e, or_l, or_r, T→true, true→T, F→false, false→F, eqb_of, true-and, false-and, and-true, and-false, or-true, or-false, false-or, split, either}
+use Rattle.sets.proofs.Tests.{T-ext, and_l, and_r, and_i, or-e, or_l, or_r, T→true, true→T, F→false, false→F, true-and, false-and, and-true, and-false, or-true, or-false, false-or, split, either}
 use Rattle.sets.proofs.Bits.{bit-above, bit-shr, bit-shr-none}
 use Rattle.sets.proofs.Below.{least-ext, least-le, least_lt, least-is, least-before, least-only, least-past, trailing-least}
 use Rattle.sets.proofs.RowLaws.{put-rows_of, rows_of-ext, empty-rows_of}

@@ -1,19 +1,15 @@
 -- Sets made of sets: what has the members that are known of the parts. Assumes nothing.
 use Rattle.sets.specs.Members.{no_set}
-use mathlib.Core.Path.{◌≡◌, refl, sym, ap, ap₂, ◌∙◌, subst}
-use mathlib.Core.Bool.{Bool, true, false, not}
+use mathlib.Core.Path.{◌≡◌, sym, ap, ap₂, ◌∙◌}
+use mathlib.Core.Bool.{Bool, true, false}
 use mathlib.Core.List.{List}
 use Prim.Native.Nat.{ℕ, ◌<◌}
-use native.Mathlib.Omega.{arith}
-use borrow.Author.Tests.{not-true, not-false}
-use lib.Dec.{T, eqb, eqb→eq}
-use Rattle.sets.specs.Tests.{◌and◌, ◌or◌, non}
-use Rattle.sets.specs.Members.{width, mem, those, some_below, is_empty}
+use Rattle.sets.specs.Tests.{◌and◌, non}
+use Rattle.sets.specs.Members.{width, mem, those}
 use Rattle.sets.specs.Rows.{row_at, in_row}
 use Rattle.sets.specs.declared.set.Set.{Set}
-use Rattle.sets.proofs.Tests.{T-ext, and_l, and_r, and_i, eqb_of, true-and, false-and, and-true, and-false}
-use Rattle.sets.proofs.Members.{mem-none}
-use Rattle.sets.proofs.Members.{those-ext, mem-those, empty-none, none-those}
+use Rattle.sets.proofs.Tests.{true-and, false-and, and-true, and-false}
+use Rattle.sets.proofs.Members.{those-ext, mem-those, none-those}
 
 -- the members of s are those that pass
 abbrev pub Is : Set → (ℕ → Bool) → Type 0

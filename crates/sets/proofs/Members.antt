@@ -1,11 +1,11 @@
 -- Laws of sets by their members, and the machine's operations as comprehensions. Assumes nothing.
 use mathlib.Core.Path.{◌≡◌, refl, sym, ap, ap₂, ◌∙◌, subst}
-use mathlib.Core.Bool.{Bool, true, false, not}
+use mathlib.Core.Bool.{Bool, true, false}
 use mathlib.Core.Logic.{◌⊎◌, inl, inr}
 use Prim.Native.Nat.{ℕ, suc, ◌^◌, ◌+◌, ◌-◌, ◌*◌, ◌/◌, ◌%◌, ◌≤◌, ◌<◌}
 use native.Mathlib.Omega.{arith}
 use native.Mathlib.Nat.{lt_of_le_of_lt}
-use borrow.Author.Tests.{eq-eqb, ne_eqb, eqb-true, lt-ltb, le-ltb, ltb-true, ltb-false, not-true}
+use borrow.Author.Tests.{ne_eqb, eqb-true, lt-ltb, le-ltb, ltb-true, ltb-false}
 use lib.Dec.{T, eqb, ltb}
 use lib.Pow.{pow-lt, pow_pos}
 use lib.Bits.{bit_and, bit_or, and_le_l, and_le_r, and_mask, or_lt, and_lt, or_add_and, or_zero_l}
@@ -176,11 +176,11 @@ within-i s t f = every-i width _ (λ a l. imp-i _ _ (f a l))
 -- ---- a turn of a loop over a set's members: `a = rest.least(); rest = rest.difference(Set::one(a))`
 
 pub fewer : (rest rest' one : Set) (a : ℕ) (r : Bool)
-    → r ≡ is_empty rest → not r ≡ true
+    → r ≡ is_empty rest → r ≡ false
     → a ≡ least_below width (mem rest) → one ≡ those (λ b. eqb b a) → rest' ≡ those (λ b. mem rest b and non (mem one b))
     → count_below width (mem rest') < count_below width (mem rest)
 fewer rest rest' one a r hr ht ha ho hm =
-    let some : T (some_below width (mem rest)) = non-false _ (sym (empty-none rest) ∙ sym hr ∙ not-true r ht) in
+    let some : T (some_below width (mem rest)) = non-false _ (sym (empty-none rest) ∙ sym hr ∙ ht) in
     let low : least_below width (mem rest) < width = least_lt width (mem rest) some in
     let e = hm ∙ those-of one (λ b. eqb b a) (λ b t. mem rest b and non t) ho in
     let same : count_below width (mem rest') ≡ count_below width (λ b. mem rest b and non (eqb b (least_below width (mem rest)))) =

@@ -1,11 +1,10 @@
 -- A loop that passes a set member by member, the least first, until none is left. Assumes nothing.
 use Rattle.sets.specs.Members.{no_set}
 use mathlib.Core.Path.{◌≡◌, refl, sym, ap, ◌∙◌, subst}
-use mathlib.Core.Bool.{Bool, true, false, not}
+use mathlib.Core.Bool.{Bool, true, false}
 use mathlib.Core.Logic.{◌⊎◌, inl, inr}
 use mathlib.Core.List.{List}
 use Prim.Native.Nat.{ℕ, ◌<◌}
-use borrow.Author.Tests.{not-true, not-false}
 use lib.Dec.{T, eqb, eqb→eq}
 use Rattle.sets.specs.Tests.{◌and◌, ◌or◌, non}
 use Rattle.sets.specs.Members.{width, mem, those, some_below, count_below, least_below, is_empty}
@@ -39,17 +38,17 @@ pub passed_none : (all : Set) (a : ℕ) → passed all all a ≡ false
 unfolding passed
 passed_none all a = F→false (mem all a and non (mem all a)) (λ t. non-e (mem all a) (and_r _ _ t) (and_l _ _ t))
 
-pub passed-all : (all rest : Set) (r : Bool) → r ≡ is_empty rest → not r ≡ false → (a : ℕ) → a < width → passed all rest a ≡ mem all a
+pub passed-all : (all rest : Set) (r : Bool) → r ≡ is_empty rest → r ≡ true → (a : ℕ) → a < width → passed all rest a ≡ mem all a
 unfolding passed
 passed-all all rest r hr n a l =
     T-ext (mem all a and non (mem rest a)) (mem all a) (λ t. and_l _ _ t)
-    (λ t. and_i _ _ t (non-i (mem rest a) (λ m. empty-e rest (true→T (sym hr ∙ not-false r n)) a l m)))
+    (λ t. and_i _ _ t (non-i (mem rest a) (λ m. empty-e rest (true→T (sym hr ∙ n)) a l m)))
 
 -- a turn: the least of what is left is passed
-module _ (rest rest' : Set) (r : Bool) (hr : r ≡ is_empty rest) (hn : not r ≡ true)
+module _ (rest rest' : Set) (r : Bool) (hr : r ≡ is_empty rest) (hn : r ≡ false)
     (hm : rest' ≡ those (λ b. mem rest b and non (eqb b (least_below width (mem rest))))) where
   pub least-low : least_below width (mem rest) < width
-  least-low = least_lt width (mem rest) (non-false _ (sym (empty-none rest) ∙ sym hr ∙ not-true r hn))
+  least-low = least_lt width (mem rest) (non-false _ (sym (empty-none rest) ∙ sym hr ∙ hn))
 
   least-in : T (mem rest (least_below width (mem rest)))
   least-in = least-is width (mem rest) least-low
@@ -103,7 +102,7 @@ module _ (rows₀ : List ℕ) (gain all : Set) where
   )
 
   pub share-turn : (rows rows' : List ℕ) (rest rest' : Set) (k : ℕ) (r : Bool) → Part all rest → Shared rows₀ gain all rows rest
-      → r ≡ is_empty rest → not r ≡ true → k ≡ least_below width (mem rest)
+      → r ≡ is_empty rest → r ≡ false → k ≡ least_below width (mem rest)
       → rows' ≡ with_row rows k (those (λ b. mem (row_at rows k) b or mem gain b))
       → rest' ≡ those (λ b. mem rest b and non (eqb b (least_below width (mem rest)))) → (Part all rest') × Shared rows₀ gain all rows' rest'
   share-turn rows rows' rest rest' k r hp hs hr hn hk hw hm = (
@@ -119,7 +118,7 @@ module _ (rows₀ : List ℕ) (gain all : Set) where
         ∙ ap (λ (t : Bool). q a x or t and mem gain x) (sym (passed-turn rest rest' r hr hn hm all hp a la))),
   )
 
-  pub share-end : (rows : List ℕ) (rest : Set) (r : Bool) → Shared rows₀ gain all rows rest → r ≡ is_empty rest → not r ≡ false
+  pub share-end : (rows : List ℕ) (rest : Set) (r : Bool) → Shared rows₀ gain all rows rest → r ≡ is_empty rest → r ≡ true
       → (q : Relation) → rows₀ ≡ rows_of q → rows ≡ rows_of (λ a x. q a x or mem all a and mem gain x)
   share-end rows rest r hs hr hn q e =
       hs q e
@@ -140,7 +139,7 @@ module _ (rows : List ℕ) (all : Set) where
   )
 
   pub union-turn : (out out' row rest rest' : Set) (r : Bool) → Part all rest → out ≡ those (in_some rows (passed all rest))
-      → r ≡ is_empty rest → not r ≡ true → row ≡ row_at rows (least_below width (mem rest)) → out' ≡ those (λ a. mem out a or mem row a)
+      → r ≡ is_empty rest → r ≡ false → row ≡ row_at rows (least_below width (mem rest)) → out' ≡ those (λ a. mem out a or mem row a)
       → rest' ≡ those (λ b. mem rest b and non (eqb b (least_below width (mem rest)))) → (Part all rest') × (out' ≡ those (in_some rows (passed all rest')))
   union-turn out out' row rest rest' r hp ho hr hn hw hu hm = (
     part-turn rest rest' r hr hn hm all hp,
@@ -152,7 +151,7 @@ module _ (rows : List ℕ) (all : Set) where
       k : ℕ
       k = least_below width (mem rest)
 
-  pub union-end : (out rest : Set) (r : Bool) → out ≡ those (in_some rows (passed all rest)) → r ≡ is_empty rest → not r ≡ false
+  pub union-end : (out rest : Set) (r : Bool) → out ≡ those (in_some rows (passed all rest)) → r ≡ is_empty rest → r ≡ true
       → out ≡ those (in_some rows (mem all))
   union-end out rest r ho hr hn =
       ho

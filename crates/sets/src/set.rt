@@ -5,7 +5,7 @@ ghost use Rattle.sets.specs.Members.{width, mem, those, within, is_empty, least_
 
 use crate::activity::{Activity, WORD};
 
-#[derive(Drop)]
+#[derive(Clone, Copy)]
 pub struct Set {
     // Activities 0 to 63.
     pub low: u64,

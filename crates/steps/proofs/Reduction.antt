@@ -1,12 +1,12 @@
 -- The transitive reduction, by loops over the members of a row: what is known of a row while its targets are judged and its middles are
 -- tried. Assumes nothing.
 use mathlib.Core.Path.{◌≡◌, refl, sym, ◌∙◌, subst}
-use mathlib.Core.Bool.{Bool, true, false, not}
+use mathlib.Core.Bool.{Bool, true, false}
 use mathlib.Core.List.{List}
 use Prim.Native.Nat.{ℕ, ◌-◌, ◌≤◌, ◌<◌}
 use native.Mathlib.Omega.{arith}
 use borrow.Author.Rules.{rules}
-use borrow.Author.Tests.{not-false, ltb-true, ltb-false}
+use borrow.Author.Tests.{ltb-true, ltb-false}
 use lib.Dec.{T, eqb, eqb→eq, eqb_refl, ltb}
 use Rattle.sets.specs.Tests.{◌and◌, ◌or◌, non}
 use Rattle.sets.specs.Members.{no_set, width, mem, those, is_empty, least_below, within}
@@ -27,7 +27,7 @@ pub record Lowest (t : ℕ) (targets : Set) : Type 0 where
   pub here : T (mem targets t)
   pub above : (a : ℕ) → a < width → T (mem targets a) → t ≤ a
 
-pub lowest-first : (targets : Set) (t : ℕ) (r : Bool) → r ≡ is_empty targets → not r ≡ true → t ≡ least_below width (mem targets) → Lowest t targets
+pub lowest-first : (targets : Set) (t : ℕ) (r : Bool) → r ≡ is_empty targets → r ≡ false → t ≡ least_below width (mem targets) → Lowest t targets
 lowest-first targets t r hr hn ht =
     let low = least-low targets _ r hr hn refl in
     record {
@@ -97,16 +97,16 @@ judging-first rows s from h =
     }
 
 -- a row that lies within a set loses nothing where it is cut to it
-pub is_cut : (rows : List ℕ) (s : ℕ) (row cut from : Set) (r : Bool) → row ≡ row_at rows s → r ≡ within row cut → not r ≡ false
+pub is_cut : (rows : List ℕ) (s : ℕ) (row cut from : Set) (r : Bool) → row ≡ row_at rows s → r ≡ within row cut → r ≡ true
     → from ≡ those (λ a. mem row a and mem cut a) → Is from (in_row rows s)
 is_cut rows s row cut from r e hr ht hf x l =
     is-those from _ hf x l
-    ∙ T-ext _ _ (λ t. and_l _ _ t) (λ t. and_i _ _ t (within-e row cut (true→T (sym hr ∙ not-false r ht)) x l t))
+    ∙ T-ext _ _ (λ t. and_l _ _ t) (λ t. and_i _ _ t (within-e row cut (true→T (sym hr ∙ ht)) x l t))
     ∙ is_row row rows s e x l
 
 module _ (rows : List ℕ) (s : ℕ) (kept targets middles : Set) (r : Bool) (h : Judging rows s kept targets middles) where
   -- a middle is tried: all targets that it joins go
-  pub judging-goes : (u : ℕ) (joined targets' middles' : Set) → r ≡ is_empty middles → not r ≡ true → u ≡ least_below width (mem middles)
+  pub judging-goes : (u : ℕ) (joined targets' middles' : Set) → r ≡ is_empty middles → r ≡ false → u ≡ least_below width (mem middles)
       → joined ≡ row_at rows u → middles' ≡ those (λ b. mem middles b and non (eqb b (least_below width (mem middles))))
       → targets' ≡ those (λ a. mem targets a and non (mem joined a)) → Judging rows s kept targets' middles'
   unfolding reduced_of
@@ -131,7 +131,7 @@ module _ (rows : List ℕ) (s : ℕ) (kept targets middles : Set) (r : Bool) (h 
       }
 
   -- no middle is left: the pair stays
-  pub judging-stays : (t : ℕ) (one same kept' targets' : Set) → r ≡ is_empty middles → not r ≡ false → Lowest t targets
+  pub judging-stays : (t : ℕ) (one same kept' targets' : Set) → r ≡ is_empty middles → r ≡ true → Lowest t targets
       → one ≡ those (λ b. eqb b t) → kept' ≡ those (λ a. mem kept a or mem one a) → same ≡ those (λ b. eqb b t)
       → targets' ≡ those (λ a. mem targets a and non (mem same a)) → Judging rows s kept' targets' middles
   judging-stays t one same kept' targets' hr he lt ho hk hs ht =
@@ -141,7 +141,7 @@ module _ (rows : List ℕ) (s : ℕ) (kept targets middles : Set) (r : Bool) (h 
         right = λ x l k.
             either (or-e _ _ (T-eq (gains x l) k)) (h.right x l)
             (λ e. subst (λ (n : ℕ). T (reduced_of rows s n)) (sym (eqb→eq x t e)) (h.free t lt.low lt.here
-            (λ u v m j. empty-e middles (true→T (sym hr ∙ not-false r he)) u v m)));
+            (λ u v m j. empty-e middles (true→T (sym hr ∙ he)) u v m)));
         free = λ x l m. h.free x l (and_l _ _ (T-eq (loses x l) m));
         whole = λ x l k.
             either (or-e _ _ (h.whole x l k)) (λ m. or_l _ _ (T-eq (sym (gains x l)) (or_l _ _ m))) (λ m.
@@ -152,10 +152,10 @@ module _ (rows : List ℕ) (s : ℕ) (kept targets middles : Set) (r : Bool) (h 
       }
 
   -- no target is left: the row is the reduction's
-  pub judging-end : r ≡ is_empty targets → not r ≡ false → kept ≡ those (reduced_of rows s)
+  pub judging-end : r ≡ is_empty targets → r ≡ true → kept ≡ those (reduced_of rows s)
   judging-end hr he =
       sym h.is_set ∙ those-ext (mem kept) (reduced_of rows s) (λ x l. T-ext _ _ (h.right x l) (λ t.
-      either (or-e _ _ (h.whole x l t)) (λ k. k) (λ k. absurd (empty-e targets (true→T (sym hr ∙ not-false r he)) x l k))))
+      either (or-e _ _ (h.whole x l t)) (λ k. k) (λ k. absurd (empty-e targets (true→T (sym hr ∙ he)) x l k))))
 
 -- what the needs of both functions cite
 pub ruleset reducing = (judging-first, is_row, is_cut, judging-goes, judging-stays, judging-end, lowest-first, lowest-next, goes-nearer, stays-nearer, fewer-left, filling, rules)

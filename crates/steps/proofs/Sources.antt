@@ -3,7 +3,6 @@ use mathlib.Core.Path.{◌≡◌, sym, ap, ap₂, ◌∙◌, subst}
 use mathlib.Core.Bool.{Bool, true, false, not}
 use mathlib.Core.List.{List}
 use Prim.Native.Nat.{ℕ, ◌<◌}
-use borrow.Author.Tests.{not-true, not-false}
 use lib.Dec.{T, eqb, eqb→eq}
 use Rattle.sets.specs.Tests.{◌and◌, ◌or◌, non}
 use Rattle.sets.specs.Members.{width, mem, those, some_below, least_below, is_empty}
@@ -21,16 +20,16 @@ module _ (before chains : List ℕ) (a : ℕ) (row : Set) (q : Bool) (hw : row �
   unfolding in_row
   again = ap (λ (s : Set). mem s a) (sym hw) ∙ sym hq
 
-  pub never-again : not q ≡ true → true ≡ excludes_itself before chains a
+  pub never-again : q ≡ false → true ≡ excludes_itself before chains a
   unfolding excludes_itself ◌or◌ non
-  never-again n = sym (ap (λ (t : Bool). non t or some_below width (λ u. in_row chains a u)) (again ∙ not-true q n))
+  never-again n = sym (ap (λ (t : Bool). non t or some_below width (λ u. in_row chains a u)) (again ∙ n))
 
-  pub only-after : (row' : Set) (e : Bool) → not q ≡ false → row' ≡ row_at chains a → e ≡ is_empty row' → not e
+  pub only-after : (row' : Set) (e : Bool) → q ≡ true → row' ≡ row_at chains a → e ≡ is_empty row' → not e
       ≡ excludes_itself before chains a
   unfolding excludes_itself in_row ◌or◌ non
   only-after row' e z hc he =
       not-non e ∙ ap non (he ∙ empty-none row') ∙ non-non (some_below width (mem row')) ∙ ap (λ (s : Set). some_below width (mem s)) hc
-      ∙ sym (ap (λ (t : Bool). non t or some_below width (λ u. in_row chains a u)) (again ∙ not-false q z))
+      ∙ sym (ap (λ (t : Bool). non t or some_below width (λ u. in_row chains a u)) (again ∙ z))
 
 -- the set of the least member has no other; where there is none it is empty
 pub smallest-is : (s one : Set) (k : ℕ) → k ≡ least_below width (mem s) → one ≡ those (λ b. eqb b k) → one ≡ those (smallest (mem s))

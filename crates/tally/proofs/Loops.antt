@@ -80,7 +80,7 @@ pub record Homeward (wide : Bool) (σ t₀ t : List ℕ) (after next : Set) (i :
   pub reached : i ≤ length σ
   pub after_is : after ≡ held_in wide (drop i σ)
   pub next-is : next ≡ last_in (drop i σ)
-  pub so-far_lem : t ≡ backward (note_rest_in wide) t₀ (past_at σ i) (drop i σ)
+  pub so_far : t ≡ backward (note_rest_in wide) t₀ (past_at σ i) (drop i σ)
 
 pub homeward-start : (wide : Bool) (σ t : List ℕ) → Homeward wide σ t t no_set no_set (length σ)
 unfolding backward
@@ -89,7 +89,7 @@ homeward-start wide σ t =
       reached = omega arith;
       after_is = held_none wide ∙ ap (held_in wide) (sym (drop-length σ));
       next-is = last_none ∙ ap last_in (sym (drop-length σ));
-      so-far_lem = ap (backward (note_rest_in wide) t (past_at σ (length σ))) (sym (drop-length σ));
+      so_far = ap (backward (note_rest_in wide) t (past_at σ (length σ))) (sym (drop-length σ));
     }
 
 module _ {wide : Bool} {σ t₀ t : List ℕ} {after next : Set} {i : ℕ} (inv : Homeward wide σ t₀ t after next i) where
@@ -106,7 +106,7 @@ module _ {wide : Bool} {σ t₀ t : List ℕ} {after next : Set} {i : ℕ} (inv 
         reached = omega arith;
         after_is = held_more wide _ _ after one both after' here.after_is ho hb ha ∙ ap (held_in wide) (sym (rest-next σ k l));
         next-is = ho ∙ ap last_in (sym (rest-next σ k l));
-        so-far_lem =
+        so_far =
             ht
             ∙ rest-is wide t (get_or σ k 0) (past_at σ k) (drop (k + 1) σ) after next here.after_is here.next-is
             ∙ ap (λ (r : List ℕ). note_rest_in wide r (get_or σ k 0) (past_at σ k) (drop (k + 1) σ))

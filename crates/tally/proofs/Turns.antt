@@ -1,7 +1,7 @@
 -- One turn of a pass over a trace: what stands before place i, the set of it, and what the row of the event gains. Assumes nothing.
 use Rattle.sets.specs.Members.{no_set, width, word, mem, those}
 use mathlib.Core.Path.{◌≡◌, refl, sym, ap, ◌∙◌}
-use mathlib.Core.Bool.{Bool, true, false, not}
+use mathlib.Core.Bool.{Bool, true, false}
 use mathlib.Core.List.{List, [], ◌∷◌, ◌++◌, reverse_aux}
 use Prim.Native.Nat.{ℕ, ◌+◌, ◌≤◌, ◌<◌}
 use native.Mathlib.Numerals.{add-one}
@@ -234,7 +234,7 @@ module _ (wide : Bool) (tables : List ℕ) (e : ℕ) where
       joined-thrice tables before_table unpreceded_table unchained_table e s c' d' _ _ _ one two out (is-those s _ hs)
       (held_of wide c c' _ (is-those c _ hc) hc') (held_of wide d d' _ (is-those d _ hd) hd') h1 h2 h3
 
-  pub rest_put : (after next : Set) (h : Bool) → h ≡ reaches wide e → not h ≡ false → (s c c' n : Set) (one two out : List ℕ)
+  pub rest_put : (after next : Set) (h : Bool) → h ≡ reaches wide e → h ≡ true → (s c c' n : Set) (one two out : List ℕ)
       → s ≡ those (λ x. reaches wide x and mem after x) → one ≡ gained_in tables later_table e s → c ≡ those (λ a. non (mem after a))
       → c' ≡ those (λ x. reaches wide x and mem c x) → two ≡ gained_in one unanswered_table e c' → n ≡ those (λ x. reaches wide x and mem next x)
       → out ≡ gained_in two followed_table e n → out ≡ rest_by wide tables e after next
@@ -243,7 +243,7 @@ module _ (wide : Bool) (tables : List ℕ) (e : ℕ) where
       taken (reaches wide e) _ tables out (held _ h hh hn) (joined-thrice tables later_table unanswered_table followed_table e s c' n _ _ _ one two out
       (is-those s _ hs) (held_of wide c c' _ (is-those c _ hc) hc') (is-those n _ hx) h1 h2 h3)
 
-  pub rest-left : (after next : Set) (h : Bool) → h ≡ reaches wide e → not h ≡ true → tables ≡ rest_by wide tables e after next
+  pub rest-left : (after next : Set) (h : Bool) → h ≡ reaches wide e → h ≡ false → tables ≡ rest_by wide tables e after next
   unfolding rest_by
   rest-left after next h hh hn = passed-by (reaches wide e) _ tables tables (failed _ h hh hn) refl
 

@@ -1,6 +1,6 @@
 -- What the passes over a trace do to rows and to tables of rows: the words of the contracts of src/passes.rt, and of the miner's own
 -- passes. That they are the rules' answers is a theorem, so a reader of `mine` need not believe this file.
-use Rattle.std.specs.Prelude.{◌≡◌, Bool, ℕ, zero, suc, ◌/◌, ◌≤◌, eqb, ltb, length, get_or, take, drop}
+use Rattle.std.specs.Prelude.{◌≡◌, Bool, ℕ, zero, suc, ◌/◌, ◌≤◌, eqb, ltb, length, get_or, take}
 use mathlib.Core.List.{List, [], ◌∷◌, reverse_aux}
 use Rattle.sets.specs.Tests.{◌and◌, ◌or◌, non, when◌then◌else◌}
 use Rattle.sets.specs.Members.{word, mem, those, some_below}

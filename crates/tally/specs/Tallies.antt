@@ -3,7 +3,7 @@
 -- theorem, so a reader of `mine` need not believe this file.
 use Rattle.std.specs.Prelude.{Bool, ℕ}
 use mathlib.Core.List.{List, [], reverse_aux}
-use Rattle.sets.specs.Tests.{◌and◌, ◌or◌, non, when◌then◌else◌}
+use Rattle.sets.specs.Tests.{◌and◌, non, when◌then◌else◌}
 use Rattle.sets.specs.Members.{mem}
 use Rattle.sets.specs.Tables.{no_tables}
 use Rattle.sets.specs.declared.set.Set.{Set}

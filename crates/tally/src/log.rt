@@ -41,7 +41,7 @@ pub fn empty() -> Tally
 // The facts of one trace. The rows of its blocks are lent, so that not each trace clears them all. It gives the events so far with those of the trace that the form holds.
 fn note_trace(trace: &[u8], events: Set, wide: bool, blocks: &mut Rows, tally: &mut Tally) -> Set
     requires { blocks.old ≡ no_rows }
-    ensures value { result ≡ those (λ x. mem events x or reaches wide x and (λ x. x.now) trace.entry has x) }
+    ensures value { result ≡ those (λ x. mem events x or reaches wide x and trace.now has x) }
     ensures blocks_after { blocks.new ≡ no_rows }
     ensures tally_after { tally.new ≡ noted_for wide tally.old trace.now }
 {

@@ -42,7 +42,7 @@ fn unmet(past: &[u8], e: Activity, wanted: Set) -> Set
 }
 
 // How far a look back has come: what is still wanted, and how many places are before it.
-#[derive(Drop)]
+#[derive(Clone, Copy)]
 struct Reached {
     left: Set,
     places: usize,

@@ -67,7 +67,7 @@ fn note_place_narrow<'a>(
 // From the first place to the last, looking back from a repeat. The rows of its blocks are lent empty and left empty. It gives the set of what stands in the trace, as far as the form holds it.
 pub(crate) fn forward(trace: &[u8], blocks: &mut Rows, tally: &mut Tally) -> Set
     requires { blocks.old ≡ no_rows }
-    ensures value { result ≡ those (λ x. reaches true x and (λ x. x.now) trace.entry has x) }
+    ensures value { result ≡ those (λ x. reaches true x and trace.now has x) }
     ensures blocks_after { blocks.new ≡ no_rows }
     ensures tally_after { tally.new ≡ forward (note_past_in true) tally.old [] trace.now }
 {
@@ -88,7 +88,7 @@ pub(crate) fn forward(trace: &[u8], blocks: &mut Rows, tally: &mut Tally) -> Set
 // The same in the narrow form.
 pub(crate) fn forward_narrow(trace: &[u8], blocks: &mut Rows, tally: &mut Tally) -> Set
     requires { blocks.old ≡ no_rows }
-    ensures value { result ≡ those (λ x. reaches false x and (λ x. x.now) trace.entry has x) }
+    ensures value { result ≡ those (λ x. reaches false x and trace.now has x) }
     ensures blocks_after { blocks.new ≡ no_rows }
     ensures tally_after { tally.new ≡ forward (note_past_in false) tally.old [] trace.now }
 {

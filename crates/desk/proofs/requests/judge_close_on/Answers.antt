@@ -1,0 +1,13 @@
+use borrow.Author.Rules.{rules}
+use Rattle.desk.specs.Desk.{place_answer, close_answer_on}
+use Rattle.desk.proofs.Serving.{judging, calling, ready}
+use Rattle.desk.proofs.requests.judge_close_on.Goals as goal
+
+pub returns-then-not-is_done : goal.returns-then-not-is_done
+returns-then-not-is_done c = unfold close_answer_on in search (calling, rules)
+
+pub marking_at-m-requires : goal.marking_at-m-requires
+marking_at-m-requires c = unfold place_answer in search (ready, rules)
+
+pub returns : goal.returns
+returns c = unfold close_answer_on in search (calling, judging, rules)

@@ -1,0 +1,13 @@
+use borrow.Author.Rules.{rules}
+use Rattle.graphfile.proofs.RowStores.{kept-length}
+use Rattle.graphfile.proofs.Stores.{each-relation}
+use Rattle.graphfile.proofs.writer.put_relations.Goals as goal
+
+pub loop-r-init : goal.loop-r-init
+loop-r-init c = search (each-relation, rules)
+
+pub put_rows-next-requires : goal.put_rows-next-requires
+put_rows-next-requires c = search (each-relation, kept-length, rules)
+
+pub loop-r-preserved : goal.loop-r-preserved
+loop-r-preserved c = search (each-relation, kept-length, rules)

@@ -1,0 +1,10 @@
+use borrow.Author.Rules.{rules}
+use Rattle.tally.specs.Passes.{walked}
+use Rattle.miner.proofs.Composed.{six-length, six-includes, six-excludes, light-includes, light-excludes_lem}
+use Rattle.miner.proofs.mining.put_six.Goals as goal
+
+pub returns-in-Full-clause-out_after : goal.returns-in-Full-clause-out_after
+returns-in-Full-clause-out_after c = search (six-includes, rules)
+
+pub returns-in-Full-clause-out_after_2 : goal.returns-in-Full-clause-out_after_2
+returns-in-Full-clause-out_after_2 c = search (six-excludes, rules)

@@ -1,0 +1,6 @@
+use borrow.Author.Rules.{rules}
+use Rattle.miner.proofs.Settling.{open-lost}
+use Rattle.miner.proofs.redundant.lose_open.Goals as goal
+
+pub returns : goal.returns
+returns c = open-lost _ _ _ _ _ _ c.reopen_log.ensures c.lose_doubted.ensures

@@ -1,0 +1,21 @@
+use Prim.Native.Nat.{◌≤◌, ◌-◌}
+use borrow.Author.Rules.{rules}
+use Rattle.sets.specs.Tables.{table_at}
+use Rattle.miner.proofs.Reopening.{Walking, walk_start, walk-next, walk_end, walk-short}
+use Rattle.miner.proofs.redundant.reopen_log.Goals as goal
+
+pub loop-k-init : goal.loop-k-init
+loop-k-init c = (search rules, walk_start _ _ _ _ _ _)
+
+pub returns-then-none_doubted : goal.returns-then-none_doubted
+returns-then-none_doubted c = walk-short _ _ _ _ _ _ _ _ _ _ _ c.below.ensures c.is_within-wide.ensures c.loop-k.invariant.1 _ _
+    c.none_doubted.ensures c.if-none_doubted.true
+
+pub loop-k-preserved-then-wide : goal.loop-k-preserved-then-wide
+loop-k-preserved-then-wide c = search (walk-next, rules)
+
+pub loop-k-preserved : goal.loop-k-preserved
+loop-k-preserved c = search (walk-next, rules)
+
+pub returns : goal.returns
+returns c = walk_end _ _ _ _ _ _ _ _ _ _ _ c.below.ensures c.is_within-wide.ensures c.loop-k.invariant.1 c.loop-k-test.false

@@ -1,0 +1,12 @@
+use Prim.Native.Nat.{ℕ, ◌-◌}
+use borrow.Author.Rules.{rules}
+use lib.ListN.{length, length-replicate}
+use Rattle.months.specs.Layout.{tally_width}
+use Rattle.months.proofs.Along.{Along, cut-kept, along-start, along-turn, along-end}
+use Rattle.months.proofs.pairs.note_along.Given as goal
+
+abbrev pub invariant-loop-i : goal.invariant-loop-i
+invariant-loop-i l = Along l.trace l.initial.tally l.tally l.firsts l.gaps l.seen l.i
+
+abbrev pub decreases-loop-i : goal.decreases-loop-i
+decreases-loop-i l = length l.trace - l.i

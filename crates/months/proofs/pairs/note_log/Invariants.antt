@@ -1,0 +1,13 @@
+use mathlib.Core.Path.{◌≡◌, refl}
+use Prim.Native.Nat.{◌-◌, ◌≤◌}
+use borrow.Author.Rules.{rules}
+use lib.ListN.{length}
+use Rattle.months.specs.Pairs.{Gained}
+use Rattle.months.proofs.Gaining.{between_to, traces-start, traces-turn, traces-end}
+use Rattle.months.proofs.pairs.note_log.Given as goal
+
+abbrev pub invariant-loop-k : goal.invariant-loop-k
+invariant-loop-k l = (l.k ≤ l.traces) × (length l.tally ≡ length l.initial.tally) × Gained l.initial.tally (between_to l.log l.k) l.tally
+
+abbrev pub decreases-loop-k : goal.decreases-loop-k
+decreases-loop-k l = l.traces - l.k

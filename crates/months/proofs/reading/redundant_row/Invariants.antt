@@ -1,0 +1,12 @@
+use borrow.Author.Rules.{rules}
+use Rattle.sets.specs.Members.{width, mem, count_below}
+use Rattle.sets.proofs.Passing.{members}
+use Rattle.months.specs.Readings.{between_in, redundant_by}
+use Rattle.months.proofs.FromTally.{GatheredFrom, gather-start, gather-turn, gather-end}
+use Rattle.months.proofs.reading.redundant_row.Given as goal
+
+abbrev pub invariant-loop-s : goal.invariant-loop-s
+invariant-loop-s l = GatheredFrom (λ u x. redundant_by l.includes l.excludes (between_in l.tally) u l.s.0 x) l.initial.rest l.out l.rest
+
+abbrev pub decreases-loop-s : goal.decreases-loop-s
+decreases-loop-s l = count_below width (mem l.rest)

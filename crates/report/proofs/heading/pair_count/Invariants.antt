@@ -1,0 +1,17 @@
+use mathlib.Core.Path.{◌≡◌}
+use Prim.Native.Nat.{◌+◌, ◌-◌, ◌*◌, ◌≤◌}
+use lib.ListN.{length}
+use Rattle.sets.specs.Members.{width}
+use Rattle.sets.specs.Rows.{in_row}
+use Rattle.sets.specs.Tables.{table_at}
+use Rattle.report.specs.Pairs.{pairs_from, pair_count}
+use borrow.Author.Rules.{rules}
+use Rattle.report.proofs.PairLaws.{counting}
+use Rattle.report.proofs.heading.pair_count.Given as goal
+
+abbrev pub invariant-loop-a : goal.invariant-loop-a
+invariant-loop-a l = (l.a ≤ width) × (l.n ≤ width * width)
+    × (l.n + length (pairs_from (in_row (table_at l.tables l.table)) (width - l.a) l.a) ≡ pair_count (in_row (table_at l.tables l.table)))
+
+abbrev pub decreases-loop-a : goal.decreases-loop-a
+decreases-loop-a l = width - l.a

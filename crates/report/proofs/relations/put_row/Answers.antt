@@ -1,0 +1,19 @@
+use Rattle.sets.specs.Members.{width, mem, count_below}
+use Rattle.report.proofs.LineLaws.{members}
+use Rattle.sets.proofs.Passing.{fewer-left}
+use Rattle.report.proofs.PutLaws.{Left}
+use Rattle.report.proofs.LineLaws.{row_text}
+use borrow.Author.Rules.{rules}
+use Rattle.report.proofs.relations.put_row.Goals as goal
+
+pub put_pair-next-requires : goal.put_pair-next-requires
+put_pair-next-requires c = search (members, rules)
+
+pub loop-s-smaller : goal.loop-s-smaller
+loop-s-smaller c = search (fewer-left, rules)
+
+pub loop-s-preserved : goal.loop-s-preserved
+loop-s-preserved c = search (members, rules)
+
+pub returns : goal.returns
+returns c = search (members, rules)

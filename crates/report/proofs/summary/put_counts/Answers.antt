@@ -1,0 +1,20 @@
+use borrow.Author.Rules.{rules}
+use Prim.Native.Nat.{◌-◌, ◌≤◌}
+use Rattle.sets.specs.Rows.{in_row}
+use Rattle.sets.specs.Tables.{table_at}
+use Rattle.report.specs.Puts.{row_counts}
+use Rattle.report.proofs.PutLaws.{Left}
+use Rattle.report.proofs.SummaryLaws.{counts_from, count-by-count}
+use Rattle.report.proofs.summary.put_counts.Goals as goal
+
+pub loop-a-init : goal.loop-a-init
+loop-a-init c = search (count-by-count, rules)
+
+pub put_byte-next-requires : goal.put_byte-next-requires
+put_byte-next-requires c = search (count-by-count, rules)
+
+pub loop-a-preserved : goal.loop-a-preserved
+loop-a-preserved c = search (count-by-count, rules)
+
+pub returns : goal.returns
+returns c = search (count-by-count, rules)

@@ -1,0 +1,6 @@
+use borrow.Author.Rules.{rules}
+use Rattle.report.proofs.SummaryLaws.{summary-1, summary-2, summary-put}
+use Rattle.report.proofs.summary.put_summary.Goals as goal
+
+pub returns : goal.returns
+returns c = search (summary-put, rules)

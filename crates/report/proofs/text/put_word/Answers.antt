@@ -1,0 +1,6 @@
+use borrow.Author.Rules.{rules}
+use Rattle.report.proofs.PutLaws.{putting}
+use Rattle.report.proofs.text.put_word.Goals as goal
+
+pub returns : goal.returns
+returns c = search (putting, rules)

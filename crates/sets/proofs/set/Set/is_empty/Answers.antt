@@ -1,0 +1,6 @@
+use borrow.Author.Rules.{rules}
+use Rattle.sets.proofs.Members.{operations}
+use Rattle.sets.proofs.set.Set.is_empty.Goals as goal
+
+pub returns : goal.returns
+returns c = search (operations, rules)

@@ -1,0 +1,6 @@
+use borrow.Author.Rules.{rules}
+use Rattle.tally.proofs.Turns.{past-put}
+use Rattle.tally.proofs.passes.note_past.Goals as goal
+
+pub returns : goal.returns
+returns c = search (past-put, rules)
