@@ -1,40 +1,40 @@
 -- THE THEOREM OF READING: the relations that are read from the tally of some traces are, pair for pair, the rules' after step 8, in either
 -- profile, and its events are theirs. However many traces there are; of them is assumed that their activities are below 64, which A makes sure.
-use mathlib.Core.Path.{◌≡◌, refl, sym, ap, ap₂, ◌∙◌}
+use mathlib.Core.Path.{◌≡◌, sym, ap, ap₂, ◌∙◌}
 use mathlib.Core.Bool.{Bool, true, false}
 use mathlib.Core.List.{List, ◌++◌}
-use Prim.Native.Nat.{ℕ, ◌+◌, ◌-◌, ◌*◌, ◌/◌, ◌%◌, ◌≤◌, ◌<◌}
+use Prim.Native.Nat.{ℕ, ◌-◌, ◌/◌, ◌%◌, ◌<◌}
 use native.Mathlib.Omega.{arith}
 use borrow.Author.Tests.{lt-ltb}
 use lib.Dec.{T, ltb, lt→ltb}
 use Rattle.sets.specs.Tests.{◌and◌, ◌or◌, non}
-use Rattle.sets.specs.Members.{width, mem, those, some_below}
+use Rattle.sets.specs.Members.{width, mem, some_below}
 use Rattle.sets.specs.Rows.{Relation, in_row, rows_of, rows_for, turned}
 use Rattle.sets.specs.declared.set.Set.{Set}
 use Rattle.sets.proofs.Tests.{and_l, and_r, and_i, true-and, T-ext, T-eq}
-use Rattle.sets.proofs.Tautologies.{by2, by3, by4, by5}
+use Rattle.sets.proofs.Tautologies.{by2, by3, by5}
 use Rattle.sets.proofs.Below.{some-ext}
 use Rattle.sets.proofs.Members.{those-ext, those-e, mem-those}
 use Rattle.sets.proofs.RowLaws.{in-rows_of, rows_of-ext}
 use Rattle.sets.proofs.TableLaws.{in-tables_of}
-use Rattle.engine.specs.Relations.{Relations, relation_count, tables_from}
+use Rattle.engine.specs.Relations.{Relations, tables_from}
 use Rattle.rules.specs.declared.Profile.{Profile}
 use Rattle.rules.specs.declared.Profile.TheVariants.{Full, Light}
 use Rattle.rules.specs.Traces.{Traces}
-use Rattle.rules.specs.Mining.{event, some_event, ◌with◌, ◌without◌, followed, between, alternates, let_in_between, makes_redundant, reduced, step6, step7, step8}
+use Rattle.rules.specs.Mining.{event, some_event, ◌with◌, ◌without◌, followed, between, alternates, let_in_between, makes_redundant, step6, step7, step8}
 use Rattle.rules.specs.Mining.{step3, step4, step5, step9, step10, after_five, after_six, after_seven, after_eight, mined}
 use Rattle.steps.specs.Rowwise.{absent, reduced_of}
-use Rattle.tally.specs.Tallies.{table_count, unalternated_table, tallied}
+use Rattle.tally.specs.Tallies.{table_count, tallied}
 use Rattle.tally.proofs.Tallying.{unalternated-table_lem}
-use Rattle.miner.specs.Stages.{conditions_of, responses_of, chains_of, never_of, excludes_six, four_tables}
+use Rattle.miner.specs.Stages.{responses_of, excludes_six, four_tables}
 use Rattle.miner.proofs.EarlySteps.{events, chains-read, turned_rows, absent-rows}
 use Rattle.miner.proofs.Exclusions.{first-too, never-read, excludes-six_lem, six-events}
 use Rattle.miner.proofs.Losing.{where-so}
 use Rattle.miner.proofs.PairForPair.{four-tables_lem, conditions-eight, responses-mined}
 use Rattle.miner.proofs.AtEvents.{AgreeAt, conditions-at, responses-at, chains-at, never-at, alternating-at, excludes-six-at}
-use Rattle.months.specs.Layout.{tally_width, set_count, first_row, rows_end, first_pair, row_set, pair_set, set_in}
+use Rattle.months.specs.Layout.{tally_width, first_row, rows_end, first_pair, row_set, pair_set, set_in}
 use Rattle.months.specs.Tallies.{asked, held, tally_of}
-use Rattle.months.specs.Readings.{tables_in, between_in, unfollowing, includers, includes_in, alternating, redundant_by, excluded, excludes_from}
+use Rattle.months.specs.Readings.{tables_in, between_in, includers, includes_in, alternating, redundant_by, excluded, excludes_from}
 use Rattle.months.specs.Readings.{relations_from}
 use Rattle.months.proofs.Narrow.{narrowed-in}
 use Rattle.months.proofs.Holding.{held-events, held-row, held-pair, table-asked, set-held}

@@ -5,16 +5,15 @@ use mathlib.Core.List.{List, [], ◌∷◌, reverse_aux}
 use Prim.Native.Nat.{ℕ, suc, ◌+◌, ◌≤◌, ◌<◌}
 use native.Mathlib.Numerals.{add-one}
 use native.Mathlib.Omega.{arith}
-use borrow.Author.Tests.{lt-ltb, ne_eqb, eqb-true, eqb-false, ltb-true, ltb-false}
+use borrow.Author.Tests.{lt-ltb, eqb-true, eqb-false, ltb-true}
 use lib.Arith.{lt_of_le-ne}
-use lib.Dec.{T, eqb, ltb, eqb_refl}
+use lib.Dec.{eqb, ltb, eqb_refl}
 use lib.ListN.{length, get_or, set, drop, length-set, length-replicate, drop_of_length-le}
 use lib.Seq.{take_all, get_or-set_same, get_or-set_other}
 use Rattle.sets.specs.Tests.{◌and◌, ◌or◌, non, when◌then◌else◌}
 use Rattle.sets.specs.Members.{mem, those, no_set, count_below}
 use Rattle.sets.specs.Rows.{row_words, no_rows, row_at}
-use Rattle.sets.specs.declared.set.Set.{Set}
-use Rattle.sets.proofs.Tests.{T→true, F→false, true→T, false→F, split, either, and_l, and_r, or_l, or_comm, non-e, true-and, false-and, and-true, and-false}
+use Rattle.sets.proofs.Tests.{T→true, F→false, true→T, false→F, and_l, and_r, or_l, or_comm, non-e, true-and, false-and, and-true, and-false}
 use Rattle.sets.proofs.Below.{count-ext, count_less, count-le}
 use Rattle.sets.proofs.Members.{mem-none, mem-those}
 use Rattle.sets.proofs.RowLaws.{row-none}

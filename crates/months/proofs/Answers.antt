@@ -1,10 +1,10 @@
 -- The ways out of `fill`, `join` and `relations`. Assumes nothing.
 use mathlib.Core.Path.{◌≡◌, refl, sym, ap, ap₂, ◌∙◌}
-use mathlib.Core.Bool.{Bool, true, false, not}
-use mathlib.Core.List.{List, [], ◌∷◌, ◌++◌}
-use Prim.Native.Nat.{ℕ, ◌+◌, ◌*◌, ◌≤◌, ◌<◌, max}
+use mathlib.Core.Bool.{Bool, true, false}
+use mathlib.Core.List.{List, ◌++◌}
+use Prim.Native.Nat.{ℕ, ◌*◌, ◌≤◌, ◌<◌, max}
 use native.Mathlib.Omega.{arith}
-use borrow.Author.Tests.{lt-ltb, le-ltb, ltb-true, ltb-false, not-true, not-false}
+use borrow.Author.Tests.{lt-ltb, le-ltb, ltb-true, ltb-false}
 use lib.Dec.{ltb}
 use lib.ListN.{length, get_or, set, take, drop}
 use lib.Seq.{get_or-take, set-append_left, length-take-le}
@@ -12,10 +12,10 @@ use Rattle.sets.specs.Tests.{◌or◌, when◌then◌else◌}
 use Rattle.sets.specs.Members.{no_set}
 use Rattle.sets.specs.Tables.{no_tables}
 use Rattle.sets.specs.declared.set.Set.{Set}
-use Rattle.sets.specs.Answers.{is_done, then_ask}
+use Rattle.sets.specs.Answers.{is_done}
 use Rattle.sets.specs.declared.answer.Answer.{Answer}
 use Rattle.sets.specs.declared.answer.Answer.TheVariants.{Done, AboveLimit, BufferTooSmall}
-use Rattle.sets.proofs.Tests.{or-true, or-false, false-or}
+use Rattle.sets.proofs.Tests.{or-true}
 use Rattle.octets.specs.Sets.{set_length, set_at}
 use Rattle.engine.specs.Relations.{relation_count}
 use Rattle.rules.specs.declared.Profile.{Profile}

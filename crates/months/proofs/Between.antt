@@ -1,11 +1,11 @@
 -- What the pass over a trace joins at the last place of each activity is what stands between two activities. Assumes nothing.
-use mathlib.Core.Path.{◌≡◌, refl, sym, ap, ap₂, ◌∙◌}
+use mathlib.Core.Path.{◌≡◌, refl, sym, ◌∙◌}
 use mathlib.Core.Bool.{Bool, true, false}
 use mathlib.Core.List.{List, [], ◌∷◌, reverse_aux}
 use Prim.Native.Nat.{ℕ}
 use lib.Dec.{T, eqb}
 use Rattle.sets.specs.Tests.{◌and◌, ◌or◌, non}
-use Rattle.sets.proofs.Tests.{and_l, or-e, or_l, or_r, either, or-false, or_assoc}
+use Rattle.sets.proofs.Tests.{and_l, or-e, or_r, either, or-false}
 use Rattle.sets.proofs.Tautologies.{by5}
 use Rattle.rules.specs.Traces.{◌has◌, at_some_from, at_some}
 use Rattle.months.specs.Pairs.{Pairs, since_in}

@@ -1,20 +1,19 @@
 -- A trace cut at the first place of each activity: walking back over the cuts, one gap that gains, one cut more. Assumes nothing.
 use mathlib.Core.Path.{◌≡◌, refl, sym, ap, ap₂, ◌∙◌, subst}
-use mathlib.Core.Bool.{Bool, true, false, not}
+use mathlib.Core.Bool.{Bool, true, false}
 use mathlib.Core.List.{List, [], ◌∷◌, reverse_aux}
 use Prim.Native.Nat.{ℕ, zero, suc, ◌+◌, ◌-◌, ◌*◌, ◌≤◌, ◌<◌}
-use native.Mathlib.Nat.{le_of_suc-le-suc}
 use native.Mathlib.Numerals.{add-one}
 use native.Mathlib.Omega.{arith}
 use borrow.Author.Tests.{lt-ltb, le-ltb}
 use lib.Dec.{eqb, ltb}
-use lib.ListN.{length, get_or, take, set, length-set}
-use lib.Seq.{get_or-set_same, get_or-set_other, take-set-le}
+use lib.ListN.{length, get_or, set, length-set}
+use lib.Seq.{get_or-set_same, take-set-le}
 use Rattle.sets.specs.Tests.{◌and◌, ◌or◌, non, when◌then◌else◌}
 use Rattle.sets.specs.Members.{width, mem, those, no_set}
 use Rattle.sets.specs.Rows.{row_words, row_at, with_row, in_row}
 use Rattle.sets.specs.declared.set.Set.{Set}
-use Rattle.sets.proofs.Tests.{or-false, or_assoc, and-false, false-and}
+use Rattle.sets.proofs.Tests.{or_assoc, and-false, false-and}
 use Rattle.sets.proofs.Tautologies.{by3, by5}
 use Rattle.sets.proofs.Members.{mem-none, mem-those}
 use Rattle.sets.proofs.MadeSets.{is-those}
@@ -24,7 +23,7 @@ use Rattle.rules.specs.Traces.{◌has◌}
 use Rattle.tally.proofs.Turns.{past_next, with-one}
 use Rattle.months.specs.Layout.{tally_width, pair_set, set_in}
 use Rattle.months.specs.declared.pairs.Seen.{Seen}
-use Rattle.months.specs.Pairs.{Pairs, Gained, Kept, back_to, walk_back, widened, with_first, is_new, seen_with, firsts_with}
+use Rattle.months.specs.Pairs.{Gained, Kept, back_to, walk_back, widened, with_first, is_new, seen_with, firsts_with}
 use Rattle.months.proofs.Packed.{gain-pair}
 use Rattle.months.proofs.Gaining.{gained-none, gained-as, gained-both}
 

@@ -1,35 +1,34 @@
 -- What is read from a tally, whatever its bytes are: the tables, and steps 6 and 7 by the sets of the pairs. Assumes nothing.
 use mathlib.Core.Path.{◌≡◌, refl, sym, ap, ap₂, ◌∙◌, subst}
-use mathlib.Core.Bool.{Bool, true, false, not}
-use mathlib.Core.List.{List, []}
-use Prim.Native.Nat.{ℕ, zero, suc, ◌+◌, ◌*◌, ◌≤◌, ◌<◌}
-use native.Mathlib.Nat.{zero-mul}
+use mathlib.Core.Bool.{Bool, true, false}
+use mathlib.Core.List.{List}
+use Prim.Native.Nat.{ℕ, ◌+◌, ◌*◌, ◌≤◌, ◌<◌}
 use native.Mathlib.Omega.{arith}
-use borrow.Author.Tests.{lt-ltb, le-ltb, ltb-true, ltb-false, eqb-true, eqb-false, not-true}
-use lib.Dec.{T, eqb, ltb, lt→ltb, ltb→lt}
-use lib.ListN.{length, get_or}
+use borrow.Author.Tests.{lt-ltb, le-ltb, eqb-true, eqb-false}
+use lib.Dec.{eqb, ltb, lt→ltb, ltb→lt}
+use lib.ListN.{get_or}
 use Rattle.sets.specs.Tests.{◌and◌, ◌or◌, non, when◌then◌else◌}
 use Rattle.sets.specs.Members.{width, mem, those, no_set, some_below, least_below, is_empty}
 use Rattle.sets.specs.Rows.{Relation, row_words, no_rows, row_at, with_row, in_row, rows_of, rows_for, turned}
 use Rattle.sets.specs.Tables.{no_tables, table_at, with_table, tables_of}
 use Rattle.sets.specs.declared.set.Set.{Set}
-use Rattle.sets.proofs.Tests.{T→true, F→false, T-ext, split, either, true-and, false-and}
+use Rattle.sets.proofs.Tests.{T-ext, true-and, false-and}
 use Rattle.sets.proofs.Below.{some-ext}
-use Rattle.sets.proofs.Members.{Whole, those-ext, mem-those}
-use Rattle.sets.proofs.MadeSets.{Is, is-those, is_row, joined, less}
+use Rattle.sets.proofs.Members.{Whole, those-ext}
+use Rattle.sets.proofs.MadeSets.{is-those, is_row, joined, less}
 use Rattle.sets.proofs.RowLaws.{row-in_lem, row-rows_of, in-rows_of, rows_of-ext, empty-rows_of, put-rows_of}
 use Rattle.sets.proofs.TableLaws.{table-row-is, tables_of-ext, empty-tables_of, fill-tables_of}
 use Rattle.sets.proofs.Passing.{Part, passed, in_some, union-start, union-turn, union-end, least-low}
-use Rattle.octets.specs.Sets.{set_length, set_at}
+use Rattle.octets.specs.Sets.{set_length}
 use Rattle.octets.proofs.Codec.{Bytes}
 use Rattle.octets.proofs.SetLaws.{set-whole}
 use Rattle.rules.specs.declared.Profile.{Profile}
 use Rattle.rules.specs.declared.Profile.TheVariants.{Full, Light}
 use Rattle.steps.specs.Rowwise.{unbroken, absent, excluders, in_either, reduced_of}
 use Rattle.tally.specs.Tallies.{table_count, before_table, later_table, unchained_table, unalternated_table, followed_table}
-use Rattle.miner.specs.Stages.{conditions_of, responses_of, chains_of, never_of, five_of, excludes_six, four_tables}
+use Rattle.miner.specs.Stages.{conditions_of, responses_of, chains_of, excludes_six, four_tables}
 use Rattle.months.specs.Layout.{tally_width, row_set, pair_set, set_in}
-use Rattle.months.specs.Readings.{tables_in, between_in, unfollowing, includers, includes_in, alternating, redundant_by, excluded, excludes_from}
+use Rattle.months.specs.Readings.{between_in, unfollowing, includers, includes_in, redundant_by, excluded, excludes_from}
 use Rattle.months.specs.Readings.{relations_from}
 
 -- a set of the code's bytes is one of the code's sets

@@ -1,37 +1,27 @@
 -- The pass over a trace: one pair that gains, all pairs of a place, one place further, one trace further. Assumes nothing.
-use mathlib.Core.Path.{◌≡◌, refl, sym, ap, ap₂, ◌∙◌, subst}
-use mathlib.Core.Bool.{Bool, true, false, not}
-use mathlib.Core.List.{List, [], ◌∷◌, reverse_aux}
-use Prim.Native.Nat.{ℕ, zero, suc, ◌+◌, ◌-◌, ◌*◌, ◌≤◌, ◌<◌}
+use mathlib.Core.Path.{◌≡◌, refl, sym, ap, ◌∙◌, subst}
+use mathlib.Core.Bool.{Bool, true, false}
+use mathlib.Core.List.{List}
+use Prim.Native.Nat.{ℕ, zero, suc, ◌+◌, ◌*◌, ◌≤◌, ◌<◌}
 use native.Mathlib.Nat.{add-zero, add-suc, suc-add, zero-add}
 use native.Mathlib.Numerals.{add-one}
 use native.Mathlib.Omega.{arith}
-use borrow.Author.Tests.{lt-ltb, le-ltb, ltb-true, ltb-false, ne_eqb, eqb-true, eqb-false}
-use lib.Dec.{T, eqb, ltb, eqb→eq, eqb_refl}
-use lib.ListN.{length, get_or, take, drop, drop_of_length-le}
-use lib.Seq.{take_all}
-use Rattle.sets.specs.Tests.{◌and◌, ◌or◌, non}
-use Rattle.sets.specs.Members.{mem, those, no_set, least_below, is_empty}
-use Rattle.sets.specs.Rows.{Relation, no_rows, row_at, with_row, in_row, rows_of}
+use borrow.Author.Tests.{lt-ltb, le-ltb, ltb-true}
+use lib.Dec.{eqb, ltb}
+use lib.ListN.{length}
+use Rattle.sets.specs.Tests.{◌and◌, ◌or◌}
+use Rattle.sets.specs.Members.{mem, those}
 use Rattle.sets.specs.declared.set.Set.{Set}
-use Rattle.sets.proofs.Tests.{true→T, and_comm, and_l, and_r, and_i, T-ext, T→true, F→false, split, either, or-false, or_assoc, false-or, true-and, false-and, and-false, and-true}
-use Rattle.sets.proofs.Tautologies.{by2, by3, by4, by5}
-use Rattle.sets.proofs.Members.{those-ext, those-of, mem-those}
-use Rattle.sets.proofs.MadeSets.{is-those}
-use Rattle.sets.proofs.RowLaws.{in-rows_of, row-mem, rows_of-ext, gain-rows_of, empty-rows_of}
-use Rattle.sets.proofs.Passing.{Part, passed, passed_none, passed-all, passed-turn, part-turn, least-low}
+use Rattle.sets.proofs.Tests.{true→T, and_l, T→true, or-false, or_assoc, false-or, true-and, false-and}
 use Rattle.octets.specs.Sets.{set_length, set_at, set_put}
 use Rattle.octets.proofs.SetLaws.{length-put}
 use Rattle.rules.specs.Traces.{◌has◌, at_some, some_trace}
 use Rattle.rules.specs.Mining.{between}
-use Rattle.tally.specs.Passes.{gained, walked}
-use Rattle.tally.proofs.Turns.{past_at, past_next, rest-next, seen_in, seen_none, seen_next}
+use Rattle.tally.specs.Passes.{walked}
 use Rattle.calllog.specs.Logs.{part_at}
-use Rattle.miner.proofs.After.{LastOf}
 use Rattle.months.specs.Layout.{tally_width, pair_set, set_in}
-use Rattle.months.specs.Pairs.{Pairs, packed, Gained, since_in}
-use Rattle.months.proofs.Packed.{packed-ext, gain-pair}
-use Rattle.months.proofs.Between.{joined_in, since-seen, joined_is}
+use Rattle.months.specs.Pairs.{Pairs, Gained}
+use Rattle.months.proofs.Packed.{packed-ext}
 
 -- ---- laws of what is gained
 

@@ -1,14 +1,13 @@
 -- What the tally of some traces holds, set by set, and that it is what filling leaves. Assumes nothing.
-use mathlib.Core.Path.{◌≡◌, refl, sym, ap, ap₂, ◌∙◌}
+use mathlib.Core.Path.{◌≡◌, refl, sym, ap, ◌∙◌}
 use mathlib.Core.Logic.{inr}
-use mathlib.Core.Bool.{Bool, true, false}
+use mathlib.Core.Bool.{Bool, false}
 use mathlib.Core.List.{List, [], ◌∷◌, ◌++◌}
-use Prim.Native.Nat.{ℕ, zero, suc, ◌+◌, ◌-◌, ◌*◌, ◌/◌, ◌%◌, ◌≤◌, ◌<◌}
-use native.Mathlib.Nat.{not-suc-le-zero, le_of_suc-le-suc}
+use Prim.Native.Nat.{ℕ, zero, suc, ◌-◌, ◌*◌, ◌/◌, ◌%◌, ◌≤◌, ◌<◌}
 use native.Mathlib.Omega.{arith}
 use borrow.Author.Tests.{lt-ltb, le-ltb, ltb-true, ltb-false}
 use lib.Dec.{ltb}
-use lib.ListN.{length, get_or, set, drop, length-append, length-set, length-drop}
+use lib.ListN.{length, set, drop, length-append, length-set, length-drop}
 use lib.Seq.{get_or-set_same, set-append_left}
 use Rattle.sets.specs.Tests.{◌and◌, ◌or◌}
 use Rattle.sets.specs.Members.{those}
@@ -25,7 +24,7 @@ use Rattle.rules.specs.Mining.{event, between}
 use Rattle.tally.specs.Passes.{through, reaches, event_in}
 use Rattle.tally.specs.Tallies.{table_count, tallied, noted_for, tallied_for}
 use Rattle.tally.proofs.Tallying.{before-table_lem, later-table_lem, unpreceded-table_lem, unanswered-table_lem, unchained-table_lem, unalternated-table_lem, followed-table_lem, form-agrees}
-use Rattle.months.specs.Layout.{tally_width, set_count, tally_length, first_row, rows_end, first_pair, row_set, pair_set, sets_from, activities_in, set_in}
+use Rattle.months.specs.Layout.{tally_width, set_count, tally_length, first_row, rows_end, first_pair, sets_from, activities_in, set_in}
 use Rattle.months.specs.Tallies.{asked, held, tally_of}
 use Rattle.months.specs.Pairs.{over, packed, Gained, initial_of}
 use Rattle.months.proofs.Narrow.{narrowed}

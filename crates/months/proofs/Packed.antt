@@ -2,19 +2,18 @@
 -- Assumes nothing.
 use mathlib.Core.Path.{◌≡◌, refl, sym, ap, ap₂, ◌∙◌}
 use mathlib.Core.Bool.{Bool, true, false}
-use mathlib.Core.List.{List, [], ◌∷◌, ◌++◌, append_assoc, append-nil}
+use mathlib.Core.List.{List, [], ◌++◌, append_assoc, append-nil}
 use Prim.Native.Nat.{ℕ, zero, suc, ◌+◌, ◌-◌, ◌*◌, ◌/◌, ◌%◌, ◌≤◌, ◌<◌}
 use native.Mathlib.Nat.{suc-add, add-suc, add-zero, zero-add}
-use native.Mathlib.Numerals.{add-one}
 use native.Mathlib.Omega.{arith}
-use borrow.Author.Tests.{lt-ltb, le-ltb, ltb-true, ltb-false, eq-eqb, ne_eqb, eqb-true, eqb-false}
-use lib.Dec.{T, eqb, ltb, eqb_refl}
+use borrow.Author.Tests.{lt-ltb, le-ltb, ltb-true, ltb-false, ne_eqb, eqb-true, eqb-false}
+use lib.Dec.{eqb, ltb, eqb_refl}
 use lib.ListN.{length, take, drop, length-append, length-drop, take-append-drop}
 use lib.Seq.{sets, sets-eq, take_at, drop_at, drop-drop, drop-append-add, length-take-le}
 use Rattle.sets.specs.Tests.{◌and◌, ◌or◌, when◌then◌else◌}
 use Rattle.sets.specs.Members.{mem, those}
 use Rattle.sets.specs.declared.set.Set.{Set}
-use Rattle.sets.proofs.Tests.{T→true, F→false, split, either, or-false, false-and, and-false, true-and}
+use Rattle.sets.proofs.Tests.{T→true, F→false, split, either, or-false, false-and, true-and}
 use Rattle.sets.proofs.Members.{those-ext, those-of}
 use Rattle.octets.specs.Sets.{set_length, set_bytes, set_at, set_put}
 use Rattle.octets.proofs.Parts.{part}

@@ -189,16 +189,16 @@ module _ (head : Head) (c r i x : List ℕ) where
     unfolding plain_stepped_of
     of-plain-step s h = subst (λ (t : Stepped). Carries (plain_relations given) m.state e t.answer) (sym h) plain-asked
 
-    pub carries-plain-enabled : (a : Answer) → plain.plain-enabled-gives head c r i x m e a → Carries (plain_relations given) m.state e a
+    pub carries-plain-enabled : (a : Answer) → plain.PlainEnabledGives head c r i x m e a → Carries (plain_relations given) m.state e a
     carries-plain-enabled a k = subst (Carries (plain_relations given) m.state e) (sym (plain.plain-enabled-said head c r i x m e a k)) plain-asked
 
-    pub carries-plain-step : (s : Stepped) → plain.plain-step-gives head c r i x m e s → Carries (plain_relations given) m.state e s.answer
+    pub carries-plain-step : (s : Stepped) → plain.PlainStepGives head c r i x m e s → Carries (plain_relations given) m.state e s.answer
     carries-plain-step s k = of-plain-step s (plain.plain-step-said head c r i x m e s k)
 
-    pub carries-plain-execute : (a : Answer) (n : Marking) → plain.plain-execute-gives head c r i x m e a n → Carries (plain_relations given) m.state e a
+    pub carries-plain-execute : (a : Answer) (n : Marking) → plain.PlainExecuteGives head c r i x m e a n → Carries (plain_relations given) m.state e a
     carries-plain-execute a n k = of-plain-step (record { answer = a; marking = n }) (plain.plain-execute-said head c r i x m e a n k)
 
-  pub carries-plain-replay : (σ : List ℕ) (end : Replayed) → plain.plain-replay-gives head c r i x σ end
+  pub carries-plain-replay : (σ : List ℕ) (end : Replayed) → plain.PlainReplayGives head c r i x σ end
       → Carries (plain_relations given) end.marking.state (get_or σ end.place.0 0) end.answer
   unfolding plain_replay_of plain_judged_for
   carries-plain-replay σ end k =
@@ -209,17 +209,17 @@ module _ (head : Head) (c r i x : List ℕ) where
 
 module _ (g : Graph) (c r i x : List ℕ) (same : InLists g.relations c r i x) where
   module _ (m : Marking) (e : ℕ) (l : e < 256) where
-    pub same-enabled : (a b : Answer) → EnabledGives g m e a → plain.plain-enabled-gives g.head c r i x m e b → blocker_of a ≡ blocker_of b
+    pub same-enabled : (a b : Answer) → EnabledGives g m e a → plain.PlainEnabledGives g.head c r i x m e b → blocker_of a ≡ blocker_of b
     same-enabled a b h k = ap blocker_of (plain.same-enabled g c r i x same m e l a b h k)
 
-    pub same_step : (a b : Stepped) → StepGives g m e a → plain.plain-step-gives g.head c r i x m e b
+    pub same_step : (a b : Stepped) → StepGives g m e a → plain.PlainStepGives g.head c r i x m e b
         → blocker_of a.answer ≡ blocker_of b.answer
     same_step a b h k = ap (λ (s : Stepped). blocker_of s.answer) (plain.same_step g c r i x same m e l a b h k)
 
-    pub same-execute : (a b : Answer) (n n' : Marking) → ExecuteGives g m e a n → plain.plain-execute-gives g.head c r i x m e b n'
+    pub same-execute : (a b : Answer) (n n' : Marking) → ExecuteGives g m e a n → plain.PlainExecuteGives g.head c r i x m e b n'
         → blocker_of a ≡ blocker_of b
     same-execute a b n n' h k = ap blocker_of (plain.same-execute g c r i x same m e l a b n n' h k).0
 
   pub same-replay : (σ : List ℕ) → ((k : ℕ) → get_or σ k 0 < 256) → (a b : Replayed) → ReplayGives g σ a
-      → plain.plain-replay-gives g.head c r i x σ b → blocker_of a.answer ≡ blocker_of b.answer
+      → plain.PlainReplayGives g.head c r i x σ b → blocker_of a.answer ≡ blocker_of b.answer
   same-replay σ bytes a b h k = ap (λ (e : Replayed). blocker_of e.answer) (plain.same-replay g c r i x same σ bytes a b h k)

@@ -5,7 +5,7 @@ use mathlib.Core.Path.{◌≡◌, sym, ap, subst, ◌∙◌}
 use mathlib.Core.Bool.{true}
 use mathlib.Core.List.{List}
 use Prim.Native.Nat.{ℕ}
-use denote.Ref.{Bor}
+use denote.Ref.{Bor, MutBor}
 use lib.ListN.{length}
 use Rattle.sets.specs.Answers.{number_of, blocker_of}
 use Rattle.sets.specs.declared.answer.Answer.{Answer}
@@ -58,7 +58,7 @@ use Rattle.promises.proofs.replayed.replay_own.Reads as replay-own
 use Rattle.promises.proofs.replayed.replay_none.Reads as replay-none
 use Rattle.promises.proofs.returned.graph_back.Reads as graph-back_lem
 use Rattle.promises.proofs.returned.file_back.Reads as file-back_lem
-use Rattle.promises.proofs.Walked.{ExecutePost}
+use Rattle.engine.proofs.execute.execute.Reads as execute
 
 module _ {K : Type 0} {A : K → Type 0} {R : K → Type 0} {E : K → Type 0} (Post : (κ : K) → A κ → R κ → E κ → Type 0) where
   -- some call with these arguments keeps the contract and gives r
@@ -72,6 +72,10 @@ module _ {K : Type 0} {A : K → Type 0} {R : K → Type 0} {E : K → Type 0} (
 -- memory that holds x
 abbrev pub Holding : {X : Type 0} → X → (Bor X → Type 0) → Type 0
 Holding {X} x P = (m : Bor X) × (m.now ≡ x) × P m
+
+-- memory that holds x, and is lent to be written
+abbrev pub Lending : {X : Type 0} → X → (MutBor X → Type 0) → Type 0
+Lending {X} x P = (m : MutBor X) × (m.now ≡ x) × P m
 
 -- ---- answers
 
@@ -133,7 +137,7 @@ module _ (bytes : List ℕ) where
   -- the listing, into a buffer
   abbrev pub WriteListingGives : Profile → List ℕ → Listed → List ℕ → Type 0
   WriteListingGives p before r after =
-      Holding bytes (λ log. Holding before (λ out. Leaves write-listing.Post (λ κ s. s.1.1.0.now) (λ κ. (log, (p, (out, tt)))) (λ κ. r) after))
+      Holding bytes (λ log. Lending before (λ out. Leaves write-listing.Post (λ κ s. s.1.1.0.now) (λ κ. (log, (p, (out, tt)))) (λ κ. r) after))
 
   pub write-listing-said : (p : Profile) (before : List ℕ) (r : Listed) (after : List ℕ) → WriteListingGives p before r after
       → (r ≡ listed_of bytes p (length before)) × (after ≡ listing_after bytes p before)
@@ -146,7 +150,7 @@ module _ (bytes : List ℕ) where
   -- the summary, into a buffer
   abbrev pub WriteSummaryGives : Profile → List ℕ → Answer → List ℕ → Type 0
   WriteSummaryGives p before r after =
-      Holding bytes (λ log. Holding before (λ out. Leaves write-summary.Post (λ κ s. s.1.1.0.now) (λ κ. (log, (p, (out, tt)))) (λ κ. r) after))
+      Holding bytes (λ log. Lending before (λ out. Leaves write-summary.Post (λ κ s. s.1.1.0.now) (λ κ. (log, (p, (out, tt)))) (λ κ. r) after))
 
   pub write-summary-said : (p : Profile) (before : List ℕ) (r : Answer) (after : List ℕ) → WriteSummaryGives p before r after
       → (r ≡ summary_answer bytes (length before)) × (after ≡ summary_after bytes p before)
@@ -160,7 +164,7 @@ module _ (bytes : List ℕ) where
   module _ (n : ℕ) (before : List ℕ) (r : ℕ) (after : List ℕ) where
     abbrev pub SkelforaMineGives : Type 0
     SkelforaMineGives =
-        Holding bytes (λ log. Holding before (λ out. Leaves skelfora-mine.Post (λ κ s. s.1.1.0.now) (λ κ. (log, (n, (out, tt)))) (λ κ. r) after))
+        Holding bytes (λ log. Lending before (λ out. Leaves skelfora-mine.Post (λ κ s. s.1.1.0.now) (λ κ. (log, (n, (out, tt)))) (λ κ. r) after))
 
     pub skelfora-mine-said : SkelforaMineGives
         → (r ≡ in_profile n (mine_number bytes (length before))) × (after ≡ in_profile_buffer n (mine_buffer bytes) before)
@@ -172,7 +176,7 @@ module _ (bytes : List ℕ) where
 
     abbrev pub SkelforaListingGives : Type 0
     SkelforaListingGives =
-        Holding bytes (λ log. Holding before (λ out. Leaves skelfora-listing.Post (λ κ s. s.1.1.0.now) (λ κ. (log, (n, (out, tt)))) (λ κ. r) after))
+        Holding bytes (λ log. Lending before (λ out. Leaves skelfora-listing.Post (λ κ s. s.1.1.0.now) (λ κ. (log, (n, (out, tt)))) (λ κ. r) after))
 
     pub skelfora-listing-said : SkelforaListingGives
         → (r ≡ in_profile n (listing_number bytes (length before))) × (after ≡ in_profile_buffer n (listing_after bytes) before)
@@ -184,7 +188,7 @@ module _ (bytes : List ℕ) where
 
     abbrev pub SkelforaSummaryGives : Type 0
     SkelforaSummaryGives =
-        Holding bytes (λ log. Holding before (λ out. Leaves skelfora-summary.Post (λ κ s. s.1.1.0.now) (λ κ. (log, (n, (out, tt)))) (λ κ. r) after))
+        Holding bytes (λ log. Lending before (λ out. Leaves skelfora-summary.Post (λ κ s. s.1.1.0.now) (λ κ. (log, (n, (out, tt)))) (λ κ. r) after))
 
     pub skelfora-summary-said : SkelforaSummaryGives
         → (r ≡ in_profile n (λ p. summary_number bytes (length before))) × (after ≡ in_profile_buffer n (summary_after bytes) before)
@@ -227,7 +231,7 @@ module _ (g : Graph) where
 
     -- the marking is lent, and is n afterwards
     abbrev pub ExecuteGives : ℕ → Answer → Marking → Type 0
-    ExecuteGives e a n = Holding m (λ lent. Leaves ExecutePost (λ κ s. s.1.0.now) (λ κ. (g, (lent, (record { 0 = e }, tt)))) (λ κ. a) n)
+    ExecuteGives e a n = Lending m (λ lent. Leaves execute.Post (λ κ s. s.1.0.now) (λ κ. (g, (lent, (record { 0 = e }, tt)))) (λ κ. a) n)
 
     pub execute-said : (e : ℕ) (a : Answer) (n : Marking) → ExecuteGives e a n → ◌≡◌ {A = Stepped} (record { answer = a; marking = n }) (stepped_of g m e)
     execute-said e a n c =
@@ -248,7 +252,7 @@ module _ (g : Graph) where
 
   -- into a buffer
   abbrev pub WriteGives : List ℕ → Written → List ℕ → Type 0
-  WriteGives before w after = Holding before (λ out. Leaves write.Post (λ κ s. s.1.0.now) (λ κ. (g, (out, tt))) (λ κ. w) after)
+  WriteGives before w after = Lending before (λ out. Leaves write.Post (λ κ s. s.1.0.now) (λ κ. (g, (out, tt))) (λ κ. w) after)
 
   pub write-said : (before : List ℕ) (w : Written) (after : List ℕ) → WriteGives before w after
       → (w ≡ written_of g (length before)) × (after ≡ file_after g before)
@@ -258,7 +262,7 @@ module _ (g : Graph) where
 
   -- written and read again
   abbrev pub GraphBackGives : List ℕ → Reading → List ℕ → Type 0
-  GraphBackGives before r after = Holding before (λ out. Leaves graph-back_lem.Post (λ κ s. s.1.0.now) (λ κ. (g, (out, tt))) (λ κ. r) after)
+  GraphBackGives before r after = Lending before (λ out. Leaves graph-back_lem.Post (λ κ s. s.1.0.now) (λ κ. (g, (out, tt))) (λ κ. r) after)
 
   pub graph-back-said : (before : List ℕ) (r : Reading) (after : List ℕ) → GraphBackGives before r after
       → (r ≡ graph_back g (length before)) × (after ≡ file_after g before)
@@ -278,7 +282,7 @@ module _ (file : List ℕ) where
   -- read and written again
   abbrev pub FileBackGives : List ℕ → Written → List ℕ → Type 0
   FileBackGives before w after =
-      Holding file (λ bytes. Holding before (λ out. Leaves file-back_lem.Post (λ κ s. s.1.0.now) (λ κ. (bytes, (out, tt))) (λ κ. w) after))
+      Holding file (λ bytes. Lending before (λ out. Leaves file-back_lem.Post (λ κ s. s.1.0.now) (λ κ. (bytes, (out, tt))) (λ κ. w) after))
 
   pub file-back-said : (before : List ℕ) (w : Written) (after : List ℕ) → FileBackGives before w after
       → (w ≡ file_back file (length before)) × (after ≡ file_copied file before)

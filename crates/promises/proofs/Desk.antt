@@ -43,14 +43,14 @@ use Rattle.desk.proofs.Serving.{open_done}
 use Rattle.desk.proofs.requests.open.Reads as opens
 use Rattle.desk.proofs.requests.step.Reads as steps
 use Rattle.desk.proofs.requests.close.Reads as closes
-use Rattle.promises.proofs.Contracts.{Leaves, Holding}
+use Rattle.promises.proofs.Contracts.{Leaves, Holding, Lending}
 
 -- ================ WHAT THE FUNCTIONS MAY GIVE
 
 module _ (g : Graph) (before : List ℕ) where
   abbrev pub OpenGives : Opened → List ℕ → Type 0
   OpenGives r after =
-      Holding g.relations (λ relations. Holding before (λ table. Leaves opens.Post (λ κ s. s.1.1.0.now)
+      Holding g.relations (λ relations. Lending before (λ table. Leaves opens.Post (λ κ s. s.1.1.0.now)
       (λ κ. (g.head, (relations, (table, tt)))) (λ κ. r) after))
 
   pub open_said : (r : Opened) (after : List ℕ) → OpenGives r after → (r ≡ opened_of g before) × (after ≡ table_opened g before)
@@ -63,7 +63,7 @@ module _ (g : Graph) (before : List ℕ) where
   module _ (p : ℕ) where
     abbrev pub StepGives : ℕ → Answer → List ℕ → Type 0
     StepGives a x after =
-        Holding g.relations (λ relations. Holding before (λ table. Leaves steps.Post (λ κ s. s.1.1.0.now)
+        Holding g.relations (λ relations. Lending before (λ table. Leaves steps.Post (λ κ s. s.1.1.0.now)
         (λ κ. (g.head, (relations, (table, (p, (record { 0 = a }, tt)))))) (λ κ. x) after))
 
     pub step-said : (a : ℕ) (x : Answer) (after : List ℕ) → StepGives a x after
@@ -76,7 +76,7 @@ module _ (g : Graph) (before : List ℕ) where
 
     abbrev pub CloseGives : Answer → List ℕ → Type 0
     CloseGives x after =
-        Holding g.relations (λ relations. Holding before (λ table. Leaves closes.Post (λ κ s. s.1.1.0.now)
+        Holding g.relations (λ relations. Lending before (λ table. Leaves closes.Post (λ κ s. s.1.1.0.now)
         (λ κ. (g.head, (relations, (table, (p, tt))))) (λ κ. x) after))
 
     pub close-said : (x : Answer) (after : List ℕ) → CloseGives x after → (x ≡ close_answer g before p) × (after ≡ table_closed g before p)

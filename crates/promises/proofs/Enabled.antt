@@ -153,15 +153,15 @@ module _ (head : Head) (c r i x : List ℕ) where
         by true = marked-true head.events (plain_relations given) (after (plain_relations given) m.state e)
         by false = plain-handed
 
-    pub plain-step-true : (e : ℕ) (s : Stepped) → plain.plain-step-gives head c r i x m e s → T (plain_true given s.marking)
+    pub plain-step-true : (e : ℕ) (s : Stepped) → plain.PlainStepGives head c r i x m e s → T (plain_true given s.marking)
     plain-step-true e s h =
         subst (λ (y : Stepped). T (plain_true given y.marking)) (sym (plain.plain-step-said head c r i x m e s h)) (plain-after e)
 
-    pub plain-execute-true : (e : ℕ) (a : Answer) (n : Marking) → plain.plain-execute-gives head c r i x m e a n → T (plain_true given n)
+    pub plain-execute-true : (e : ℕ) (a : Answer) (n : Marking) → plain.PlainExecuteGives head c r i x m e a n → T (plain_true given n)
     plain-execute-true e a n h =
         subst (λ (y : Stepped). T (plain_true given y.marking)) (sym (plain.plain-execute-said head c r i x m e a n h)) (plain-after e)
 
-  pub plain-replay-true : (σ : List ℕ) (end : Replayed) → plain.plain-replay-gives head c r i x σ end
+  pub plain-replay-true : (σ : List ℕ) (end : Replayed) → plain.PlainReplayGives head c r i x σ end
       → T (plain_true given end.marking) ⊎ (end.marking ≡ empty_marking)
   unfolding plain_replay_of
   plain-replay-true σ end h =
@@ -171,7 +171,7 @@ module _ (head : Head) (c r i x : List ℕ) where
 -- ---- the desk: what stands at a place after open, and after a step
 
 module _ (g : Graph) (before left : List ℕ) where
-  pub open-true : WholeMarking g.head.opening → (r : Opened) → desk.open_gives g before r left → number_of r.answer ≡ 0
+  pub open-true : WholeMarking g.head.opening → (r : Opened) → desk.OpenGives g before r left → number_of r.answer ≡ 0
       → T (true_on g (marking_at_place (form_of g) left r.place))
   unfolding opened_of
   open-true w r c d =
@@ -179,7 +179,7 @@ module _ (g : Graph) (before left : List ℕ) where
       let done = done-is (open_answer g before) (ap (λ (x : Opened). is_done x.answer) (sym said) ∙ ap (λ (n : ℕ). eqb n 0) d) in
       subst (λ (m : Marking). T (true_on g m)) (sym (desk.open-opens g before r left c w d).1) (judged-true g 0 (open-accepted before g done))
 
-  pub desk-step-true : (p a : ℕ) (x : Answer) → desk.step_gives g before p a x left → number_of x ≡ 0 → T (true_on g (marking_at_place (form_of g) left p))
+  pub desk-step-true : (p a : ℕ) (x : Answer) → desk.StepGives g before p a x left → number_of x ≡ 0 → T (true_on g (marking_at_place (form_of g) left p))
   desk-step-true p a x c d =
       let said = desk.step-said g before p a x left c in
       let done = done-is (step_answer g before p a) (ap is_done (sym said.0) ∙ ap (λ (n : ℕ). eqb n 0) d) in

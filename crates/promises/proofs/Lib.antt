@@ -5,7 +5,6 @@ pub mod Pairs
 pub mod StepForStep
 pub mod Early
 pub mod Outcomes
-pub mod Walked
 pub mod Contracts
 pub mod Demands
 pub mod StandIns

@@ -53,7 +53,7 @@ use Rattle.months.proofs.joining.join.Reads as join
 use Rattle.months.proofs.reading.relations.Reads as relations
 use Rattle.promises.specs.Demanded.{Refused, PairForPair, InTurn, Settles}
 use Rattle.promises.specs.Months.{TallyOf, graph_read}
-use Rattle.promises.proofs.Contracts.{Gives, Leaves, Holding, ReplayGives, replay-said}
+use Rattle.promises.proofs.Contracts.{Gives, Leaves, Holding, Lending, ReplayGives, replay-said}
 use Rattle.promises.proofs.Demands.{replay-through}
 use Rattle.promises.proofs.Pairs.{pairs-by}
 use Rattle.promises.proofs.Together.{of_one}
@@ -64,7 +64,7 @@ use Rattle.promises.proofs.AbsentSteps.{absent-in-month}
 
 module _ (log before : List ℕ) where
   abbrev pub FillGives : Answer → List ℕ → Type 0
-  FillGives a after = Holding log (λ l. Holding before (λ t. Leaves fill.Post (λ κ s. s.1.0.now) (λ κ. (l, (t, tt))) (λ κ. a) after))
+  FillGives a after = Holding log (λ l. Lending before (λ t. Leaves fill.Post (λ κ s. s.1.0.now) (λ κ. (l, (t, tt))) (λ κ. a) after))
 
   pub fill-said : (a : Answer) (after : List ℕ) → FillGives a after → (a ≡ fill_answer log before) × (after ≡ filled_of log before)
   fill-said a after c =
@@ -73,7 +73,7 @@ module _ (log before : List ℕ) where
 -- into the first
 module _ (tally other : List ℕ) where
   abbrev pub JoinGives : Answer → List ℕ → Type 0
-  JoinGives a after = Holding tally (λ t. Holding other (λ o. Leaves join.Post (λ κ s. s.0.now) (λ κ. (t, (o, tt))) (λ κ. a) after))
+  JoinGives a after = Lending tally (λ t. Holding other (λ o. Leaves join.Post (λ κ s. s.0.now) (λ κ. (t, (o, tt))) (λ κ. a) after))
 
   pub join-said : (a : Answer) (after : List ℕ) → JoinGives a after → (a ≡ join_answer tally other) × (after ≡ joined_of tally other)
   join-said a after c =

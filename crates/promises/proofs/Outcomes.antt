@@ -173,7 +173,14 @@ use Rattle.promises.proofs.replayed.replay_own.Reads as replay-own
 use Rattle.promises.proofs.replayed.replay_none.Reads as replay-none
 use Rattle.promises.proofs.returned.graph_back.Reads as graph-back_lem
 use Rattle.promises.proofs.returned.file_back.Reads as file-back_lem
-use Rattle.promises.proofs.Walked.{PlainExecutePost, ExecutePost, ExecutedPost, OpenPost, TracePost, NextTracePost, ReadTracePost, ReadNextPost}
+use Rattle.plain.proofs.execute.execute.Reads as plain-execute
+use Rattle.engine.proofs.execute.execute.Reads as execute
+use Rattle.engine.proofs.execute.executed.Reads as executed
+use Rattle.calllog.proofs.reader.open.Reads as reader-open
+use Rattle.calllog.proofs.reader.trace.Reads as reader-trace
+use Rattle.calllog.proofs.reader.next_trace.Reads as next-trace
+use Rattle.calllog.proofs.reader.read_trace.Reads as read-trace
+use Rattle.calllog.proofs.reader.read_next.Reads as read-next
 
 module _ {K : Type 0} {A : K → Type 0} {R : K → Type 0} {E : K → Type 0} (Post : (κ : K) → A κ → R κ → E κ → Type 0) where
   -- two calls with the same arguments give the same
@@ -399,10 +406,10 @@ step-on-once κ a r r' s s' h h' = h ∙ sym h'
 pub accepting-once : Once accepting.Post
 accepting-once κ a r r' s s' h h' = h ∙ sym h'
 
-pub execute-once : OnceLent ExecutePost (λ κ s. s.1.0.now)
+pub execute-once : OnceLent execute.Post (λ κ s. s.1.0.now)
 execute-once κ a r r' s s' h h' = (h.0 ∙ sym h'.0, h.1 ∙ sym h'.1)
 
-pub executed-once : Once ExecutedPost
+pub executed-once : Once executed.Post
 executed-once κ a r r' s s' h h' = h ∙ sym h'
 
 pub walk-once : Once walk.Post
@@ -431,7 +438,7 @@ plain-enabled-once κ a r r' s s' h h' = h ∙ sym h'
 pub plain-step-once : Once plain_step.Post
 plain-step-once κ a r r' s s' h h' = h ∙ sym h'
 
-pub plain-execute-once : OnceLent PlainExecutePost (λ κ s. s.1.1.1.1.1.0.now)
+pub plain-execute-once : OnceLent plain-execute.Post (λ κ s. s.1.1.1.1.1.0.now)
 plain-execute-once κ a r r' s s' h h' = (h.0 ∙ sym h'.0, h.1 ∙ sym h'.1)
 
 pub plain-accepting-once : Once plain-accepting.Post
@@ -480,19 +487,19 @@ find-trace-once κ a r r' s s' h h' = h ∙ sym h'
 pub log-ask-once : Once log-ask.Post
 log-ask-once κ a r r' s s' h h' = h ∙ sym h'
 
-pub open-once : Once OpenPost
+pub open-once : Once reader-open.Post
 open-once κ a r r' s s' h h' = h ∙ sym h'
 
-pub trace-once : OnceLent TracePost (λ κ s. s.0.now)
+pub trace-once : OnceLent reader-trace.Post (λ κ s. s.0.now)
 trace-once κ a r r' s s' h h' = (h.0 ∙ sym h'.0, h.1 ∙ sym h'.1)
 
-pub next-trace-once : OnceLent NextTracePost (λ κ s. s.0.now)
+pub next-trace-once : OnceLent next-trace.Post (λ κ s. s.0.now)
 next-trace-once κ a r r' s s' h h' = (h.0 ∙ sym h'.0, h.1 ∙ sym h'.1)
 
-pub read-trace-once : Once ReadTracePost
+pub read-trace-once : Once read-trace.Post
 read-trace-once κ a r r' s s' h h' = h ∙ sym h'
 
-pub read-next-once : Once ReadNextPost
+pub read-next-once : Once read-next.Post
 read-next-once κ a r r' s s' h h' = h ∙ sym h'
 
 -- ---- graphfile

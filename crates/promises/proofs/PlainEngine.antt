@@ -44,8 +44,8 @@ use Rattle.plain.proofs.step.step.Reads as step
 use Rattle.plain.proofs.step.accepting.Reads as accepting
 use Rattle.plain.proofs.replay.replay.Reads as replay
 use Rattle.plain.proofs.fill.fill.Reads as fill
-use Rattle.promises.proofs.Walked.{PlainExecutePost}
-use Rattle.promises.proofs.Contracts.{Gives, Leaves, Holding, EnabledGives, enabled-said, StepGives, step-said}
+use Rattle.plain.proofs.execute.execute.Reads as plain-execute
+use Rattle.promises.proofs.Contracts.{Gives, Leaves, Holding, Lending, EnabledGives, enabled-said, StepGives, step-said}
 use Rattle.promises.proofs.Contracts.{ExecuteGives, execute-said, AcceptingGives, accepting-said, ReplayGives, replay-said}
 
 -- ================ WHAT THE FUNCTIONS MAY GIVE
@@ -75,7 +75,7 @@ module _ (head : Head) (c r i x : List ℕ) where
     -- the marking is lent, and is n afterwards
     abbrev pub PlainExecuteGives : ℕ → Answer → Marking → Type 0
     PlainExecuteGives e a n =
-        Lent (λ c' r' i' x'. Holding m (λ lent. Leaves PlainExecutePost (λ κ s. s.1.1.1.1.1.0.now)
+        Lent (λ c' r' i' x'. Lending m (λ lent. Leaves plain-execute.Post (λ κ s. s.1.1.1.1.1.0.now)
         (λ κ. (head, (c', (r', (i', (x', (lent, (record { 0 = e }, tt)))))))) (λ κ. a) n))
 
     pub plain-execute-said : (e : ℕ) (a : Answer) (n : Marking) → PlainExecuteGives e a n
@@ -105,7 +105,7 @@ module _ (head : Head) (c r i x : List ℕ) where
 -- fill, of relation k of a graph's tables, into memory
 abbrev pub FillGives : List ℕ → ℕ → List ℕ → Filled → List ℕ → Type 0
 FillGives tables k before f after =
-    Holding tables (λ rows. Holding before (λ memory. Leaves fill.Post (λ κ s. s.1.1.0.now) (λ κ. (rows, (k, (memory, tt)))) (λ κ. f) after))
+    Holding tables (λ rows. Lending before (λ memory. Leaves fill.Post (λ κ s. s.1.1.0.now) (λ κ. (rows, (k, (memory, tt)))) (λ κ. f) after))
 
 pub fill-said : (tables : List ℕ) (k : ℕ) (before : List ℕ) (f : Filled) (after : List ℕ) → FillGives tables k before f after
     → (f ≡ filled_of (relation_at tables k) before) × (after ≡ memory_after (relation_at tables k) before)

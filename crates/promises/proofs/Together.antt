@@ -10,6 +10,7 @@ use Rattle.rules.specs.Traces.{Traces, every_trace, some_trace}
 
 module _ {σ : List ℕ} where
   pub of_one : (L M : Traces) → Memᴰ σ L → Memᴰ σ (L ++ M)
+  of_one [] M m = elim m [ ]
   of_one (τ ∷ L) M (Memᴰ.head e) = Memᴰ.head e
   of_one (τ ∷ L) M (Memᴰ.tail m) = Memᴰ.tail (of_one L M m)
 

@@ -5,7 +5,7 @@ use mathlib.Core.List.{List, [], ◌∷◌, ◌++◌}
 use Prim.Native.Nat.{ℕ, ◌+◌}
 use lib.ListN.{length, get_or}
 use Rattle.sets.specs.Tests.{◌and◌, ◌or◌, non}
-use Rattle.sets.specs.Members.{bit, bits_of, some_below, every_below, count_below, is_empty, within, mem, those}
+use Rattle.sets.specs.Members.{bit, bits_of, some_below, every_below, count_below, mem, those}
 use Rattle.sets.specs.Rows.{row_at, in_row, list_from, rows_of}
 use Rattle.sets.specs.Tables.{table_at, tables_of}
 use Rattle.engine.specs.declared.graph.Graph.{Graph}

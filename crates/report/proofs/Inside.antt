@@ -1,5 +1,5 @@
 -- The pairs and the events of a graph that is not refused are below its A. Assumes nothing.
-use mathlib.Core.Path.{◌≡◌, refl, ap, ◌∙◌}
+use mathlib.Core.Path.{◌≡◌, refl, ◌∙◌}
 use mathlib.Core.Bool.{Bool, false}
 use mathlib.Core.List.{List}
 use Prim.Native.Nat.{ℕ, ◌+◌, ◌≤◌, ◌<◌}
@@ -7,7 +7,7 @@ use native.Mathlib.Omega.{arith}
 use borrow.Author.Tests.{ltb-true}
 use lib.Dec.{T, ltb}
 use Rattle.sets.specs.Tests.{non}
-use Rattle.sets.specs.Members.{width, word, mem, those, is_empty, count_below}
+use Rattle.sets.specs.Members.{width, word, mem, is_empty, count_below}
 use Rattle.sets.specs.Rows.{row_at, in_row}
 use Rattle.sets.specs.Tables.{table_at}
 use Rattle.sets.specs.declared.set.Set.{Set}

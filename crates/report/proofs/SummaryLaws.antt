@@ -1,12 +1,12 @@
 -- The counts of a summary one by one, and the three ways out of `write_summary`. Assumes nothing.
 use mathlib.Core.Path.{◌≡◌, refl, sym, ap, ap₂, subst, ◌∙◌}
-use mathlib.Core.Bool.{Bool, true, false, not}
+use mathlib.Core.Bool.{Bool, true, false}
 use mathlib.Core.List.{List, [], ◌∷◌, ◌++◌}
 use Prim.Native.Nat.{ℕ, zero, suc, ◌+◌, ◌*◌, ◌-◌, ◌≤◌, ◌<◌}
 use native.Mathlib.Nat.{zero-add, add-suc, suc-add}
 use native.Mathlib.Numerals.{add-one}
 use native.Mathlib.Omega.{arith}
-use borrow.Author.Tests.{lt-ltb, le-ltb, not-true, not-false}
+use borrow.Author.Tests.{lt-ltb, le-ltb}
 use lib.Dec.{eqb, ltb, lit≤}
 use lib.ListN.{length, drop, length-append}
 use lib.Seq.{sets-eq}
@@ -14,16 +14,15 @@ use Rattle.sets.specs.Tests.{◌and◌, non, when◌then◌else◌}
 use Rattle.sets.specs.Members.{width, mem, those, count_below}
 use Rattle.sets.specs.Rows.{Relation, no_rows, row_at, in_row, list_from, rows_of, turned}
 use Rattle.sets.specs.Tables.{table_at, with_table}
-use Rattle.sets.specs.Answers.{is_done, then_ask}
+use Rattle.sets.specs.Answers.{is_done}
 use Rattle.sets.specs.declared.set.Set.{Set}
-use Rattle.sets.specs.declared.answer.Answer.{Answer}
 use Rattle.sets.specs.declared.answer.Answer.TheVariants.{Done, BufferTooSmall}
 use Rattle.sets.proofs.Asking.{done-is, ask-on, ask-stop}
 use Rattle.sets.proofs.Below.{count-ext}
 use Rattle.sets.proofs.Members.{mem-those}
 use Rattle.sets.proofs.RowLaws.{in-rows_of, length-list_from}
 use Rattle.sets.proofs.TableLaws.{table-rows_of, row-taken, in-tables_of}
-use Rattle.engine.specs.Relations.{relation_count, kept, relations_of, empty_graph, graph_of}
+use Rattle.engine.specs.Relations.{relation_count, kept, empty_graph, graph_of}
 use Rattle.engine.specs.declared.graph.Graph.{Graph}
 use Rattle.calllog.specs.Logs.{log_of}
 use Rattle.rules.specs.declared.Profile.{Profile}

@@ -5,7 +5,6 @@ use Rattle.sets.specs.Tests.{◌and◌, when◌then◌else◌}
 use Rattle.octets.specs.Opens.{opens_with}
 use Rattle.sets.specs.declared.answer.Answer.{Answer}
 use Rattle.sets.specs.declared.answer.Answer.TheVariants.{WrongArgument}
-use Rattle.rules.specs.declared.Profile.{Profile}
 use Rattle.rules.specs.declared.Profile.TheVariants.{Full, Light}
 use Rattle.report.specs.declared.choice.Choice.{Choice}
 use Rattle.report.specs.declared.choice.Choice.TheVariants.{Listing, Refused}

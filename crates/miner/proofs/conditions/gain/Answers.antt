@@ -1,5 +1,4 @@
 use mathlib.Core.Path.{refl}
-use borrow.Author.Rules.{rules}
 use Rattle.sets.proofs.Ways.{is-so, taken, passed-by}
 use Rattle.tally.specs.Passes.{gained, gained_for}
 use Rattle.miner.proofs.conditions.gain.Goals as goal

@@ -1,4 +1,3 @@
-use borrow.Author.Rules.{rules}
 use Rattle.miner.proofs.Replaying.{included-by}
 use Rattle.miner.proofs.conditions.included_after.Goals as goal
 

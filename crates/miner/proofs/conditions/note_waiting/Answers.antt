@@ -5,7 +5,7 @@ use Rattle.miner.proofs.conditions.note_waiting.Goals as goal
 
 pub returns-clause-before : goal.returns-clause-before
 returns-clause-before c = formed-by _ _ _ _ _ _ _ c.at_first.ensures
-          c.in_form-early.ensures c.gain.ensures
+    c.in_form-early.ensures c.gain.ensures
 
 pub returns-clause-left : goal.returns-clause-left
 returns-clause-left c = search (joined_by, rules)

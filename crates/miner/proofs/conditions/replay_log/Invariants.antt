@@ -1,13 +1,11 @@
-use mathlib.Core.Path.{refl}
 use mathlib.Core.Bool.{Bool}
 use mathlib.Core.List.{List, []}
 use Prim.Native.Nat.{ℕ, ◌-◌, ◌≤◌}
-use borrow.Author.Rules.{rules}
 use Rattle.sets.specs.Tables.{table_at}
 use Rattle.sets.specs.declared.set.Set.{Set}
 use Rattle.tally.specs.Passes.{gains_in, forward}
 use Rattle.miner.specs.Facts.{before_first, missed}
-use Rattle.tally.proofs.Walks.{Left, through-start, through-next, through-end}
+use Rattle.tally.proofs.Walks.{Left}
 use Rattle.miner.proofs.conditions.replay_log.Given as goal
 
 abbrev pub ahead : Bool → List ℕ → List ℕ → List ℕ

@@ -1,13 +1,12 @@
 use mathlib.Core.Path.{◌≡◌}
 use Prim.Native.Nat.{◌-◌}
-use borrow.Author.Rules.{rules}
 use lib.ListN.{length}
 use Rattle.sets.specs.Tests.{◌and◌}
 use Rattle.sets.specs.Members.{mem, those}
 use Rattle.sets.specs.Tables.{table_at}
 use Rattle.sets.specs.declared.set.Set.{Set}
 use Rattle.tally.specs.Passes.{reaches}
-use Rattle.miner.proofs.Replaying.{Replayed, replay-start, replay-turn, replay-end}
+use Rattle.miner.proofs.Replaying.{Replayed}
 use Rattle.miner.proofs.conditions.replay_trace.Given as goal
 
 abbrev pub invariant-loop-i : goal.invariant-loop-i

@@ -1,4 +1,3 @@
-use borrow.Author.Rules.{rules}
 use Rattle.tally.proofs.Turns.{with-one}
 use Rattle.miner.proofs.includes.and_then.Goals as goal
 

@@ -1,9 +1,6 @@
-use mathlib.Core.Path.{◌≡◌, refl}
-use Prim.Native.Nat.{◌≤◌, ◌-◌}
+use mathlib.Core.Path.{refl}
 use borrow.Author.Rules.{rules}
-use lib.ListN.{length, drop}
-use Rattle.tally.proofs.Turns.{past_at, seen_in, seen_none, seen_next, seen_all}
-use Rattle.miner.specs.Facts.{places_from}
+use Rattle.tally.proofs.Turns.{seen_none, seen_next, seen_all}
 use Rattle.miner.proofs.After.{places-next, places-end}
 use Rattle.miner.proofs.includes.last_places.Goals as goal
 
@@ -12,10 +9,10 @@ loop-i-init c = (search rules, seen_none, refl)
 
 pub loop-i-preserved : goal.loop-i-preserved
 loop-i-preserved c = let v = c.loop-i.invariant in (
-      search rules,
-      seen_next _ _ c.loop-i-test.true _ v.1 _ c.and_then-all.ensures,
-      places-next _ _ _ _ v.2 _ c.loop-i-test.true c.put_place.ensures,
-    )
+  search rules,
+  seen_next _ _ c.loop-i-test.true _ v.1 _ c.and_then-all.ensures,
+  places-next _ _ _ _ v.2 _ c.loop-i-test.true c.put_place.ensures,
+)
 
 pub returns-clause-all : goal.returns-clause-all
 returns-clause-all c = let v = c.loop-i.invariant in seen_all _ _ _ c.loop-i-test.false v.1

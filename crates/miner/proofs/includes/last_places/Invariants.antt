@@ -1,10 +1,8 @@
-use mathlib.Core.Path.{◌≡◌, refl}
+use mathlib.Core.Path.{◌≡◌}
 use Prim.Native.Nat.{◌≤◌, ◌-◌}
-use borrow.Author.Rules.{rules}
 use lib.ListN.{length, drop}
-use Rattle.tally.proofs.Turns.{past_at, seen_in, seen_none, seen_next, seen_all}
+use Rattle.tally.proofs.Turns.{past_at, seen_in}
 use Rattle.miner.specs.Facts.{places_from}
-use Rattle.miner.proofs.After.{places-next, places-end}
 use Rattle.miner.proofs.includes.last_places.Given as goal
 
 abbrev pub invariant-loop-i : goal.invariant-loop-i

@@ -1,7 +1,5 @@
-use Prim.Native.Nat.{◌-◌}
 use borrow.Author.Rules.{rules}
-use lib.ListN.{length}
-use Rattle.miner.proofs.After.{LetIn, let-in-start, let-in-turn, let-in-end}
+use Rattle.miner.proofs.After.{let-in-start, let-in-turn, let-in-end}
 use Rattle.miner.proofs.includes.let_in_along.Goals as goal
 
 pub loop-i-init : goal.loop-i-init

@@ -1,7 +1,6 @@
 use Prim.Native.Nat.{◌-◌}
-use borrow.Author.Rules.{rules}
 use lib.ListN.{length}
-use Rattle.miner.proofs.After.{LetIn, let-in-start, let-in-turn, let-in-end}
+use Rattle.miner.proofs.After.{LetIn}
 use Rattle.miner.proofs.includes.let_in_along.Given as goal
 
 abbrev pub invariant-loop-i : goal.invariant-loop-i

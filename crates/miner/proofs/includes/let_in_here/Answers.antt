@@ -1,4 +1,3 @@
-use borrow.Author.Rules.{rules}
 use Rattle.tally.proofs.Turns.{joined-row}
 use Rattle.miner.proofs.After.{barred-by}
 use Rattle.miner.proofs.includes.let_in_here.Goals as goal

@@ -1,11 +1,9 @@
-use mathlib.Core.Path.{refl}
 use mathlib.Core.Bool.{Bool}
 use mathlib.Core.List.{List, []}
 use Prim.Native.Nat.{ℕ, ◌-◌, ◌≤◌}
-use borrow.Author.Rules.{rules}
 use Rattle.tally.specs.Passes.{gains, forward, cut}
 use Rattle.miner.specs.Facts.{let_in}
-use Rattle.tally.proofs.Walks.{Left, through-start, through-next, through-end}
+use Rattle.tally.proofs.Walks.{Left}
 use Rattle.miner.proofs.includes.let_in_log.Given as goal
 
 abbrev pub pass : Bool → List ℕ → List ℕ → List ℕ → List ℕ

@@ -1,5 +1,4 @@
 use mathlib.Core.Path.{ap}
-use borrow.Author.Rules.{rules}
 use Rattle.engine.specs.declared.graph.Graph.{Graph}
 use Rattle.tally.specs.Passes.{walked}
 use Rattle.miner.proofs.Composed.{found-by}

@@ -1,6 +1,5 @@
 use borrow.Author.Rules.{rules}
-use Rattle.tally.specs.Passes.{walked}
-use Rattle.miner.proofs.Composed.{six-length, six-includes, six-excludes, light-includes, light-excludes_lem}
+use Rattle.miner.proofs.Composed.{six-includes, six-excludes}
 use Rattle.miner.proofs.mining.put_six.Goals as goal
 
 pub returns-in-Full-clause-out_after : goal.returns-in-Full-clause-out_after

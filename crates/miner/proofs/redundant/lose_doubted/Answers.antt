@@ -1,9 +1,6 @@
 use borrow.Author.Rules.{rules}
-use Rattle.sets.specs.Tests.{◌and◌}
-use Rattle.sets.specs.Members.{width, mem, count_below}
-use Rattle.sets.specs.Rows.{in_row}
 use Rattle.sets.proofs.Passing.{members}
-use Rattle.miner.proofs.Losing.{Lost, own, own-end, asked-row, losing}
+use Rattle.miner.proofs.Losing.{own-end, asked-row, losing}
 use Rattle.miner.proofs.redundant.lose_doubted.Goals as goal
 
 pub loop-asked-init : goal.loop-asked-init

@@ -1,4 +1,3 @@
-use borrow.Author.Rules.{rules}
 use Rattle.miner.proofs.Settling.{open-lost}
 use Rattle.miner.proofs.redundant.lose_open.Goals as goal
 

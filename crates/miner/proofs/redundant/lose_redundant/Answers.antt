@@ -1,10 +1,6 @@
 use borrow.Author.Rules.{rules}
-use Rattle.sets.specs.Members.{width, mem, count_below}
-use Rattle.sets.specs.Tables.{table_at}
 use Rattle.sets.proofs.Passing.{members}
-use Rattle.tally.specs.Passes.{walked}
-use Rattle.miner.specs.Stages.{redundant_by}
-use Rattle.miner.proofs.Losing.{Lost, losing}
+use Rattle.miner.proofs.Losing.{losing}
 use Rattle.miner.proofs.Settling.{redundant-end}
 use Rattle.miner.proofs.redundant.lose_redundant.Goals as goal
 

@@ -1,11 +1,8 @@
-use borrow.Author.Rules.{rules}
 use Rattle.sets.specs.Members.{width, mem, count_below}
 use Rattle.sets.specs.Tables.{table_at}
-use Rattle.sets.proofs.Passing.{members}
 use Rattle.tally.specs.Passes.{walked}
 use Rattle.miner.specs.Stages.{redundant_by}
-use Rattle.miner.proofs.Losing.{Lost, losing}
-use Rattle.miner.proofs.Settling.{redundant-end}
+use Rattle.miner.proofs.Losing.{Lost}
 use Rattle.miner.proofs.redundant.lose_redundant.Given as goal
 
 abbrev pub invariant-loop-followers : goal.invariant-loop-followers

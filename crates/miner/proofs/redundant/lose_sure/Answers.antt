@@ -1,11 +1,6 @@
 use borrow.Author.Rules.{rules}
-use Rattle.sets.specs.Tests.{◌and◌, non}
-use Rattle.sets.specs.Members.{width, mem, count_below}
-use Rattle.sets.specs.Tables.{table_at}
-use Rattle.tally.specs.Tallies.{before_table}
-use Rattle.miner.specs.Facts.{doubted}
 use Rattle.sets.proofs.Passing.{members}
-use Rattle.miner.proofs.Losing.{Lost, own, own-end, losing}
+use Rattle.miner.proofs.Losing.{own-end, losing}
 use Rattle.miner.proofs.redundant.lose_sure.Goals as goal
 
 pub loop-asked-init : goal.loop-asked-init

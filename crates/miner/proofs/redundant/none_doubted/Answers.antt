@@ -1,4 +1,3 @@
-use borrow.Author.Rules.{rules}
 use Rattle.miner.proofs.Settling.{not-asked, asked-empty}
 use Rattle.miner.proofs.redundant.none_doubted.Goals as goal
 

@@ -1,7 +1,5 @@
-use Prim.Native.Nat.{◌≤◌, ◌-◌}
 use borrow.Author.Rules.{rules}
-use Rattle.sets.specs.Tables.{table_at}
-use Rattle.miner.proofs.Reopening.{Walking, walk_start, walk-next, walk_end, walk-short}
+use Rattle.miner.proofs.Reopening.{walk_start, walk-next, walk_end, walk-short}
 use Rattle.miner.proofs.redundant.reopen_log.Goals as goal
 
 pub loop-k-init : goal.loop-k-init

@@ -1,7 +1,6 @@
 use Prim.Native.Nat.{◌≤◌, ◌-◌}
-use borrow.Author.Rules.{rules}
 use Rattle.sets.specs.Tables.{table_at}
-use Rattle.miner.proofs.Reopening.{Walking, walk_start, walk-next, walk_end, walk-short}
+use Rattle.miner.proofs.Reopening.{Walking}
 use Rattle.miner.proofs.redundant.reopen_log.Given as goal
 
 abbrev pub invariant-loop-k : goal.invariant-loop-k

@@ -1,11 +1,7 @@
 use mathlib.Core.Bool.{true}
-use Prim.Native.Nat.{ℕ, ◌-◌}
 use native.Mathlib.Omega.{arith}
 use borrow.Author.Rules.{rules}
-use lib.ListN.{length}
-use Rattle.sets.specs.Members.{no_set}
-use Rattle.sets.specs.Tables.{table_at}
-use Rattle.miner.proofs.Reopening.{Reopens, reopen-start, reopen-skip, reopen-from, reopen-next, reopen-end}
+use Rattle.miner.proofs.Reopening.{reopen-start, reopen-skip, reopen-from, reopen-next, reopen-end}
 use mathlib.Core.Path.{◌≡◌}
 use Rattle.miner.proofs.redundant.reopen_trace.Goals as goal
 use Rattle.miner.proofs.redundant.reopen_trace.Goals.{then-loop-i-test+else-not-begun, else-loop-i-test}
@@ -24,6 +20,6 @@ pub returns : goal.returns
 returns c = reopen-end _ _ _ _ _ _ _ _ _ (c.loop-i-2.invariant _ (reopen-from _ _ _ _ _ _ _ _ _ c.loop-i.invariant
     (λ l.
     elim c.loop-i-test.branch as (λ _. c.loop-i.begun ≡ true) [
-      then-loop-i-test+else-not-begun w ↦ w.if-not-begun.false
+      | then-loop-i-test+else-not-begun w ↦ w.if-not-begun.false
       | else-loop-i-test w ↦ absurd (omega (arith, w.loop-i-test.false))
     ]))) c.loop-i-2-test.false

@@ -1,13 +1,9 @@
 use mathlib.Core.Bool.{true}
-use mathlib.Core.Logic.{⊎_elim}
 use Prim.Native.Nat.{ℕ, ◌-◌}
-use native.Mathlib.Omega.{arith}
-use borrow.Author.Rules.{rules}
-use borrow.Author.Tests.{not-false}
 use lib.ListN.{length}
 use Rattle.sets.specs.Members.{no_set}
 use Rattle.sets.specs.Tables.{table_at}
-use Rattle.miner.proofs.Reopening.{Reopens, reopen-start, reopen-skip, reopen-from, reopen-next, reopen-end}
+use Rattle.miner.proofs.Reopening.{Reopens}
 use Rattle.miner.proofs.redundant.reopen_trace.Given as goal
 
 abbrev pub invariant-loop-i : goal.invariant-loop-i

@@ -1,4 +1,3 @@
-use borrow.Author.Rules.{rules}
 use Rattle.miner.proofs.Settling.{sure-then-open}
 use Rattle.miner.proofs.redundant.settle.Goals as goal
 

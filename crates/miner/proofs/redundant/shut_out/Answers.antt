@@ -1,4 +1,3 @@
-use borrow.Author.Rules.{rules}
 use Rattle.sets.proofs.MadeSets.{less, is_row}
 use Rattle.miner.proofs.redundant.shut_out.Goals as goal
 

@@ -1,5 +1,4 @@
 use mathlib.Core.Path.{refl}
-use borrow.Author.Rules.{rules}
 use Rattle.sets.proofs.MadeSets.{less}
 use Rattle.miner.proofs.Settling.{doubted-is}
 use Rattle.miner.proofs.redundant.sure_row.Goals as goal

@@ -1,4 +1,3 @@
-use borrow.Author.Rules.{rules}
 use Rattle.months.proofs.Answers.{fill-refused, fill-few, fill-above, fill_done}
 use Rattle.months.proofs.filling.fill.Goals as goal
 

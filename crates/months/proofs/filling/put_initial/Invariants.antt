@@ -1,10 +1,8 @@
-use mathlib.Core.Path.{◌≡◌, refl, ◌∙◌}
+use mathlib.Core.Path.{◌≡◌}
 use Prim.Native.Nat.{◌-◌, ◌≤◌}
-use borrow.Author.Rules.{rules}
 use lib.ListN.{length}
 use Rattle.months.specs.Layout.{set_count, tally_length}
-use Rattle.months.proofs.Initial.{initial_to, initial-start, initial-turn, initial-end}
-use Rattle.months.proofs.Gaining.{put-length}
+use Rattle.months.proofs.Initial.{initial_to}
 use Rattle.months.proofs.filling.put_initial.Given as goal
 
 abbrev pub invariant-loop-w : goal.invariant-loop-w

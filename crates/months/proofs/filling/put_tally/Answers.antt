@@ -1,5 +1,4 @@
-use borrow.Author.Rules.{rules}
-use Rattle.months.proofs.Holding.{tally-filled, filled-long}
+use Rattle.months.proofs.Holding.{tally-filled}
 use Rattle.months.proofs.filling.put_tally.Goals as goal
 
 pub returns : goal.returns

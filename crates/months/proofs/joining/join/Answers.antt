@@ -1,5 +1,4 @@
 use mathlib.Core.Path.{refl}
-use borrow.Author.Rules.{rules}
 use Rattle.months.proofs.Answers.{join-few, join-few-other, join-above, join-done}
 use Rattle.months.proofs.joining.join.Goals as goal
 

@@ -1,10 +1,9 @@
-use mathlib.Core.Path.{◌≡◌, refl, ◌∙◌}
-use Prim.Native.Nat.{ℕ, ◌-◌, ◌≤◌}
+use mathlib.Core.Path.{refl, ◌∙◌}
+use Prim.Native.Nat.{ℕ}
 use native.Mathlib.Omega.{arith}
 use borrow.Author.Rules.{rules}
-use lib.ListN.{length, length-set}
-use Rattle.months.specs.Layout.{tally_length}
-use Rattle.months.proofs.Bytewise.{or_to, or-start, or_turn, or-end}
+use lib.ListN.{length-set}
+use Rattle.months.proofs.Bytewise.{or-start, or_turn, or-end}
 use Rattle.months.proofs.joining.join_bytes.Goals as goal
 
 pub loop-i-init : goal.loop-i-init

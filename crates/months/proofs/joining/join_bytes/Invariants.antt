@@ -1,10 +1,8 @@
-use mathlib.Core.Path.{◌≡◌, refl, ◌∙◌}
-use Prim.Native.Nat.{ℕ, ◌-◌, ◌≤◌}
-use native.Mathlib.Omega.{arith}
-use borrow.Author.Rules.{rules}
-use lib.ListN.{length, length-set}
+use mathlib.Core.Path.{◌≡◌}
+use Prim.Native.Nat.{◌-◌, ◌≤◌}
+use lib.ListN.{length}
 use Rattle.months.specs.Layout.{tally_length}
-use Rattle.months.proofs.Bytewise.{or_to, or-start, or_turn, or-end}
+use Rattle.months.proofs.Bytewise.{or_to}
 use Rattle.months.proofs.joining.join_bytes.Given as goal
 
 abbrev pub invariant-loop-i : goal.invariant-loop-i

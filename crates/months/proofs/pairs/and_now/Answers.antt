@@ -1,4 +1,3 @@
-use borrow.Author.Rules.{rules}
 use Rattle.months.proofs.Cuts.{seen-again, seen-above, seen-new}
 use Rattle.months.proofs.pairs.and_now.Goals as goal
 

@@ -1,12 +1,7 @@
-use mathlib.Core.Path.{◌≡◌, refl, ◌∙◌}
-use Prim.Native.Nat.{◌≤◌, ◌<◌}
-use native.Mathlib.Omega.{arith}
+use mathlib.Core.Path.{◌∙◌}
 use borrow.Author.Rules.{rules}
-use lib.ListN.{length}
-use Rattle.months.specs.Layout.{tally_width}
-use Rattle.months.specs.Pairs.{Kept}
 use Rattle.months.proofs.Gaining.{put-length}
-use Rattle.months.proofs.Cuts.{LeftBack, back-turn, back_end}
+use Rattle.months.proofs.Cuts.{back-turn, back_end}
 use Rattle.months.proofs.pairs.join_back.Goals as goal
 
 pub loop-j-preserved : goal.loop-j-preserved

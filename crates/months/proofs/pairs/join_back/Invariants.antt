@@ -1,12 +1,9 @@
-use mathlib.Core.Path.{◌≡◌, refl, ◌∙◌}
+use mathlib.Core.Path.{◌≡◌}
 use Prim.Native.Nat.{◌≤◌, ◌<◌}
-use native.Mathlib.Omega.{arith}
-use borrow.Author.Rules.{rules}
 use lib.ListN.{length}
 use Rattle.months.specs.Layout.{tally_width}
 use Rattle.months.specs.Pairs.{Kept}
-use Rattle.months.proofs.Gaining.{put-length}
-use Rattle.months.proofs.Cuts.{LeftBack, back-turn, back_end}
+use Rattle.months.proofs.Cuts.{LeftBack}
 use Rattle.months.proofs.pairs.join_back.Given as goal
 
 abbrev pub invariant-loop-j : goal.invariant-loop-j

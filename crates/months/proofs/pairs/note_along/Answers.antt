@@ -1,8 +1,8 @@
-use Prim.Native.Nat.{ℕ, ◌-◌}
+use Prim.Native.Nat.{ℕ}
 use borrow.Author.Rules.{rules}
-use lib.ListN.{length, length-replicate}
+use lib.ListN.{length-replicate}
 use Rattle.months.specs.Layout.{tally_width}
-use Rattle.months.proofs.Along.{Along, cut-kept, along-start, along-turn, along-end}
+use Rattle.months.proofs.Along.{cut-kept, along-start, along-turn, along-end}
 use Rattle.months.proofs.pairs.note_along.Goals as goal
 
 pub loop-i-init : goal.loop-i-init

@@ -1,8 +1,6 @@
-use Prim.Native.Nat.{ℕ, ◌-◌}
-use borrow.Author.Rules.{rules}
-use lib.ListN.{length, length-replicate}
-use Rattle.months.specs.Layout.{tally_width}
-use Rattle.months.proofs.Along.{Along, cut-kept, along-start, along-turn, along-end}
+use Prim.Native.Nat.{◌-◌}
+use lib.ListN.{length}
+use Rattle.months.proofs.Along.{Along}
 use Rattle.months.proofs.pairs.note_along.Given as goal
 
 abbrev pub invariant-loop-i : goal.invariant-loop-i

@@ -1,9 +1,6 @@
-use mathlib.Core.Path.{◌≡◌, refl}
-use Prim.Native.Nat.{◌-◌, ◌≤◌}
+use mathlib.Core.Path.{refl}
 use borrow.Author.Rules.{rules}
-use lib.ListN.{length}
-use Rattle.months.specs.Pairs.{Gained}
-use Rattle.months.proofs.Gaining.{between_to, traces-start, traces-turn, traces-end}
+use Rattle.months.proofs.Gaining.{traces-start, traces-turn}
 use Rattle.months.proofs.pairs.note_log.Goals as goal
 
 pub loop-k-init : goal.loop-k-init

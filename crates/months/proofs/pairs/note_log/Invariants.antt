@@ -1,9 +1,8 @@
-use mathlib.Core.Path.{◌≡◌, refl}
+use mathlib.Core.Path.{◌≡◌}
 use Prim.Native.Nat.{◌-◌, ◌≤◌}
-use borrow.Author.Rules.{rules}
 use lib.ListN.{length}
 use Rattle.months.specs.Pairs.{Gained}
-use Rattle.months.proofs.Gaining.{between_to, traces-start, traces-turn, traces-end}
+use Rattle.months.proofs.Gaining.{between_to}
 use Rattle.months.proofs.pairs.note_log.Given as goal
 
 abbrev pub invariant-loop-k : goal.invariant-loop-k

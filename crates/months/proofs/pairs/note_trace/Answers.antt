@@ -1,4 +1,3 @@
-use borrow.Author.Rules.{rules}
 use Rattle.miner.proofs.After.{last-known}
 use Rattle.months.proofs.pairs.note_trace.Goals as goal
 

@@ -1,4 +1,3 @@
-use borrow.Author.Rules.{rules}
 use Rattle.months.proofs.Cuts.{widen-some, widen_none}
 use Rattle.months.proofs.pairs.widen.Goals as goal
 

@@ -1,5 +1,4 @@
 use mathlib.Core.Path.{refl}
-use borrow.Author.Rules.{rules}
 use Rattle.months.proofs.FromTally.{eight_is}
 use Rattle.months.proofs.reading.after_eight.Goals as goal
 

@@ -1,8 +1,5 @@
-use Prim.Native.Nat.{◌-◌}
 use borrow.Author.Rules.{rules}
-use Rattle.sets.specs.Members.{width}
-use Rattle.sets.proofs.Loops.{Filled, filling}
-use Rattle.months.specs.Readings.{between_in, excluded}
+use Rattle.sets.proofs.Loops.{filling}
 use Rattle.months.proofs.reading.excluded.Goals as goal
 
 pub loop-a-init : goal.loop-a-init

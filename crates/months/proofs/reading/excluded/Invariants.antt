@@ -1,7 +1,6 @@
 use Prim.Native.Nat.{◌-◌}
-use borrow.Author.Rules.{rules}
 use Rattle.sets.specs.Members.{width}
-use Rattle.sets.proofs.Loops.{Filled, filling}
+use Rattle.sets.proofs.Loops.{Filled}
 use Rattle.months.specs.Readings.{between_in, excluded}
 use Rattle.months.proofs.reading.excluded.Given as goal
 

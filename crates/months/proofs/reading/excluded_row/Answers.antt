@@ -1,4 +1,3 @@
-use borrow.Author.Rules.{rules}
 use Rattle.months.proofs.FromTally.{excluded-is}
 use Rattle.months.proofs.reading.excluded_row.Goals as goal
 

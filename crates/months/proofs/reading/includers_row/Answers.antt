@@ -1,4 +1,3 @@
-use borrow.Author.Rules.{rules}
 use Rattle.months.proofs.FromTally.{includers-is}
 use Rattle.months.proofs.reading.includers_row.Goals as goal
 

@@ -1,8 +1,6 @@
-use borrow.Author.Rules.{rules}
 use Rattle.sets.specs.Members.{width, mem, count_below}
-use Rattle.sets.proofs.Passing.{members}
 use Rattle.months.specs.Layout.{pair_set, set_in}
-use Rattle.months.proofs.FromTally.{GatheredFrom, gather-start, gather-turn, gather-end, pair-those}
+use Rattle.months.proofs.FromTally.{GatheredFrom}
 use Rattle.months.proofs.reading.let_in.Given as goal
 
 abbrev pub invariant-loop-t : goal.invariant-loop-t

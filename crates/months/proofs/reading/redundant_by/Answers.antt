@@ -1,4 +1,3 @@
-use borrow.Author.Rules.{rules}
 use Rattle.months.proofs.FromTally.{redundant-is}
 use Rattle.months.proofs.reading.redundant_by.Goals as goal
 

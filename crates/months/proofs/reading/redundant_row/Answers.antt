@@ -1,8 +1,6 @@
 use borrow.Author.Rules.{rules}
-use Rattle.sets.specs.Members.{width, mem, count_below}
 use Rattle.sets.proofs.Passing.{members}
-use Rattle.months.specs.Readings.{between_in, redundant_by}
-use Rattle.months.proofs.FromTally.{GatheredFrom, gather-start, gather-turn, gather-end}
+use Rattle.months.proofs.FromTally.{gather-start, gather-turn, gather-end}
 use Rattle.months.proofs.reading.redundant_row.Goals as goal
 
 pub loop-s-init : goal.loop-s-init

@@ -1,4 +1,3 @@
-use borrow.Author.Rules.{rules}
 use Rattle.months.proofs.Answers.{known-few, known-above, known-done}
 use Rattle.months.proofs.reading.relations.Goals as goal
 

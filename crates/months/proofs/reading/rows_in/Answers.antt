@@ -1,9 +1,5 @@
-use mathlib.Core.Path.{◌≡◌}
-use Prim.Native.Nat.{◌-◌, ◌≤◌}
 use borrow.Author.Rules.{rules}
-use Rattle.sets.specs.Members.{mem}
-use Rattle.months.specs.Layout.{tally_width, row_set, set_in}
-use Rattle.months.proofs.FromTally.{rows_to, rows_start, rows-turn, rows-end_lem, row-those}
+use Rattle.months.proofs.FromTally.{rows_start, rows-turn, rows-end_lem, row-those}
 use Rattle.months.proofs.reading.rows_in.Goals as goal
 
 pub loop-i-init : goal.loop-i-init

@@ -1,9 +1,8 @@
 use mathlib.Core.Path.{◌≡◌}
 use Prim.Native.Nat.{◌-◌, ◌≤◌}
-use borrow.Author.Rules.{rules}
 use Rattle.sets.specs.Members.{mem}
 use Rattle.months.specs.Layout.{tally_width, row_set, set_in}
-use Rattle.months.proofs.FromTally.{rows_to, rows_start, rows-turn, rows-end_lem, row-those}
+use Rattle.months.proofs.FromTally.{rows_to}
 use Rattle.months.proofs.reading.rows_in.Given as goal
 
 abbrev pub invariant-loop-i : goal.invariant-loop-i

@@ -1,15 +1,9 @@
-use mathlib.Core.Path.{◌≡◌, ap, ◌∙◌}
-use Prim.Native.Nat.{◌-◌, ◌*◌, ◌≤◌}
+use mathlib.Core.Path.{ap, ◌∙◌}
 use borrow.Author.Rules.{rules}
-use lib.Dec.{ltb}
 use lib.ListN.{length}
-use Rattle.sets.specs.Tests.{◌and◌}
-use Rattle.sets.specs.Members.{mem}
-use Rattle.sets.specs.Rows.{row_words}
 use Rattle.sets.proofs.TableLaws.{length-tables_of}
 use Rattle.tally.specs.Tallies.{table_count}
-use Rattle.months.specs.Layout.{tally_width, row_set, set_in}
-use Rattle.months.proofs.FromTally.{tables_to, tables_start, tables-turn, tables_end}
+use Rattle.months.proofs.FromTally.{tables_start, tables-turn, tables_end}
 use Rattle.months.proofs.reading.tables_in.Goals as goal
 
 pub loop-k-init : goal.loop-k-init

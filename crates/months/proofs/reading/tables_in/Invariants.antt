@@ -1,15 +1,13 @@
-use mathlib.Core.Path.{◌≡◌, ap, ◌∙◌}
+use mathlib.Core.Path.{◌≡◌}
 use Prim.Native.Nat.{◌-◌, ◌*◌, ◌≤◌}
-use borrow.Author.Rules.{rules}
 use lib.Dec.{ltb}
 use lib.ListN.{length}
 use Rattle.sets.specs.Tests.{◌and◌}
 use Rattle.sets.specs.Members.{mem}
 use Rattle.sets.specs.Rows.{row_words}
-use Rattle.sets.proofs.TableLaws.{length-tables_of}
 use Rattle.tally.specs.Tallies.{table_count}
 use Rattle.months.specs.Layout.{tally_width, row_set, set_in}
-use Rattle.months.proofs.FromTally.{tables_to, tables_start, tables-turn, tables_end}
+use Rattle.months.proofs.FromTally.{tables_to}
 use Rattle.months.proofs.reading.tables_in.Given as goal
 
 abbrev pub invariant-loop-k : goal.invariant-loop-k

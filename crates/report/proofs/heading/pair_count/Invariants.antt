@@ -5,8 +5,6 @@ use Rattle.sets.specs.Members.{width}
 use Rattle.sets.specs.Rows.{in_row}
 use Rattle.sets.specs.Tables.{table_at}
 use Rattle.report.specs.Pairs.{pairs_from, pair_count}
-use borrow.Author.Rules.{rules}
-use Rattle.report.proofs.PairLaws.{counting}
 use Rattle.report.proofs.heading.pair_count.Given as goal
 
 abbrev pub invariant-loop-a : goal.invariant-loop-a

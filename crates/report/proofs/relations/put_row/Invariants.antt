@@ -1,9 +1,6 @@
 use Rattle.sets.specs.Members.{width, mem, count_below}
-use Rattle.report.proofs.LineLaws.{members}
-use Rattle.sets.proofs.Passing.{fewer-left}
 use Rattle.report.proofs.PutLaws.{Left}
 use Rattle.report.proofs.LineLaws.{row_text}
-use borrow.Author.Rules.{rules}
 use Rattle.report.proofs.relations.put_row.Given as goal
 
 abbrev pub invariant-loop-s : goal.invariant-loop-s

@@ -3,9 +3,8 @@ use Rattle.engine.specs.Relations.{in_tables}
 use Rattle.engine.specs.Replay.{replay_from}
 use Rattle.tally.specs.Passes.{walked}
 use Rattle.report.specs.Listing.{trace_lines}
-use borrow.Author.Rules.{rules}
 use Rattle.report.proofs.PutLaws.{Left}
-use Rattle.report.proofs.TraceLaws.{traces_text, traces-start, traces-room, traces-turn, traces-end}
+use Rattle.report.proofs.TraceLaws.{traces_text}
 use Rattle.report.proofs.replays.put_traces.Given as goal
 
 abbrev pub invariant-loop-k : goal.invariant-loop-k

@@ -1,10 +1,5 @@
 use borrow.Author.Rules.{rules}
-use Prim.Native.Nat.{◌-◌, ◌≤◌}
-use Rattle.sets.specs.Rows.{in_row}
-use Rattle.sets.specs.Tables.{table_at}
-use Rattle.report.specs.Puts.{row_counts}
-use Rattle.report.proofs.PutLaws.{Left}
-use Rattle.report.proofs.SummaryLaws.{counts_from, count-by-count}
+use Rattle.report.proofs.SummaryLaws.{count-by-count}
 use Rattle.report.proofs.summary.put_counts.Goals as goal
 
 pub loop-a-init : goal.loop-a-init

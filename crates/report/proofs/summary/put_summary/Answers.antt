@@ -1,5 +1,5 @@
 use borrow.Author.Rules.{rules}
-use Rattle.report.proofs.SummaryLaws.{summary-1, summary-2, summary-put}
+use Rattle.report.proofs.SummaryLaws.{summary-put}
 use Rattle.report.proofs.summary.put_summary.Goals as goal
 
 pub returns : goal.returns

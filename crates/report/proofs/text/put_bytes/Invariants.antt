@@ -1,7 +1,6 @@
 use Prim.Native.Nat.{◌+◌, ◌-◌, ◌≤◌}
 use lib.ListN.{length, drop}
-use borrow.Author.Rules.{rules}
-use Rattle.report.proofs.PutLaws.{Left, byte-first, byte-room, byte_next, byte_last}
+use Rattle.report.proofs.PutLaws.{Left}
 use Rattle.report.proofs.text.put_bytes.Given as goal
 
 abbrev pub invariant-loop-i : goal.invariant-loop-i

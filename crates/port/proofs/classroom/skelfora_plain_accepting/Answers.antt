@@ -1,0 +1,10 @@
+use Rattle.port.specs.Classroom.{plain_accepting_number}
+use Rattle.port.proofs.Handing.{handing}
+use borrow.Author.Rules.{rules}
+use Rattle.port.proofs.classroom.skelfora_plain_accepting.Goals as goal
+
+pub returns-then-not-is_done : goal.returns-then-not-is_done
+returns-then-not-is_done c = unfold plain_accepting_number in search (handing, rules)
+
+pub returns : goal.returns
+returns c = unfold plain_accepting_number in search (handing, rules)
