@@ -231,6 +231,8 @@ def outcome(crate, label, ended):
         lines = log.read().splitlines()
     if ended.status == 0:
         return ["NOT REFUSED: the crate is still proved with these edits"]
+    if ended.status == -signal.SIGKILL:
+        return ["BAD EDIT: the checker was killed, for memory most likely, so it came to no verdict"]
     if ended.status != 1 or not any(line.startswith("logic=not-proved") for line in lines):
         return [f"BAD EDIT: it did not come to a verdict (exit {ended.status}); the checker said first:", *lines[:5]]
     return []

@@ -10,6 +10,7 @@ version to be refused: what is taken from it is what was proved, and a refusal m
 The copies stand in the temporary folder, since rt refuses a checkout with a source that no crate has; what was said of each is in target/wrong.
 """
 import collections
+import contextlib
 import os
 import shutil
 import subprocess
@@ -18,6 +19,8 @@ import time
 
 ROOT = os.path.normpath(os.path.join(os.path.dirname(os.path.abspath(__file__)), ".."))
 PARTS = ("src", "specs", "proofs")
+# The most memory that a try may hold, in bytes: some searches that find nothing would take all that the machine has, and what else runs with it.
+MOST = 6_000_000_000
 # What one try came to: the checker's exit status, seconds, and seconds of a processor.
 Ended = collections.namedtuple("Ended", "status took used")
 
@@ -114,6 +117,13 @@ class Try:
         shutil.rmtree(self.room, ignore_errors=True)
         return Ended(self.process.returncode, time.monotonic() - self.began, used.ru_utime + used.ru_stime)
 
+    def hold(self):
+        """Ends the checker where it has outgrown what a try may hold; it then has no verdict."""
+        with contextlib.suppress(OSError, IndexError):
+            with open(f"/proc/{self.process.pid}/statm", encoding="utf-8") as file:
+                if int(file.read().split()[1]) * os.sysconf("SC_PAGE_SIZE") > MOST:
+                    self.process.kill()
+
     def stop(self):
         self.process.kill()
         self.process.wait()
@@ -143,6 +153,8 @@ def tries(files, ready):
                 ended = running.pop(pid)
                 yield ended.crate, ended.label, ended.end(status, used)
             else:
+                for one in running.values():
+                    one.hold()
                 time.sleep(0.2)
     finally:
         for left in running.values():
