@@ -93,14 +93,6 @@ def imported(text):
     return {name: module for module, name in pairs if [n for _, n in pairs].count(name) == 1}
 
 
-def walked(text):
-    """The contracts that Walked.antt makes of a function's own clauses: by their name, the name of the function's module there."""
-    found = {}
-    for made, of in re.findall(r"abbrev ([\w-]+)-read : Read \(+([\w-]+)\.clauses", text):
-        found["".join(word.capitalize() for word in re.split("[-_]", made)) + "Post"] = of
-    return found
-
-
 # ---- the two held together
 
 
@@ -128,11 +120,8 @@ def outcome_of(symbol, said, modules, theorem):
     """Whether the theorem starts from the function's own contract, and is of all that it leaves."""
     kind, post, left = theorem
     crate = symbol.split("::")[0]
-    if post.endswith(".Post"):
-        own = OUTCOMES.get(post.removesuffix(".Post"), "") in {f"Rattle.{crate}.proofs.{module}.Reads" for module in modules}
-    else:
-        own = WALKED.get(WALKS.get(post)) in {f"Rattle.{crate}.specs.contracts.{module}" for module in modules}
-    if not own:
+    own = {f"Rattle.{crate}.proofs.{module}.Reads" for module in modules}
+    if not post.endswith(".Post") or OUTCOMES.get(post.removesuffix(".Post")) not in own:
         faults.append(f"{PROMISES}/Outcomes.antt: the theorem of {symbol} does not start from its own contract")
     params = said["function"]["params"]
     places = ["s" + ".1" * i + ".0" for i, param in enumerate(params) if param["ty"]["name"].endswith("RefMut")]
@@ -195,9 +184,8 @@ def exports_alike():
             faults.append(f"docs/skelfora.h: {name} is not declared")
 
 
-TEXT, WALKS_TEXT = read(PROMISES, "Outcomes.antt"), read(PROMISES, "Walked.antt")
+TEXT = read(PROMISES, "Outcomes.antt")
 ROWS, THEOREMS, OUTCOMES = rows(), theorems(TEXT), imported(TEXT)
-WALKED, WALKS = imported(WALKS_TEXT), walked(WALKS_TEXT)
 counts = {crate: check(crate) for crate in libraries()}
 exports_alike()
 print(*faults, sep="\n") if faults else None
