@@ -1,5 +1,6 @@
 #!/usr/bin/env python3
-"""The wrong versions of the crates: each must be refused where it says, for a goal of its own. They are kept in crates/CRATE/wrong/LABEL.edit.
+"""The wrong versions of the crates: each must be refused where it says, for a goal of its own. They are kept in
+crates/CRATE/wrong/LABEL.edit.
 
 A file holds many wrong versions, which are tried together on one copy of the crate. So each has a name and says which proof refuses it:
 
@@ -9,13 +10,13 @@ A file holds many wrong versions, which are tried together on one copy of the cr
     old:     if !events.has(a) {
     new:     if !m.included.has(a) {
 
-`file:` holds until the next one. An `old:` text stands in its file just once, as the pairs before have left it; `new:` comes in its stead.
-`refuses:` is a folder of the crate's proofs/, that of a function, or a file there, as `Cases.antt`; a second word names a goal or a theorem in
-it. A refusal counts only as an error right there that is no echo of another and no misfit of the proof's shape. The name of a goal has the
-condition in it that leads there, so a wrong condition takes the name away: a line `renames: OLD NEW` has the copy's answers of that folder
-say NEW for OLD, and the goal is refused with the answer that it had. A line `without:` names files of proofs/ that the copy does without, for
-their time: none that a `refuses:` of the file names, and none that a file which stays imports. Any other line, as one that begins with #, is
-passed over.
+`file:` holds until the next one. An `old:` text stands in its file just once, as the pairs before have left it; `new:` comes in its
+stead. `refuses:` is a folder of the crate's proofs/, that of a function, or a file there, as `Cases.antt`; a second word names a goal or
+a theorem in it. A refusal counts only as an error right there that is no echo of another and no misfit of the proof's shape. The name of
+a goal has the condition in it that leads there, so a wrong condition takes the name away: a line `renames: OLD NEW` has the copy's
+answers of that folder say NEW for OLD, and the goal is refused with the answer that it had. A line `without:` names files of proofs/ that
+the copy does without, for their time: none that a `refuses:` of the file names, and none that a file which stays imports. Any other line,
+as one that begins with #, is passed over.
 
     .ci/edits.py --fit [CRATE..]       only whether each `old:` text still stands where it says, once, and docs/STATEMENTS.md names the
                                        same wrong versions; checks nothing
@@ -41,7 +42,8 @@ ROOT = trying.ROOT
 Wrong = collections.namedtuple("Wrong", "name target fact pairs line")
 # What says nothing of the wrong version itself: an error that follows from another one, and a proof that no longer fits the code's shape.
 ECHOES = ["was not admitted", "were not checked", "was not checked", "cannot be checked"]
-MISFITS = ["that can be named from here", "is not in scope", "has no field", "is no name", "record `Rattle"]  # a record: of a field it lacks
+MISFITS = ["that can be named from here", "is not in scope", "is no name"]
+MISFITS += ["has no field", "record `Rattle"]  # a record: of a field it lacks
 MISFITS += ["this λ has", "this tuple has"]  # binders or components that no longer fit
 MISFITS += ["operand is missing", "expected the end", "cannot continue"]  # what does not read
 # A loop's invariant and measure are definitions, and say nothing false by themselves: an error in their file is one of shape.
@@ -72,7 +74,8 @@ def wrongs(path):
 
 
 def left_out(crate, names, targets, texts):
-    """Takes files of proofs/ that belong to no function, and the lines that declare them, out of what an edit leaves; gives what speaks against it."""
+    """Takes files of proofs/ that belong to no function, and the lines that declare them, out of what an edit leaves; gives what speaks
+    against it."""
     top = os.path.join(ROOT, "crates", crate, "proofs")
     staying = [path for path in glob.glob(os.path.join(top, "**", "*.antt"), recursive=True) if os.path.relpath(path, top) not in names]
     texts.setdefault("proofs/Lib.antt", standing(crate, "proofs/Lib.antt") or "")
@@ -121,7 +124,8 @@ def lines_of(path, name):
 
 
 def applied(crate, path, name=None):
-    """The files that an edit file changes, as it leaves them (None: not there), and what does not fit; with a name, of one wrong version."""
+    """The files that an edit file changes, as it leaves them (None: not there), and what does not fit; with a name, of one wrong
+    version."""
     texts, faults, without, file, old, target = {}, [], [], None, None, None
     for number, key, value in lines_of(path, name):
         if key == "file":
@@ -167,7 +171,8 @@ def refusals(log):
 
 
 def judge(crate, path, name=None):
-    """What is to be said of one edit file: lines that tell where each wrong version was refused, and faults; with a name, of one that was alone."""
+    """What is to be said of one edit file: lines that tell where each wrong version was refused, and faults; with a name, of one that was
+    alone."""
     label = label_of(path, name)
     found, faults = wrongs(path)
     found = [w for w in found if name in (None, w.name)]
@@ -211,16 +216,21 @@ def unnamed(crates):
     stated = named()
     for crate, path in files(crates):
         names = [w.name for w in wrongs(path)[0]]
-        yield from (f"docs/STATEMENTS.md does not name {name} of {os.path.relpath(path, ROOT)}" for name in names if name not in stated[crate])
+        missing = [name for name in names if name not in stated[crate]]
+        yield from (f"docs/STATEMENTS.md does not name {name} of {os.path.relpath(path, ROOT)}" for name in missing)
         stated[crate].difference_update(names)
-    yield from (f"docs/STATEMENTS.md: {name} is no kept wrong version of {crate}" for crate in sorted(crates or stated) for name in sorted(stated[crate]))
+    for crate in sorted(crates or stated):
+        yield from (f"docs/STATEMENTS.md: {name} is no kept wrong version of {crate}" for name in sorted(stated[crate]))
 
 
 def fit(crates):
-    bad = [f"{os.path.relpath(path, ROOT)}: {fault}" for crate, path in files(crates) for fault in [*wrongs(path)[1], *applied(crate, path)[1]]]
+    bad = []
+    for crate, path in files(crates):
+        bad += [f"{os.path.relpath(path, ROOT)}: {fault}" for fault in [*wrongs(path)[1], *applied(crate, path)[1]]]
     bad += unnamed(crates)
     # where rt looks for edits of its own: nothing there would be judged
-    bad += [f"{os.path.relpath(path, ROOT)}: wrong versions stand in wrong/" for path in glob.glob(os.path.join(ROOT, "crates", "*", "must-fail"))]
+    for path in glob.glob(os.path.join(ROOT, "crates", "*", "must-fail")):
+        bad.append(f"{os.path.relpath(path, ROOT)}: wrong versions stand in wrong/")
     print(*bad, sep="\n") if bad else None
     sys.exit(bool(bad))
 

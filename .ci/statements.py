@@ -1,8 +1,8 @@
 #!/usr/bin/env python3
-"""What each library lets others call, read from what the checker wrote of it (crates/CRATE/out/rlib, so run this after `rt ci` or `rt lib`):
-no public function asks anything of its caller, each says something, each has a row in docs/STATEMENTS.md, and each has a theorem in
-promises/proofs/Outcomes.antt that starts from its own contract. Nor is there a row or a theorem for a function that is not there.
-The source is not read, so however a function came to be public, it is seen; but what port_c exports for C is held to port by the source."""
+"""What each library lets others call, read from what the checker wrote of it (crates/CRATE/out/rlib, so run this after `rt ci` or `rt
+lib`): no public function asks anything of its caller, each says something, each has a row in docs/STATEMENTS.md, and each has a theorem
+in promises/proofs/Outcomes.antt that starts from its own contract. Nor is there a row or a theorem for a function that is not there. The
+source is not read, so however a function came to be public, it is seen; but what port_c exports for C is held to port by the source."""
 import json
 import os
 import re
@@ -32,7 +32,8 @@ FACADE = "facade/proofs/"
 
 
 def written(crate):
-    """By its path, each module that the checker made of a library: what it is of, in its own words. A module's path is a line, and the next says it."""
+    """By its path, each module that the checker made of a library: what it is of, in its own words. A module's path is a line, and the
+    next says it."""
     found, path = {}, None
     for line in read("crates", crate, "out", "rlib", crate + ".rlib", "lang", "antt", "made.json").splitlines():
         said = json.loads(line) if line else None
@@ -172,7 +173,8 @@ def stated(crate, mark):
 
 
 def exports_alike():
-    """Each export for C has the parameters and the clauses of port's function of its name, of which there is a row and a theorem, and the header has it."""
+    """Each export for C has the parameters and the clauses of port's function of its name, of which there is a row and a theorem, and the
+    header has it."""
     exported, own = stated("port_c", r"#\[unsafe\(no_mangle\)\]\npub extern \"C\" "), stated("port", "pub ")
     declared = set(re.findall(r"\b(skelfora_\w+)\(", read("docs", "skelfora.h")))
     for name in sorted({*exported, *own}):

@@ -1,14 +1,14 @@
 """Tries files of wrong versions, each on a copy of its crate: `rattle check`, with the words that rt gives it. .ci/edits.py is the command.
 
-A file of wrong versions changes a few modules of its crate. What rt has just proved of the others lies in the crate's out/incremental. So each
-copy gets a folder of its own with that in it, and the checker looks again only at what the edits change and at what leans on that. Where there
-is no such folder to be had, it checks the whole crate: slower, and the same is refused.
+A file of wrong versions changes a few modules of its crate. What rt has just proved of the others lies in the crate's out/incremental. So
+each copy gets a folder of its own with that in it, and the checker looks again only at what the edits change and at what leans on that.
+Where there is no such folder to be had, it checks the whole crate: slower, and the same is refused.
 
 The verdict on the crates themselves never rests on such a folder: it is that of `rt ci`, which takes none. Nor does the folder help a wrong
 version to be refused: what is taken from it is what was proved, and a refusal must be an error at the goal that the wrong version names.
 
-The copies stand in the temporary folder, since rt refuses a checkout with a source that no crate has; what was said of each is in target/wrong.
-"""
+The copies stand in the temporary folder, since rt refuses a checkout with a source that no crate has; what was said of each is in
+target/wrong. """
 import collections
 import contextlib
 import os
@@ -19,7 +19,8 @@ import time
 
 ROOT = os.path.normpath(os.path.join(os.path.dirname(os.path.abspath(__file__)), ".."))
 PARTS = ("src", "specs", "proofs")
-# The most memory that a try may hold, in bytes: some searches that find nothing would take all that the machine has, and what else runs with it.
+# The most memory that a try may hold, in bytes: some searches that find nothing would take all that the machine has, and what else runs
+# with it.
 MOST = 6_000_000_000
 # What one try came to: the checker's exit status, seconds, and seconds of a processor.
 Ended = collections.namedtuple("Ended", "status took used")
@@ -67,7 +68,8 @@ def check_words(kit, crate, root_file):
 
 
 def linked(one, other):
-    """A checked module gets a second name, since a check makes such a file anew and never writes into it; where that can't be, it is copied."""
+    """A checked module gets a second name, since a check makes such a file anew and never writes into it; where that can't be, it is
+    copied."""
     try:
         if one.endswith(".oantt"):
             return os.link(one, other)

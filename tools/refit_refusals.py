@@ -4,9 +4,8 @@
     tools/refit_refusals.py --shared CRATE    the wrong versions that share a function with another of their file, for `.ci/edits.py --alone CRATE`
     tools/refit_refusals.py CRATE             writes the names; what was refused at no goal of its function is printed, with what was said there
 
-What a wrong version is refused at is read from the log of its own try where there is one, else from its file's, where no other names the function.
-A goal that is named already and was refused stays.
-"""
+What a wrong version is refused at is read from the log of its own try where there is one, else from its file's, where no other names the
+function. A goal that is named already and was refused stays. """
 import collections
 import os
 import sys

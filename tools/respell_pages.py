@@ -3,11 +3,10 @@
 
     tools/respell_pages.py [COMMIT]     COMMIT: where the names stood in their older spelling, 30029b5 if left out
 
-A word between backquotes is turned where the crates' sources had it at that commit, have it no more, and have one that is the same but for its
-spelling: words in snake case, a prime as an apostrophe, a dash as an underscore, `_lem` where a lemma would have met a definition. The crate
-`bytes` is named `octets`. A function's proof is cited by the file of its folder that there is; where the checker finds it, by the source. What a
-page names that the sources had and have under no such name is printed: it is to be looked up.
-"""
+A word between backquotes is turned where the crates' sources had it at that commit, have it no more, and have one that is the same but
+for its spelling: words in snake case, a prime as an apostrophe, a dash as an underscore, `_lem` where a lemma would have met a
+definition. The crate `bytes` is named `octets`. A function's proof is cited by the file of its folder that there is; where the checker
+finds it, by the source. What a page names that the sources had and have under no such name is printed: it is to be looked up. """
 import glob
 import io
 import os
@@ -22,7 +21,8 @@ CRATE = re.compile(r"`bytes(?=[/`:]|\.specs|\.proofs)|Rattle·bytes\b")
 
 
 def words_in(text):
-    """The words of a source, without those of its comments, which may still have a name that is gone. One with a dash counts where it is declared."""
+    """The words of a source, without those of its comments, which may still have a name that is gone. One with a dash counts where it is
+    declared."""
     found = set(re.findall(WORD, re.sub(r"(?m)(^|\s)(--|//).*$", "", text)))
     declared = set(re.findall(r"(?m)^\s*(?:(?:pub|abbrev|unfoldable|data|record)\s+)*([^\s:(){}]+)(?=\s*(?:[{(].*)?:\s)", text))
     return {word for word in found if "-" not in word or word in declared}
