@@ -1,5 +1,5 @@
 // The words of a case, and the files that they name.
-ghost use Rattle.std.specs.Prelude.{◌≤◌, length};
+ghost use Rattle.io.specs.Counts.{IsPrefixLen};
 
 use crate::text;
 use std::env::{Env, FillError};
@@ -39,7 +39,7 @@ pub fn say_words(rt: &(impl Env + Print), i: u32) -> io::Result<()> {
 
 // Reads until the buffer is full, the file ends or a read fails, and gives how many bytes it put at the start of the buffer.
 fn read_full(file: &mut impl Read, buf: &mut [u8]) -> usize
-    ensures { result ≤ length buf.new }
+    ensures { IsPrefixLen result buf.new }
 {
     let mut done = 0;
     while done < buf.len() {
@@ -53,7 +53,7 @@ fn read_full(file: &mut impl Read, buf: &mut [u8]) -> usize
 
 // Reads the file that argument i names. No case has an empty file: 0 bytes stand for one that can't be read.
 pub fn load(rt: &(impl Env + Files), i: usize, buf: &mut [u8]) -> usize
-    ensures { result ≤ length buf.new }
+    ensures { IsPrefixLen result buf.new }
 {
     let mut name = [0u8; 64];
     let n = rt.arg(i, &mut name).unwrap_or(0);

@@ -1,9 +1,9 @@
 -- A file read without the set of enabled activities: what is had is the file's graph, and reading has judged it. Assumes nothing.
 use mathlib.Core.Path.{◌≡◌, refl, sym, ap, ◌∙◌, subst}
-use mathlib.Core.Bool.{Bool, true, false, not}
+use mathlib.Core.Bool.{Bool, true, false}
 use mathlib.Core.List.{List}
 use Prim.Native.Nat.{ℕ, ◌≤◌}
-use borrow.Author.Tests.{not-false, ltb-false}
+use borrow.Author.Tests.{ltb-false}
 use lib.Dec.{T, eqb, ltb}
 use Rattle.sets.specs.Tests.{◌and◌, when◌then◌else◌}
 use Rattle.sets.specs.Members.{word, those, no_set}

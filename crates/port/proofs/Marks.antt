@@ -1,13 +1,10 @@
 -- What the calls of the marks and of the replays ensure, put together. Assumes nothing.
-use mathlib.Core.Path.{◌≡◌, refl, sym, ap, ap₂, ◌∙◌}
-use mathlib.Core.Bool.{Bool, true, false, not}
+use mathlib.Core.Path.{◌≡◌, refl, sym, ap, ◌∙◌}
+use mathlib.Core.Bool.{Bool, true, false}
 use mathlib.Core.List.{List}
-use Prim.Native.Nat.{ℕ, ◌+◌, ◌*◌, ◌%◌, ◌^◌, ◌≤◌, ◌<◌}
-use native.Mathlib.Omega.{arith}
-use borrow.Author.Tests.{not-true, not-false}
-use lib.ListN.{length}
+use Prim.Native.Nat.{ℕ, ◌+◌, ◌*◌, ◌%◌}
 use Rattle.sets.specs.Tests.{when◌then◌else◌}
-use Rattle.sets.specs.Answers.{number_of, is_done, then_ask}
+use Rattle.sets.specs.Answers.{number_of, is_done}
 use Rattle.sets.specs.declared.answer.Answer.{Answer}
 use Rattle.sets.proofs.Asking.{refused, passed}
 use Rattle.calllog.specs.Logs.{log_of, judged_of}

@@ -1,12 +1,10 @@
 -- The call desk's functions: the graph comes as a file, the table as lent bytes (02, 5/12).
 use Rattle.std.specs.Prelude.{false, List, ℕ}
-use Rattle.sets.specs.Tests.{non, when◌then◌else◌}
+use Rattle.sets.specs.Tests.{when◌then◌else◌}
 use Rattle.sets.specs.Answers.{is_done, then_ask}
 use Rattle.sets.specs.declared.answer.Answer.{Answer}
-use Rattle.sets.specs.declared.answer.Answer.TheVariants.{Done, NotOpen}
 use Rattle.octets.specs.Editions.{wide_in}
 use Rattle.graphfile.specs.Held.{read_of}
-use Rattle.desk.specs.Places.{is_open}
 use Rattle.desk.specs.Desk.{on_table, place_answer, no_place, opened_of, table_opened, step_answer, table_stepped, close_answer, table_closed}
 use Rattle.desk.specs.declared.requests.Opened.{Opened}
 use Rattle.port.specs.Port.{packed_of, blocked_of}

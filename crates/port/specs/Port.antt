@@ -15,8 +15,8 @@ use Rattle.graphfile.specs.Markings.{marking_length, marking_from, marking_into}
 use Rattle.rules.specs.declared.Profile.{Profile}
 use Rattle.rules.specs.declared.Profile.TheVariants.{Full, Light}
 use Rattle.miner.specs.Mine.{mined_of}
-use Rattle.report.specs.Listing.{listed_of, listing_after}
-use Rattle.report.specs.Summary.{summary_answer, summary_after}
+use Rattle.report.specs.Listing.{listed_of}
+use Rattle.report.specs.Summary.{summary_answer}
 
 -- a number of 01, and 256 times what goes with it; that has 24 bits
 unfoldable pub packed_of : Answer → ℕ → ℕ

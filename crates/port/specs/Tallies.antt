@@ -1,6 +1,6 @@
 -- Months put together (02, 12/12): the numbers of skelfora_tally and skelfora_tally_join are those of months' `fill_answer` and `join_answer`, and
 -- their buffers are `filled_of` and `joined_of`. Here is what skelfora_tally_relations gives.
-use Rattle.std.specs.Prelude.{false, List, [], ◌∷◌, ◌++◌, ℕ, ◌*◌, ◌/◌, ◌%◌, ltb, length, drop}
+use Rattle.std.specs.Prelude.{false, List, ◌∷◌, ◌++◌, ℕ, ◌*◌, ◌/◌, ◌%◌, ltb, length, drop}
 use Rattle.sets.specs.Tests.{when◌then◌else◌}
 use Rattle.sets.specs.Rows.{row_at}
 use Rattle.sets.specs.Tables.{table_at}

@@ -3,7 +3,6 @@ use Rattle.std.specs.Prelude.{List, [], ◌∷◌, ℕ, ltb, length}
 use Rattle.std.proofs.lemmas.List.Edits.{sets}
 use Rattle.sets.specs.Tests.{non, when◌then◌else◌}
 use Rattle.sets.specs.Answers.{number_of, is_done}
-use Rattle.sets.specs.declared.answer.Answer.{Answer}
 use Rattle.sets.specs.declared.answer.Answer.TheVariants.{BufferTooSmall}
 use Rattle.engine.specs.Relations.{relations_of}
 use Rattle.octets.specs.Editions.{wide_in}

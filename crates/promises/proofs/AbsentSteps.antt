@@ -5,8 +5,7 @@ use mathlib.Core.Bool.{false}
 use mathlib.Core.Logic.{◌⊎◌, inl, inr}
 use mathlib.Core.List.{List, [], ◌∷◌, Memᴰ}
 use Prim.Native.Nat.{ℕ}
-use lib.Dec.{T, eqb}
-use Rattle.sets.specs.Tests.{◌and◌, ◌or◌, non}
+use lib.Dec.{T}
 use Rattle.sets.proofs.Tests.{and_l, and_r, or-e, or_l, or_r, imp-e, F→false, either}
 use Rattle.rules.specs.declared.Profile.{Profile}
 use Rattle.rules.specs.declared.Profile.TheVariants.{Full, Light}

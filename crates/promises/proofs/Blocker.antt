@@ -10,9 +10,8 @@ use mathlib.Core.Path.{◌≡◌, refl, sym, ap, subst}
 use mathlib.Core.Bool.{Bool, true, false}
 use mathlib.Core.List.{List}
 use Prim.Native.Nat.{ℕ, ◌<◌}
-use lib.Dec.{eqb, ltb}
+use lib.Dec.{eqb}
 use lib.ListN.{length, get_or}
-use Rattle.sets.specs.Sizes.{most_activities, longest_trace}
 use Rattle.sets.specs.Tests.{non, when◌then◌else◌}
 use Rattle.sets.specs.Members.{width, mem}
 use Rattle.sets.specs.Answers.{number_of, blocker_of, is_done, then_ask}

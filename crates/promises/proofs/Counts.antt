@@ -1,24 +1,21 @@
 -- The fifth stand-in that 01 names, a listing with invented pair counts: whatever `write_listing` may leave in a buffer for an accepted log, the
 -- words of its first line that stand for the counts are the numbers of pairs of the mined relations, so any other count contradicts
 -- the contract. Assumes nothing.
-use mathlib.Core.Path.{◌≡◌, refl, sym, ap, subst, ◌∙◌}
+use mathlib.Core.Path.{◌≡◌, refl, sym, ap, ◌∙◌}
 use mathlib.Core.Bool.{Bool, true, false}
 use mathlib.Core.Logic.{◌⊎◌}
 use mathlib.Core.List.{List, [], ◌∷◌, ◌++◌, append_assoc}
-use Prim.Native.Nat.{ℕ, zero, suc, ◌+◌, ◌/◌, ◌%◌, ◌≤◌, ◌<◌}
+use Prim.Native.Nat.{ℕ, zero, suc, ◌/◌}
 use native.Mathlib.Omega.{arith}
-use borrow.Author.Tests.{ltb-true, ltb-false}
 use lib.Dec.{eqb, ltb, T, eqb→eq}
 use lib.ListN.{length, get_or, drop}
 use Rattle.sets.specs.Tests.{◌and◌, ◌or◌, non, when◌then◌else◌}
 use Rattle.sets.specs.Members.{width, mem, count_below}
 use Rattle.sets.specs.Rows.{Relation}
 use Rattle.sets.specs.Answers.{number_of, is_done}
-use Rattle.sets.specs.declared.answer.Answer.{Answer}
-use Rattle.sets.specs.declared.answer.Answer.TheVariants.{Done, BufferTooSmall}
-use Rattle.sets.proofs.Tests.{T→true, F→false, split, either, true→T, false→F, and_i, and_l, and_r, or-e, non-i, non-e}
-use Rattle.sets.proofs.Asking.{done-is}
-use Rattle.engine.specs.Relations.{Relations, relations_of}
+use Rattle.sets.specs.declared.answer.Answer.TheVariants.{BufferTooSmall}
+use Rattle.sets.proofs.Tests.{either, true→T, false→F, and_i, and_l, and_r, or-e, non-i, non-e}
+use Rattle.engine.specs.Relations.{relations_of}
 use Rattle.engine.specs.Replay.{replay_of}
 use Rattle.engine.specs.declared.graph.Graph.{Graph}
 use Rattle.calllog.specs.Logs.{log_of}

@@ -36,7 +36,6 @@ use Rattle.sets.specs.declared.answer.Answer.TheVariants.{NoPlaceFree, NotOpen, 
 use Rattle.sets.specs.declared.answer.Answer.TheVariants.{LabelsNotAsMany, LabelAboveOne}
 use Rattle.sets.proofs.Members.{mem-those}
 use Rattle.sets.proofs.Asking.{done-is}
-use Rattle.sets.specs.Members.{no_set}
 use Rattle.engine.specs.Markings.{empty_marking}
 use Rattle.engine.specs.Relations.{empty_graph, relations_of}
 use Rattle.engine.specs.Steps.{enabled, after, accepting}

@@ -19,7 +19,7 @@ use mathlib.Core.Bool.{Bool, true, false}
 use mathlib.Core.Logic.{◌≢◌}
 use mathlib.Core.List.{List, [], ◌∷◌}
 use Prim.Native.Nat.{ℕ, ◌≤◌, ◌<◌}
-use lib.Dec.{T, eqb}
+use lib.Dec.{eqb}
 use lib.ListN.{length}
 use Rattle.sets.specs.Tests.{when◌then◌else◌}
 use Rattle.sets.specs.Answers.{number_of, is_done}
@@ -29,7 +29,6 @@ use Rattle.sets.proofs.Tests.{T→true, F→false}
 use Rattle.sets.proofs.Asking.{done-is}
 use Rattle.engine.specs.Markings.{empty_marking}
 use Rattle.engine.specs.Judged.{judged}
-use Rattle.engine.specs.declared.marking.Marking.{Marking}
 use Rattle.engine.specs.declared.graph.Graph.{Graph}
 use Rattle.graphfile.proofs.LoneMarkings.{WholeMarking}
 use Rattle.desk.specs.declared.requests.Opened.{Opened}

@@ -8,7 +8,7 @@
 -- 2. "A marking handed over with a false set is not believed": `gives-16`, `given-16`, and for a graph's own opening marking `graph-16`, `16-graph`.
 -- 3. A replay works the set out once, and gives what its steps give that keep it one by one (`replay-by-steps`).
 -- 4. 2/12's blocker is 255 exactly for the members of the set, and beside 8 and 9 (`set-blocker`, `blocker-set`).
-use mathlib.Core.Path.{◌≡◌, refl, sym, ap, ap₂, subst, ◌∙◌}
+use mathlib.Core.Path.{◌≡◌, refl, sym, ap, subst, ◌∙◌}
 use mathlib.Core.Bool.{Bool, true, false}
 use mathlib.Core.Logic.{◌⊎◌, inl, inr}
 use mathlib.Core.List.{List, [], ◌∷◌, ◌++◌}
@@ -17,18 +17,18 @@ use native.Mathlib.Omega.{arith}
 use borrow.Author.Tests.{le-ltb, ltb-false}
 use lib.Dec.{T, eqb, ltb}
 use lib.ListN.{length, drop}
-use Rattle.sets.specs.Tests.{◌and◌, ◌or◌, non, when◌then◌else◌}
+use Rattle.sets.specs.Tests.{◌and◌, non, when◌then◌else◌}
 use Rattle.sets.specs.Sizes.{most_activities, longest_trace}
-use Rattle.sets.specs.Members.{width, mem, some_below, least_below}
+use Rattle.sets.specs.Members.{width, mem}
 use Rattle.sets.specs.Answers.{number_of, blocker_of, is_done, then_ask}
 use Rattle.sets.specs.declared.activity.Activity.{Activity}
 use Rattle.sets.specs.declared.set.Set.{Set}
 use Rattle.sets.specs.declared.answer.Answer.{Answer}
 use Rattle.sets.specs.declared.answer.Answer.TheVariants.{Done, AboveLimit, Outside, BufferTooSmall, NoEvent, NotIncluded, Waiting, FalseEnabled}
-use Rattle.sets.proofs.Tests.{T-eq, T→true, true→T, F→false, false→F, and_l, and_r, and_i, nor, neither, non-i, non-e, split, either}
+use Rattle.sets.proofs.Tests.{T-eq, T→true, true→T, F→false, false→F, and_l, and_r, and_i, nor, neither, either}
 use Rattle.sets.proofs.Members.{Whole, whole-low}
 use Rattle.sets.proofs.Below.{least_lt}
-use Rattle.sets.proofs.Asking.{done-is, both}
+use Rattle.sets.proofs.Asking.{done-is}
 use Rattle.engine.specs.Markings.{empty_marking}
 use Rattle.engine.specs.Relations.{Relations, relations_of, empty_graph}
 use Rattle.engine.specs.Steps.{blocking, waits, blocker, enabled, after, accepting}
@@ -55,8 +55,8 @@ use Rattle.graphfile.specs.declared.reader.Reading.{Reading}
 use Rattle.graphfile.proofs.LoneMarkings.{WholeMarking}
 use Rattle.rules.specs.declared.Profile.{Profile}
 use Rattle.miner.specs.declared.mining.Mined.{Mined}
-use Rattle.desk.specs.Places.{is_open, marking_at_place}
-use Rattle.desk.specs.Desk.{form_of, open_answer, opened_of, step_answer, table_stepped}
+use Rattle.desk.specs.Places.{marking_at_place}
+use Rattle.desk.specs.Desk.{form_of, open_answer, opened_of, step_answer}
 use Rattle.desk.proofs.Serving.{open-accepted}
 use Rattle.desk.proofs.OnePlace.{stepped-marking}
 use Rattle.desk.specs.declared.requests.Opened.{Opened}

@@ -9,11 +9,10 @@ use mathlib.Core.List.{List, []}
 use Prim.Native.Nat.{ℕ, suc, ◌≤◌, ◌<◌}
 use borrow.Author.Tests.{ltb-true, ltb-false}
 use lib.Dec.{T, eqb, ltb}
-use Rattle.sets.specs.Tests.{non, when◌then◌else◌}
-use Rattle.sets.specs.Sizes.{most_activities, longest_trace}
+use Rattle.sets.specs.Tests.{when◌then◌else◌}
 use Rattle.sets.specs.Answers.{number_of, is_done}
 use Rattle.sets.specs.declared.answer.Answer.{Answer}
-use Rattle.sets.specs.declared.answer.Answer.TheVariants.{Done, AboveLimit, Outside, NoWayOut}
+use Rattle.sets.specs.declared.answer.Answer.TheVariants.{Done, NoWayOut}
 use Rattle.sets.specs.Members.{least_below, or_next}
 use Rattle.sets.specs.declared.set.Set.{Set}
 use Rattle.sets.proofs.Tests.{T→true, true→T, F→false, false→F, split, either}

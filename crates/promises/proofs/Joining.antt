@@ -3,7 +3,7 @@
 use mathlib.Core.Path.{◌≡◌, refl, sym, ap, ap₂, ◌∙◌}
 use mathlib.Core.Bool.{Bool, true, false}
 use mathlib.Core.List.{List, [], ◌∷◌, ◌++◌}
-use Prim.Native.Nat.{ℕ, zero, suc, ◌+◌, ◌-◌, ◌*◌, ◌/◌, ◌%◌, ◌≤◌, ◌<◌, max}
+use Prim.Native.Nat.{ℕ, zero, suc, ◌+◌, ◌-◌, ◌*◌, ◌/◌, ◌%◌, ◌≤◌, max}
 use native.Mathlib.Nat.{le_refl, max_comm, zero-max, max-zero, suc-max-suc, max-le, max-eq_left}
 use native.Mathlib.Omega.{arith}
 use lib.Arith.{bin_ind}
@@ -11,7 +11,7 @@ use lib.Bits.{bit_or, or_step, or_shr, or_mod, or_lt, or_self, or_comm}
 use lib.Dec.{ltb}
 use lib.ListN.{length, set, length-set}
 use lib.Seq.{set-get_or}
-use Rattle.sets.specs.Tests.{◌or◌, non, when◌then◌else◌}
+use Rattle.sets.specs.Tests.{◌or◌, when◌then◌else◌}
 use Rattle.sets.specs.Members.{word, bits_of, those}
 use Rattle.octets.specs.Numbers.{little_endian}
 use Rattle.sets.proofs.Bits.{bits_of-lt, is-bits_of, bit-or, bit-bits_of}

@@ -12,7 +12,7 @@ use lib.ListN.{length, length-append, get_or, drop, get_or-append}
 use lib.Seq.{get_or-append-add}
 use Rattle.sets.specs.Tests.{◌and◌, non, when◌then◌else◌}
 use Rattle.sets.specs.Members.{width, count_below}
-use Rattle.sets.specs.Rows.{Relation, list_from}
+use Rattle.sets.specs.Rows.{Relation}
 use Rattle.sets.specs.Answers.{number_of, is_done}
 use Rattle.sets.specs.declared.answer.Answer.{Answer}
 use Rattle.sets.specs.declared.answer.Answer.TheVariants.{WrongArgument}

@@ -19,7 +19,6 @@ use lib.ListN.{length, get_or, replicate, length-replicate, get_or-replicate}
 use Rattle.sets.specs.Tests.{◌and◌, non, when◌then◌else◌}
 use Rattle.sets.specs.Members.{digit, count_below, mem}
 use Rattle.sets.specs.Answers.{number_of, is_done, then_ask}
-use Rattle.sets.specs.declared.answer.Answer.{Answer}
 use Rattle.sets.specs.declared.answer.Answer.TheVariants.{Done, NoEvent, NotIncluded, Waiting}
 use Rattle.sets.proofs.Asking.{done-is, ask-on, ask-stop}
 use Rattle.sets.specs.declared.set.Set.{Set}

@@ -11,7 +11,7 @@
 -- That the miner gives the same graph for the same set of non-empty traces is in SameTraces.
 use mathlib.Core.Path.{◌≡◌, refl, sym, ap, subst, ◌∙◌}
 use mathlib.Core.Bool.{Bool, true, false}
-use mathlib.Core.Logic.{◌⊎◌, inl, inr}
+use mathlib.Core.Logic.{◌⊎◌}
 use mathlib.Core.List.{List, [], ◌∷◌, ◌++◌, Memᴰ}
 use Prim.Native.Nat.{ℕ, max, ◌≤◌, ◌<◌}
 use native.Mathlib.Omega.{arith}
@@ -31,7 +31,6 @@ use Rattle.engine.specs.Relations.{relation_count, tables_from, relations_of}
 use Rattle.engine.specs.Judged.{judged}
 use Rattle.engine.specs.declared.graph.Graph.{Graph}
 use Rattle.engine.specs.declared.replay.Replayed.{Replayed}
-use Rattle.engine.specs.Replay.{replay_of}
 use Rattle.engine.proofs.Acceptable.{judged-for_lem}
 use Rattle.calllog.specs.Judged.{judged_log}
 use Rattle.calllog.specs.Logs.{log_of}

@@ -1,16 +1,14 @@
 -- Demand 3 carried to the code, in either profile: what `mine` gives, and the replay of the log's own traces on it. Assumes nothing.
 use mathlib.Core.Path.{◌≡◌, refl, sym, ap, subst, ◌∙◌}
-use mathlib.Core.Bool.{Bool, true, false, not}
+use mathlib.Core.Bool.{Bool, true, false}
 use mathlib.Core.List.{List, []}
 use Prim.Native.Nat.{ℕ, ◌+◌, ◌-◌, ◌≤◌, ◌<◌}
 use native.Mathlib.Omega.{arith}
-use borrow.Author.Tests.{not-true, not-false, lt-ltb, ltb-true, ltb-false}
+use borrow.Author.Tests.{lt-ltb, ltb-true, ltb-false}
 use lib.Dec.{ltb}
 use lib.ListN.{length, take, drop, get_or-eq_default}
 use Rattle.sets.specs.Tests.{◌and◌, ◌or◌, non, when◌then◌else◌}
-use Rattle.sets.specs.Members.{bit, bits_of, some_below, every_below, is_empty, within, mem, those}
-use Rattle.sets.specs.Rows.{row_at}
-use Rattle.sets.specs.Tables.{table_at}
+use Rattle.sets.specs.Members.{bit, bits_of, some_below, mem, those}
 use Rattle.sets.specs.Answers.{is_done}
 use Rattle.sets.specs.declared.answer.Answer.{Answer}
 use Rattle.sets.specs.declared.answer.Answer.TheVariants.{Done}
@@ -20,8 +18,8 @@ use Rattle.engine.specs.Markings.{empty_marking}
 use Rattle.sets.specs.Members.{no_set}
 use Rattle.engine.specs.Relations.{relations_of, empty_graph}
 use Rattle.engine.specs.Steps.{enabled, accepting}
-use Rattle.engine.specs.Judged.{state_within, row_within, rows_within, relations_within, graph_within, found, judged_for, judged}
-use Rattle.engine.specs.Enabled.{enabled_set, marked, is_true}
+use Rattle.engine.specs.Judged.{judged}
+use Rattle.engine.specs.Enabled.{enabled_set, marked}
 use Rattle.engine.specs.Replay.{ending, replay_from, replay_of}
 use Rattle.engine.specs.declared.graph.Graph.{Graph}
 use Rattle.engine.specs.declared.replay.Replayed.{Replayed}
@@ -30,7 +28,6 @@ use Rattle.calllog.specs.Layout.{traces_in}
 use Rattle.calllog.specs.Judged.{judged_log}
 use Rattle.calllog.specs.Logs.{log_of, finding_of, found_of}
 use Rattle.calllog.specs.declared.trace.Found.{Found}
-use Rattle.calllog.proofs.Given.{log-answer}
 use Rattle.calllog.proofs.Finding.{found-answer, found_below}
 use Rattle.calllog.proofs.Traces.{traces-number, trace-accepted, found-trace}
 use Rattle.rules.specs.Mined.{graph_from, mined_graph}
@@ -39,7 +36,7 @@ use Rattle.rules.specs.declared.Profile.{Profile}
 use Rattle.rules.proofs.Demand3.{Through}
 use Rattle.rules.proofs.FromFile.{file-accepted, demand3-file}
 use Rattle.miner.specs.Mine.{mined_of}
-use Rattle.miner.proofs.Given.{mined-answer, mined-graph_lem, mined-nothing}
+use Rattle.miner.proofs.Given.{mined-graph_lem, mined-nothing}
 use Rattle.miner.specs.declared.mining.Mined.{Mined}
 use Rattle.promises.specs.Promised.{trace_of, own_replay, OwnReplayed}
 

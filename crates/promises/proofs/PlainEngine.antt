@@ -9,9 +9,9 @@
 -- 2. `order-..`: two times four lists with the same members, in any order and however often: the same.
 -- 3. `fill_holds`: what fill puts down of a graph's relations are such lists; it answers 7 and changes nothing where the memory is too small,
 --    and 16,384 numbers are always enough.
-use mathlib.Core.Path.{◌≡◌, refl, sym, ap, subst, ◌∙◌}
-use mathlib.Core.Bool.{Bool, true, false}
-use mathlib.Core.List.{List, ◌++◌}
+use mathlib.Core.Path.{◌≡◌, sym, ap, subst, ◌∙◌}
+use mathlib.Core.Bool.{true, false}
+use mathlib.Core.List.{List}
 use Prim.Native.Nat.{ℕ, ◌≤◌, ◌<◌}
 use native.Mathlib.Omega.{arith}
 use borrow.Author.Tests.{le-ltb}
@@ -19,11 +19,10 @@ use denote.Ref.{Bor}
 use lib.Dec.{T, ltb}
 use lib.ListN.{length, get_or, take, drop}
 use lib.Seq.{take-append_seam}
-use Rattle.sets.specs.Tests.{when◌then◌else◌}
 use Rattle.sets.specs.Answers.{is_done}
 use Rattle.sets.specs.declared.answer.Answer.{Answer}
 use Rattle.sets.specs.declared.answer.Answer.TheVariants.{Done, BufferTooSmall}
-use Rattle.sets.proofs.Tests.{T→true, F→false, true→T, split, either}
+use Rattle.sets.proofs.Tests.{T→true, F→false, split, either}
 use Rattle.engine.specs.declared.marking.Marking.{Marking}
 use Rattle.engine.specs.declared.graph.Head.{Head}
 use Rattle.engine.specs.declared.graph.Graph.{Graph}

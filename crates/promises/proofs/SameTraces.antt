@@ -1,11 +1,10 @@
 -- 02, 12/12, "of the miner", from the contract of `mine`: two accepted logs with the same A and the same set of non-empty traces, in any order
 -- and however often each is repeated, give the same graph in either profile. Assumes nothing.
 use mathlib.Core.Path.{◌≡◌, sym, ap, ◌∙◌}
-use mathlib.Core.List.{List, [], ◌∷◌, ◌++◌}
+use mathlib.Core.List.{List, ◌++◌}
 use Prim.Native.Nat.{ℕ}
 use Rattle.sets.specs.Answers.{number_of}
 use Rattle.sets.proofs.Tests.{either}
-use Rattle.engine.specs.declared.graph.Graph.{Graph}
 use Rattle.calllog.specs.Logs.{log_of}
 use Rattle.rules.specs.declared.Profile.{Profile}
 use Rattle.rules.specs.Traces.{Traces}

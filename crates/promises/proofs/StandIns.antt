@@ -9,7 +9,7 @@ use lib.Dec.{lit≤}
 use native.Mathlib.Nat.{add-zero}
 use lib.ListN.{length}
 use Rattle.sets.specs.Tests.{◌and◌, ◌or◌, non, when◌then◌else◌}
-use Rattle.sets.specs.Members.{mem, those, bit, bits_of, some_below, every_below}
+use Rattle.sets.specs.Members.{mem, those, bit, bits_of, some_below}
 use Rattle.sets.specs.Rows.{row_at, in_row, list_from, rows_of}
 use Rattle.sets.specs.Tables.{table_at, tables_of}
 use Rattle.sets.specs.Answers.{is_done}

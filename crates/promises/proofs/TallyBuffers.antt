@@ -1,7 +1,7 @@
 -- 02, 12/12: buffers that hold tallies, filled and joined. A buffer with the tally of some traces is taken by every function, joining gives one with
 -- the traces of both, and the laws of joining hold of whole buffers. Assumes nothing.
 use mathlib.Core.Path.{◌≡◌, refl, sym, ap, ap₂, ◌∙◌}
-use mathlib.Core.Bool.{Bool, true, false}
+use mathlib.Core.Bool.{Bool, false}
 use mathlib.Core.List.{List, [], ◌++◌, append-nil}
 use Prim.Native.Nat.{ℕ, max, ◌≤◌}
 use native.Mathlib.Nat.{lt_of_lt_of_le, le-max_left, le-max_right, max-le, max-zero, zero-max}

@@ -1,5 +1,4 @@
-use borrow.Author.Rules.{rules}
-use Rattle.port.proofs.Packing.{carrying, read_ok}
+use Rattle.port.proofs.Packing.{read_ok}
 use Rattle.port.proofs.skelfora_rewrite.Goals as goal
 
 pub put-requires : goal.put-requires

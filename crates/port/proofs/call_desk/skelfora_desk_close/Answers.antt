@@ -16,8 +16,8 @@ returns-then-not-is_done-2-clause-table_after c = search (closing-there, rules)
 
 pub returns-clause-value : goal.returns-clause-value
 returns-clause-value c = let file = c.args.file.now in close-served _ (λ k. (c.type_inv.file k).fits) _ _ _ c.is_wide-wide.ensures _ _ c.judge_place-asked.ensures c.is_done.ensures
-          c.if-not-is_done.false _ _ c.read_bare-r.ensures.value c.is_done-2.ensures c.if-not-is_done-2.false _ c.read_bare-r.ensures.relations_after _ _
-          c.close_on-given.ensures.value c.packed-2.ensures.value
+    c.if-not-is_done.false _ _ c.read_bare-r.ensures.value c.is_done-2.ensures c.if-not-is_done-2.false _ c.read_bare-r.ensures.relations_after _ _
+    c.close_on-given.ensures.value c.packed-2.ensures.value
 
 pub returns-clause-table_after : goal.returns-clause-table_after
 returns-clause-table_after c = let file = c.args.file.now in search (close-served-table file (λ k. (c.type_inv.file k).fits), rules)

@@ -16,8 +16,8 @@ returns-then-not-is_done-2-clause-table_after c = search (stepping-there, rules)
 
 pub returns-clause-value : goal.returns-clause-value
 returns-clause-value c = let file = c.args.file.now in step-served _ (λ k. (c.type_inv.file k).fits) _ _ _ c.is_wide-wide.ensures _ _ c.judge_place-asked.ensures c.is_done.ensures
-          c.if-not-is_done.false _ _ c.read_bare-r.ensures.value c.is_done-2.ensures c.if-not-is_done-2.false _ c.read_bare-r.ensures.relations_after _ _ _
-          c.step_on-given.ensures.value c.packed_blocker-2.ensures
+    c.if-not-is_done.false _ _ c.read_bare-r.ensures.value c.is_done-2.ensures c.if-not-is_done-2.false _ c.read_bare-r.ensures.relations_after _ _ _
+    c.step_on-given.ensures.value c.packed_blocker-2.ensures
 
 pub returns-clause-table_after : goal.returns-clause-table_after
 returns-clause-table_after c = let file = c.args.file.now in search (step-served-table file (λ k. (c.type_inv.file k).fits), rules)

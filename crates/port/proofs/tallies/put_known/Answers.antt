@@ -1,6 +1,5 @@
 use mathlib.Core.Path.{refl}
-use borrow.Author.Rules.{rules}
-use Rattle.port.proofs.Tallied.{known-put, known-room, known_same}
+use Rattle.port.proofs.Tallied.{known-put}
 use Rattle.port.proofs.tallies.put_known.Goals as goal
 
 pub returns : goal.returns

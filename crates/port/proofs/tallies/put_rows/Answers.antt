@@ -1,11 +1,6 @@
-use mathlib.Core.Path.{◌≡◌, refl}
-use Prim.Native.Nat.{◌-◌, ◌*◌, ◌≤◌}
+use mathlib.Core.Path.{refl}
 use borrow.Author.Rules.{rules}
-use lib.ListN.{length}
-use Rattle.months.specs.Layout.{tally_width}
-use Rattle.engine.specs.Relations.{relation_count}
-use Rattle.port.specs.Tallies.{known_length}
-use Rattle.port.proofs.Tallied.{rows_to, rows-begin, rows_next, rows_long, rows-finish}
+use Rattle.port.proofs.Tallied.{rows-begin, rows_next, rows_long, rows-finish}
 use Rattle.port.proofs.tallies.put_rows.Goals as goal
 
 pub loop-i-init : goal.loop-i-init

@@ -1,11 +1,10 @@
-use mathlib.Core.Path.{◌≡◌, refl}
+use mathlib.Core.Path.{◌≡◌}
 use Prim.Native.Nat.{◌-◌, ◌*◌, ◌≤◌}
-use borrow.Author.Rules.{rules}
 use lib.ListN.{length}
 use Rattle.months.specs.Layout.{tally_width}
 use Rattle.engine.specs.Relations.{relation_count}
 use Rattle.port.specs.Tallies.{known_length}
-use Rattle.port.proofs.Tallied.{rows_to, rows-begin, rows_next, rows_long, rows-finish}
+use Rattle.port.proofs.Tallied.{rows_to}
 use Rattle.port.proofs.tallies.put_rows.Given as goal
 
 abbrev pub invariant-loop-i : goal.invariant-loop-i

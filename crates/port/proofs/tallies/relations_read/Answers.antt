@@ -1,4 +1,3 @@
-use borrow.Author.Rules.{rules}
 use Rattle.port.proofs.Tallied.{read-refused, read-few, read_done}
 use Rattle.port.proofs.tallies.relations_read.Goals as goal
 

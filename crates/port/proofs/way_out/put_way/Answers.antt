@@ -1,5 +1,3 @@
-use native.Mathlib.Omega.{arith}
-use lib.ListN.{length-set}
 use borrow.Author.Rules.{rules}
 use Rattle.port.proofs.WayOut.{way-put, way-short}
 use Rattle.port.proofs.way_out.put_way.Goals as goal

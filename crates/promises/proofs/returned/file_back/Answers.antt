@@ -1,4 +1,3 @@
-use borrow.Author.Rules.{rules}
 use Rattle.promises.proofs.Back.{file-refused, file-done}
 use Rattle.promises.proofs.returned.file_back.Goals as goal
 
