@@ -1,5 +1,6 @@
 #!/usr/bin/env python3
-"""The wrong versions of the crates: each must be refused where it says, for a fact of its own. They are kept in crates/CRATE/wrong/LABEL.edit.
+"""The wrong versions of the crates: each must be refused where it says, for a goal of its own. They are kept in
+crates/CRATE/wrong/LABEL.edit.
 
 A file holds many wrong versions, which are tried together on one copy of the crate. So each has a name and says which proof refuses it:
 
@@ -9,16 +10,19 @@ A file holds many wrong versions, which are tried together on one copy of the cr
     old:     if !events.has(a) {
     new:     if !m.included.has(a) {
 
-`file:` holds until the next one. An `old:` text stands in its file just once, as the pairs before have left it; `new:` comes in its stead.
-`refuses:` is a folder of the crate's proofs/, that of a function, or a file there, as `Cases.antt`; a second word names a theorem or a
-fact in it. A refusal counts only as an error right there that is no echo of another and no misfit of the proof's shape. A line `without:`
-names files of proofs/ that the copy does without, for their time: none that a `refuses:` of the file names, and none that a file which
-stays imports. Any other line, as one that begins with #, is passed over.
+`file:` holds until the next one. An `old:` text stands in its file just once, as the pairs before have left it; `new:` comes in its
+stead. `refuses:` is a folder of the crate's proofs/, that of a function, or a file there, as `Cases.antt`; a second word names a goal or
+a theorem in it. A refusal counts only as an error right there that is no echo of another and no misfit of the proof's shape. The name of
+a goal has the condition in it that leads there, so a wrong condition takes the name away: a line `renames: OLD NEW` has the copy's
+answers of that folder say NEW for OLD, and the goal is refused with the answer that it had. A line `without:` names files of proofs/ that
+the copy does without, for their time: none that a `refuses:` of the file names, and none that a file which stays imports. Any other line,
+as one that begins with #, is passed over.
 
     .ci/edits.py --fit [CRATE..]       only whether each `old:` text still stands where it says, once, and docs/STATEMENTS.md names the
                                        same wrong versions; checks nothing
     .ci/edits.py --try CRATE [LABEL..] has rt prove CRATE where it has changed, then tries its wrong versions, or those of the files named
-    .ci/edits.py --gate ENDED          tries all, those of a crate as soon as rt has proved it; where the file ENDED is there, rt has ended
+    .ci/edits.py --alone CRATE [NAME..] the same with each wrong version, or those named, tried by itself
+    .ci/edits.py --gate ENDED          tries all, those of a crate as soon as rt has built it; where the file ENDED is there, rt has ended
     .ci/edits.py [CRATE..]             where each wrong version was refused, of what was tried before
 """
 import collections
@@ -37,11 +41,13 @@ import trying
 ROOT = trying.ROOT
 Wrong = collections.namedtuple("Wrong", "name target fact pairs line")
 # What says nothing of the wrong version itself: an error that follows from another one, and a proof that no longer fits the code's shape.
-ECHOES = ["was not admitted", "cannot be checked"]
-MISFITS = ["that can be named from here", "is not in scope", "expected type `tie.Need-", "record `Rattle"]  # a record: of a field it lacks
+ECHOES = ["was not admitted", "were not checked", "was not checked", "cannot be checked"]
+MISFITS = ["that can be named from here", "is not in scope", "is no name"]
+MISFITS += ["has no field", "record `Rattle"]  # a record: of a field it lacks
 MISFITS += ["this λ has", "this tuple has"]  # binders or components that no longer fit
-# A loop's invariant and measure are definitions, and say nothing false by themselves: an error there is one of shape.
-DEFINITIONS = ("Inv-", "μ-")
+MISFITS += ["operand is missing", "expected the end", "cannot continue"]  # what does not read
+# A loop's invariant and measure are definitions, and say nothing false by themselves: an error in their file is one of shape.
+ANSWERS, INVARIANTS = re.compile(r"/(Answers|Proof)\.antt$"), "/Invariants.antt"
 
 
 def wrongs(path):
@@ -68,7 +74,8 @@ def wrongs(path):
 
 
 def left_out(crate, names, targets, texts):
-    """Takes files of proofs/ that belong to no function, and the lines that declare them, out of what an edit leaves; gives what speaks against it."""
+    """Takes files of proofs/ that belong to no function, and the lines that declare them, out of what an edit leaves; gives what speaks
+    against it."""
     top = os.path.join(ROOT, "crates", crate, "proofs")
     staying = [path for path in glob.glob(os.path.join(top, "**", "*.antt"), recursive=True) if os.path.relpath(path, top) not in names]
     texts.setdefault("proofs/Lib.antt", standing(crate, "proofs/Lib.antt") or "")
@@ -80,7 +87,7 @@ def left_out(crate, names, targets, texts):
         if name in targets:
             yield f"{name} is left out, and a wrong version names it"
         for path in staying:
-            if re.search(rf"·proofs\.proofs\.{module}\b", open(path, encoding="utf-8").read()):
+            if re.search(rf"\bRattle\.{crate}\.proofs\.{module}\b", open(path, encoding="utf-8").read()):
                 yield f"{name} is left out, and {os.path.relpath(path, top)} imports it"
         texts[f"proofs/{name}"] = None
 
@@ -95,12 +102,32 @@ def standing(crate, file):
         return text.read()
 
 
-def applied(crate, path):
-    """The files that an edit file changes, as it leaves them (None: not there), and what does not fit."""
-    texts, faults, without, file, old = {}, [], [], None, None
+def renamed(crate, target, old, new, texts):
+    """Has the answers of a function say another name for a goal; gives what speaks against it."""
+    found = False
+    for file in (f"proofs/{target}/{name}.antt" for name in ("Invariants", "Answers", "Proof")):
+        text = texts.get(file) or standing(crate, file)
+        if old and text and old in text:
+            texts[file], found = text.replace(old, new), True
+    if not found:
+        yield f"no answer in proofs/{target} has {old}, which `renames:` names"
+
+
+def lines_of(path, name):
+    """The numbered lines of an edit file, as key and value; with a name only that wrong version's, and those that hold for all."""
+    wrong = None
     for number, line in enumerate(open(path, encoding="utf-8"), 1):
         key, _, value = line.rstrip("\n").partition(":")
-        value = value.removeprefix(" ")
+        wrong = value.strip() if key == "wrong" else wrong
+        if name in (None, wrong) or key in ("file", "without"):
+            yield number, key, value.removeprefix(" ")
+
+
+def applied(crate, path, name=None):
+    """The files that an edit file changes, as it leaves them (None: not there), and what does not fit; with a name, of one wrong
+    version."""
+    texts, faults, without, file, old, target = {}, [], [], None, None, None
+    for number, key, value in lines_of(path, name):
         if key == "file":
             file, old = value, None
             texts.setdefault(file, standing(crate, file))
@@ -108,6 +135,10 @@ def applied(crate, path):
                 faults.append(f"line {number}: the crate has no such file")
         elif key == "without":
             without += value.split()
+        elif key == "refuses":
+            target = value.split()[0]
+        elif key == "renames":
+            faults += [f"line {number}: {fault}" for fault in renamed(crate, target, *(value.split() + ["", ""])[:2], texts)]
         elif key == "old":
             old = value
         elif key == "new":
@@ -122,25 +153,29 @@ def applied(crate, path):
 
 
 def refusals(log):
-    """By proof, the facts that were refused there, each with what the checker said of it first."""
-    by = collections.defaultdict(list)
+    """By proof, the goals and lemmas that were refused there, each with what the checker said of it first."""
+    by, misfits = collections.defaultdict(list), set()
     for line in open(log, encoding="utf-8", errors="replace"):
         error = re.match(r"\S*?/proofs/(\S+?):\d+:\d+: error: (?:`([^`]+)`: )?(.*)", line)
         if error:
             place, fact, said = error.groups()
-            if not any(words in said for words in ECHOES + MISFITS) and not (fact or "").startswith(DEFINITIONS):
-                by[place.removesuffix("/Proof.antt")].append((fact, said))
-        # a function whose proof the checker makes by itself
-        made = re.match(r"fn \S+: no proof: expected \S+ in \S*?/proofs/(\S+)/Proof\.antt; `search` does not close ([^;]*)", line)
-        if made:
+            if any(words in said for words in MISFITS) or place.endswith(INVARIANTS):
+                misfits.add(ANSWERS.sub("", place.removesuffix(INVARIANTS)))
+            elif not any(words in said for words in ECHOES):
+                by[ANSWERS.sub("", place)].append((fact, said))
+        # goals that have no answer, so that the checker searches by itself; where answers no longer fit, one may only be lacking
+        made = re.match(r"fn \S+: no proof: expected \S+ in \S*?/proofs/(\S+)/\w+\.antt; `search` did not prove ([^;]*)", line)
+        if made and made.group(1) not in misfits:
             by[made.group(1)] += [(fact, "search") for fact in re.findall(r"`([^`]+)`", made.group(2))]
     return by
 
 
-def judge(crate, path):
-    """What is to be said of one edit file: lines that tell where each wrong version was refused, and faults."""
-    label = label_of(path)
+def judge(crate, path, name=None):
+    """What is to be said of one edit file: lines that tell where each wrong version was refused, and faults; with a name, of one that was
+    alone."""
+    label = label_of(path, name)
     found, faults = wrongs(path)
+    found = [w for w in found if name in (None, w.name)]
     log = trying.log_of(crate, label)
     if not os.path.exists(log):
         return [], faults + ["it was not tried"]
@@ -165,8 +200,8 @@ def named():
     return names
 
 
-def label_of(path):
-    return os.path.basename(path).removesuffix(".edit")
+def label_of(path, name=None):
+    return os.path.basename(path).removesuffix(".edit") + (f".{name}" if name else "")
 
 
 def files(crates):
@@ -181,16 +216,21 @@ def unnamed(crates):
     stated = named()
     for crate, path in files(crates):
         names = [w.name for w in wrongs(path)[0]]
-        yield from (f"docs/STATEMENTS.md does not name {name} of {os.path.relpath(path, ROOT)}" for name in names if name not in stated[crate])
+        missing = [name for name in names if name not in stated[crate]]
+        yield from (f"docs/STATEMENTS.md does not name {name} of {os.path.relpath(path, ROOT)}" for name in missing)
         stated[crate].difference_update(names)
-    yield from (f"docs/STATEMENTS.md: {name} is no kept wrong version of {crate}" for crate in sorted(crates or stated) for name in sorted(stated[crate]))
+    for crate in sorted(crates or stated):
+        yield from (f"docs/STATEMENTS.md: {name} is no kept wrong version of {crate}" for name in sorted(stated[crate]))
 
 
 def fit(crates):
-    bad = [f"{os.path.relpath(path, ROOT)}: {fault}" for crate, path in files(crates) for fault in [*wrongs(path)[1], *applied(crate, path)[1]]]
+    bad = []
+    for crate, path in files(crates):
+        bad += [f"{os.path.relpath(path, ROOT)}: {fault}" for fault in [*wrongs(path)[1], *applied(crate, path)[1]]]
     bad += unnamed(crates)
     # where rt looks for edits of its own: nothing there would be judged
-    bad += [f"{os.path.relpath(path, ROOT)}: wrong versions stand in wrong/" for path in glob.glob(os.path.join(ROOT, "crates", "*", "must-fail"))]
+    for path in glob.glob(os.path.join(ROOT, "crates", "*", "must-fail")):
+        bad.append(f"{os.path.relpath(path, ROOT)}: wrong versions stand in wrong/")
     print(*bad, sep="\n") if bad else None
     sys.exit(bool(bad))
 
@@ -201,6 +241,8 @@ def outcome(crate, label, ended):
         lines = log.read().splitlines()
     if ended.status == 0:
         return ["NOT REFUSED: the crate is still proved with these edits"]
+    if ended.status == -signal.SIGKILL:
+        return ["BAD EDIT: the checker was killed, for memory most likely, so it came to no verdict"]
     if ended.status != 1 or not any(line.startswith("logic=not-proved") for line in lines):
         return [f"BAD EDIT: it did not come to a verdict (exit {ended.status}); the checker said first:", *lines[:5]]
     return []
@@ -215,7 +257,8 @@ def counted(crate, label):
 
 def told_of(crate, label, ended, faults, kept):
     """The line that says how a try went, and its faults under it."""
-    place = f"crates/{crate}/wrong/{label}.edit"
+    file, _, name = label.partition(".")
+    place = f"crates/{crate}/wrong/{file}.edit" + (f", {name} alone" if name else "")
     how = "FAILED" if faults else f"{kept} refused, each by its own proof"
     print(f"{place}: {how} ({counted(crate, label)}, {ended.took:.0f} s, {ended.used:.0f} s of a processor)")
     for fault in faults:
@@ -224,30 +267,30 @@ def told_of(crate, label, ended, faults, kept):
 
 
 def fitting(chosen):
-    """The files that fit, those with most wrong versions first, since they take longest; and how much does not fit, which it says."""
+    """What fits of it, files with most wrong versions first, since they take longest; and how much does not fit, which it says."""
     queue, bad = [], 0
-    for crate, path in sorted(chosen, key=lambda file: -len(wrongs(file[1])[0])):
-        texts, faults = applied(crate, path)
+    for crate, path, name in sorted(chosen, key=lambda file: -len(wrongs(file[1])[0])):
+        texts, faults = applied(crate, path, name)
         for fault in faults:
             print(f"{os.path.relpath(path, ROOT)}: {fault}")
         bad += len(faults)
-        queue += [] if faults else [(crate, label_of(path), texts)]
+        queue += [] if faults else [(crate, label_of(path, name), texts)]
     return queue, bad
 
 
 def attempt(chosen, ready, at_length):
-    """Tries files of wrong versions and judges each as it ends. Exits with 1 if anything is not as it must be."""
-    paths = {(crate, label_of(path)): path for crate, path in chosen}
+    """Tries files of wrong versions, or one of a file, and judges each as it ends. Exits with 1 if anything is not as it must be."""
+    paths = {(crate, label_of(path, name)): (path, name) for crate, path, name in chosen}
     queue, bad = fitting(chosen)
     began, used, kept = time.monotonic(), 0, collections.Counter()
     with contextlib.closing(trying.tries(queue, ready)) as tries:
         for crate, label, ended in tries:
             failed = outcome(crate, label, ended)
-            told, faults = ([], failed) if failed else judge(crate, paths[crate, label])
+            told, faults = ([], failed) if failed else judge(crate, *paths[crate, label])
             told_of(crate, label, ended, faults, len(told))
             print(*told, sep="\n") if told and at_length else None
             used, bad, kept[crate] = used + ended.used, bad + len(faults), kept[crate] + len(told)
-    print(f"tried {len(queue)} files of wrong versions in {time.monotonic() - began:.0f} s, {used:.0f} s of a processor")
+    print(f"tried {len(queue)} copies with wrong versions in {time.monotonic() - began:.0f} s, {used:.0f} s of a processor")
     total(kept)
     sys.exit(bad != 0)
 
@@ -257,19 +300,32 @@ def total(kept):
     print(f"wrong versions refused, each by its own proof: {sum(kept.values())} ({told})")
 
 
-def try_one(crate, labels):
-    """For a developer: the wrong versions of a crate, against what rt proves of it now."""
-    chosen = [(c, path) for c, path in files([crate]) if not labels or label_of(path) in labels]
+def try_one(crate, chosen):
+    """For a developer: wrong versions of a crate, against what rt proves of it now."""
     if not chosen:
-        sys.exit(f"edits.py: no such file in crates/{crate}/wrong")
-    if subprocess.run(["rt", "check", crate], cwd=ROOT, check=False).returncode != 0:
+        sys.exit(f"edits.py: no such wrong version in crates/{crate}/wrong")
+    if subprocess.run(["rt", "check"], cwd=os.path.join(ROOT, "crates", crate), check=False).returncode != 0:
         sys.exit(f"edits.py: {crate} is not proved, so that a refusal would say nothing")
     attempt(chosen, lambda _: True, at_length=True)
 
 
+def in_files(crate, labels):
+    return [(c, path, None) for c, path in files([crate]) if not labels or label_of(path) in labels]
+
+
+def one_by_one(crate, names):
+    return [(c, path, w.name) for c, path in files([crate]) for w in wrongs(path)[0] if not names or w.name in names]
+
+
 def try_all(ended):
-    """For the gate, beside rt: a crate is ready as soon as rt has left its stamp, and all are when rt has ended."""
-    attempt(list(files([])), lambda crate: os.path.exists(os.path.join(ROOT, "target", "stamp", crate)) or os.path.exists(ended), at_length=False)
+    """For the gate, beside rt: a crate is ready as soon as rt has built it since then, and all are when rt has ended."""
+    began = time.time()
+
+    def ready(crate):
+        stamp = trying.out(crate, "rlib", "stamp")
+        return os.path.exists(ended) or os.path.exists(stamp) and os.path.getmtime(stamp) > began
+
+    attempt([(crate, path, None) for crate, path in files([])], ready, at_length=False)
 
 
 def tell(crates):
@@ -291,7 +347,9 @@ def main(words):
     if words[:1] == ["--fit"]:
         fit(words[1:])
     elif words[:1] == ["--try"] and len(words) > 1:
-        try_one(words[1], words[2:])
+        try_one(words[1], in_files(words[1], words[2:]))
+    elif words[:1] == ["--alone"] and len(words) > 1:
+        try_one(words[1], one_by_one(words[1], words[2:]))
     elif words[:1] == ["--gate"] and len(words) == 2:
         try_all(words[1])
     elif not any(word.startswith("-") for word in words):
@@ -300,4 +358,5 @@ def main(words):
         sys.exit(__doc__)
 
 
-main(sys.argv[1:])
+if __name__ == "__main__":
+    main(sys.argv[1:])

@@ -1,8 +1,8 @@
 #!/usr/bin/env python3
-"""What each library lets others call, read from what the checker wrote of it (target/rlib, so run this after `rt check` or `rt ci`):
-no public function asks anything of its caller, each says something, each has a row in docs/STATEMENTS.md, and each has a theorem in
-promises/proofs/Outcomes.antt that starts from its own contract. Nor is there a row or a theorem for a function that is not there.
-The source is not read, so however a function came to be public, it is seen."""
+"""What each library lets others call, read from what the checker wrote of it (crates/CRATE/out/rlib, so run this after `rt ci` or `rt
+lib`): no public function asks anything of its caller, each says something, each has a row in docs/STATEMENTS.md, and each has a theorem
+in promises/proofs/Outcomes.antt that starts from its own contract. Nor is there a row or a theorem for a function that is not there. The
+source is not read, so however a function came to be public, it is seen; but what port_c exports for C is held to port by the source."""
 import json
 import os
 import re
@@ -19,41 +19,46 @@ def read(*path):
 
 
 def libraries():
-    names = [line.split(":")[0] for line in read("crates.txt").splitlines() if ":" in line and not line.startswith("#")]
+    heads = [line.split(":")[0].split() for line in read("crates.txt").splitlines() if ":" in line and not line.startswith("#")]
+    # a static library lets C call, and no crate: what it exports is held to the library's (exports_alike)
+    names = [words[0] for words in heads if "staticlib" not in words]
     return [name for name in names if os.path.exists(os.path.join(ROOT, "crates", name, "src", "lib.rt"))]
 
 
 # ---- what the checker wrote
 
 
-FACADE = os.path.join("facade", "proofs")
+FACADE = "facade/proofs/"
 
 
-def written(crate, side, module):
-    """A module of the crate's proofs, or of the facade: what others can name of them."""
-    folder = os.path.join("target", "rlib", crate + ".rlib", "lang", "antt", side)
-    return json.loads(read(folder, *f"{module}.json".split(".", module.count("."))))
+def written(crate):
+    """By its path, each module that the checker made of a library: what it is of, in its own words. A module's path is a line, and the
+    next says it."""
+    found, path = {}, None
+    for line in read("crates", crate, "out", "rlib", crate + ".rlib", "lang", "antt", "made.json").splitlines():
+        said = json.loads(line) if line else None
+        if isinstance(said, dict) and path:
+            found[path] = said
+        path = said if isinstance(said, str) else None
+    return found
 
 
-def contract(crate, module):
-    """The contract behind a module of the facade, which stands for another, and that perhaps for one more."""
-    found = written(crate, FACADE, module)
-    while "StandsFor" in found:
-        module = found["StandsFor"]["source"].split("·proofs.proofs.", 1)[1]
-        found = written(crate, "proofs", module)
-    return found["Contract"]
+def contract(crate, modules, module):
+    """The contract of a function by a module of the facade, which may stand for another, and that perhaps for one more."""
+    path = f"specs/contracts/{module}"
+    while "StandsFor" in modules[path]:
+        path = modules[path]["StandsFor"]["source"].removeprefix(f"Rattle-{crate}-").replace(".", "/")
+    return modules[path]["Contract"]
 
 
 def public(crate):
-    """By symbol, the functions that others can call: the contract, and the names that its module has for others."""
-    top = os.path.join(ROOT, "target", "rlib", crate + ".rlib", "lang", "antt", FACADE)
-    found = {}
-    for folder, _, files in os.walk(top):
-        for file in files:
-            module = os.path.relpath(os.path.join(folder, file), top).removesuffix(".json").replace(os.sep, ".")
-            if "Statement" in written(crate, FACADE, module).get("StandsFor", {}).get("children", []):
-                said = contract(crate, module)
-                found.setdefault(said["function"]["symbol"], (said, set()))[1].add(f"Rattle·{crate}.proofs.{module}")
+    """By symbol, the functions that others can call: the contract, and the modules that it has for others."""
+    modules, found = written(crate), {}
+    for path, said in modules.items():
+        if path.startswith(FACADE) and "Statement" in said.get("StandsFor", {}).get("children", []):
+            module = path.removeprefix(FACADE)
+            of = contract(crate, modules, module)
+            found.setdefault(of["function"]["symbol"], (of, set()))[1].add(module.replace("/", "."))
     return found
 
 
@@ -89,11 +94,6 @@ def imported(text):
     return {name: module for module, name in pairs if [n for _, n in pairs].count(name) == 1}
 
 
-def walked(text):
-    """The contracts that Walked.antt makes of a function's own clauses: by their name, the name of the function's module there."""
-    return {f"{made}-Post": of for made, of in re.findall(r"abbrev ([\w-]+)-read : Read \(([\w-]+)\.clauses", text)}
-
-
 # ---- the two held together
 
 
@@ -120,14 +120,12 @@ def called(crate, symbol):
 def outcome_of(symbol, said, modules, theorem):
     """Whether the theorem starts from the function's own contract, and is of all that it leaves."""
     kind, post, left = theorem
-    if post.endswith(".Post"):
-        own = OUTCOMES.get(post.removesuffix(".Post"), "") in {f"{module}.Reads" for module in modules}
-    else:
-        own = WALKED.get(WALKS.get(post)) in modules
-    if not own:
+    crate = symbol.split("::")[0]
+    own = {f"Rattle.{crate}.proofs.{module}.Reads" for module in modules}
+    if not post.endswith(".Post") or OUTCOMES.get(post.removesuffix(".Post")) not in own:
         faults.append(f"{PROMISES}/Outcomes.antt: the theorem of {symbol} does not start from its own contract")
     params = said["function"]["params"]
-    places = ["s" + " .1" * i + " .0" for i, param in enumerate(params) if param["ty"]["name"].endswith("RefMut")]
+    places = ["s" + ".1" * i + ".0" for i, param in enumerate(params) if param["ty"]["name"].endswith("RefMut")]
     lent = bool(places)
     result = said["function"]["result"]["name"]
     gives = result != "unit"
@@ -135,7 +133,7 @@ def outcome_of(symbol, said, modules, theorem):
     if kind != {(True, True): "OnceLent", (True, False): "OnceLeft"}.get((lent, gives), plain):
         faults.append(f"{PROMISES}/Outcomes.antt: the theorem of {symbol} is not of all that it gives and leaves")
     for place in places:
-        if f"now ({place})" not in left:
+        if f"{place}.now" not in left:
             faults.append(f"{PROMISES}/Outcomes.antt: the theorem of {symbol} does not speak of what it leaves at {place}")
     for param in params:
         if "Ref" not in param["ty"]["name"] and any("Lifetime" in arg or "Lft" in arg for arg in param["ty"]["args"]):
@@ -153,11 +151,9 @@ def check(crate):
             faults.append(f"{symbol} is public and has a ghost clause: its contract holds only for whoever has such a value")
         if not said["ensures"]:
             faults.append(f"{symbol} is public and has no ensures")
-        # the crate of the promises names its own functions from inside
-        inner = {module.replace("Rattle·promises.", "Rattle·promises·proofs.") for module in modules}
         name = called(crate, symbol)
         if name in proved:
-            outcome_of(symbol, said, modules | inner, proved[name])
+            outcome_of(symbol, said, modules, proved[name])
         else:
             faults.append(f"{PROMISES}/Outcomes.antt: there is no theorem {name}-once of {symbol}")
     for name in sorted(set(proved) - {called(crate, symbol) for symbol in functions}):
@@ -165,10 +161,35 @@ def check(crate):
     return len(functions)
 
 
-TEXT, WALKS_TEXT = read(PROMISES, "Outcomes.antt"), read(PROMISES, "Walked.antt")
+def stated(crate, mark):
+    """By name, what the functions of a crate's source that are so marked take, give and state."""
+    found = {}
+    for folder, _, files in os.walk(os.path.join(ROOT, "crates", crate, "src")):
+        for text in (read(folder, file) for file in sorted(files)):
+            for name, head in re.findall(rf"(?ms)^{mark}fn (skelfora_\w+)(.*?)\n\{{", text):
+                # a head too long for its line has a line for each parameter
+                found[name] = " ".join(re.sub(r"\(\s+", "(", re.sub(r",?\s+\)", ")", head)).split())
+    return found
+
+
+def exports_alike():
+    """Each export for C has the parameters and the clauses of port's function of its name, of which there is a row and a theorem, and the
+    header has it."""
+    exported, own = stated("port_c", r"#\[unsafe\(no_mangle\)\]\npub extern \"C\" "), stated("port", "pub ")
+    declared = set(re.findall(r"\b(skelfora_\w+)\(", read("docs", "skelfora.h")))
+    for name in sorted({*exported, *own}):
+        if name not in own or name not in exported:
+            faults.append(f"{name} is in one of port and port_c alone")
+        elif exported[name] != own[name]:
+            faults.append(f"crates/port_c exports {name} with other parameters or clauses than crates/port states")
+        if name not in declared:
+            faults.append(f"docs/skelfora.h: {name} is not declared")
+
+
+TEXT = read(PROMISES, "Outcomes.antt")
 ROWS, THEOREMS, OUTCOMES = rows(), theorems(TEXT), imported(TEXT)
-WALKED, WALKS = imported(WALKS_TEXT), walked(WALKS_TEXT)
 counts = {crate: check(crate) for crate in libraries()}
+exports_alike()
 print(*faults, sep="\n") if faults else None
 print(f"public functions: {sum(counts.values())} ({', '.join(f'{crate} {n}' for crate, n in counts.items())})")
 sys.exit(bool(faults))

@@ -5,13 +5,13 @@ from __future__ import annotations
 import contextlib
 import fcntl
 import os
-import platform
 import re
 import shutil
 import signal
 import subprocess
 import tempfile
 import threading
+import time
 from collections.abc import Iterator, Sequence
 
 from .command import say, unbroken
@@ -27,11 +27,15 @@ SHARED = os.path.join("target", "staticlib", "libskelfora.so")
 # Seconds after which a build that is under way is spoken of.
 PATIENCE = 5.0
 
-# The lines of rt that are of use to whoever waits.
-NEWS = re.compile(r"rt: (\S+ proved \(\d+ s\)|\S+ NOT PROVED.*|.*FAILED.*|\S+: (?:the program ended|what the program wrote).*)")
+# The lines of rt that tell what it is at: a crate that it begins to prove, and what came of it.
+BEGUN = re.compile(r"rt: chose --jobs \d+ for (\w+)")
+CAME = re.compile(r"logic=(proved|not-proved)\b.*")
 
-# Those that tell where in the sources something is wrong.
-WHERE = re.compile(r"\.(?:rt|antt):\d+:\d+: ")
+# The line of rt that stands before what the program writes: it is built of today's sources.
+STARTED = "rt: running out/"
+
+# Those that tell where in the sources something is wrong: in the crate's folder or from the root on.
+WHERE = re.compile(r"(?:\./)?(\S+\.(?:rt|antt):\d+:\d+: .*)")
 
 
 def run(name: str, data: bytes = b"", arguments: Sequence[str] = (), folder: str | None = None) -> bytes:
@@ -45,27 +49,50 @@ def run(name: str, data: bytes = b"", arguments: Sequence[str] = (), folder: str
 
 def build(name: str) -> None:
     """Has rt make the program of today's sources. It is asked every time: it looks for what changed by itself, so neither a change
-    nor a build that failed leaves an older program to be run."""
-    path = os.path.join("target", "bin", name)
-    if not os.path.exists(os.path.join(ROOT, path)):
-        # rt goes by its own mark of what it has made, and would not miss the program
-        with contextlib.suppress(FileNotFoundError):
-            os.unlink(os.path.join(ROOT, "target", "stamp", name))
-    made("the program", path, ["rt", "check", name])
+    nor a build that failed leaves an older program to be run. It also runs what it made, here with nothing on standard input."""
+    made("the program", program(name), ["rt", "run"], os.path.join("crates", name))
 
 
-def made(what: str, path: str, words: Sequence[str]) -> None:
-    """Has rt make a file, by a command that asks rt for it."""
+def program(name: str) -> str:
+    """Where rt leaves a program, from the repository on."""
+    return os.path.join("crates", name, "out", name)
+
+
+def made(what: str, path: str, words: Sequence[str], folder: str = "") -> None:
+    """Has rt make a file, by a command that asks rt for it, in a folder of the repository."""
     if not os.path.exists(os.path.join(ROOT, "crates.txt")):
         raise Fault(f"{what} can't be built: {ROOT} is no copy of the repository")
     if not shutil.which("rt"):
         raise Fault("rt, the Rattle toolchain, is not on the PATH (README.md says where it comes from)")
     with only_one_build(), patience(path), room() as temporary:
-        status, said = watched(words, temporary)
-    if status != 0:
-        for line in [line for line in said if WHERE.search(line)][:3]:
+        status, said = watched(words, folder, temporary)
+    if status != 0 and not any(line.startswith(STARTED) for line in said):
+        keep(said)
+        for line in wrong(said)[:3]:
             say(line[:300])
         raise Fault(f"{what} could not be built, so none is used; target/log has all that rt said")
+
+
+def keep(said: Sequence[str]) -> None:
+    """Leaves all that rt said where whoever mends the sources can read it."""
+    folder = os.path.join(ROOT, "target", "log")
+    os.makedirs(folder, exist_ok=True)
+    with open(os.path.join(folder, "rt"), "w", encoding="utf-8") as file:
+        file.writelines(line + "\n" for line in said)
+
+
+def wrong(said: Sequence[str]) -> list[str]:
+    """The lines that tell where something is wrong, each once and from the repository on. rt names a file from its crate's folder on."""
+    found: list[str] = []
+    crate = ""
+    for line in said:
+        begins, place = BEGUN.fullmatch(line), WHERE.fullmatch(line)
+        crate = begins.group(1) if begins else crate
+        if place:
+            text = place.group(1).removeprefix(ROOT + os.sep)
+            text = os.path.join("crates", crate, text) if text.startswith(("src/", "specs/", "proofs/")) else text
+            found += [text] if text not in found else []
+    return found
 
 
 def library_path() -> str:
@@ -93,28 +120,32 @@ def share() -> None:
         raise Fault(f"cc could not make {SHARED}") from error
 
 
-def watched(words: Sequence[str], temporary: str) -> tuple[int, list[str]]:
-    """Runs a command of rt's with nothing on standard input, passing its news on. Gives its status and its lines."""
+def watched(words: Sequence[str], folder: str, temporary: str) -> tuple[int, list[str]]:
+    """Runs a command of rt's with nothing on standard input, telling of each crate as it is proved. Gives its status and its lines."""
     said: list[str] = []
     rt: subprocess.Popen[str] | None = None
+    crate, since = "", time.monotonic()
     try:
         with unbroken():
-            rt = begun(words, temporary)
+            rt = begun(words, folder, temporary)
         for line in rt.stdout or ():
             said.append(line.rstrip("\n"))
-            news = NEWS.fullmatch(said[-1])
-            if news:
-                say(news.group(1))
+            begins, came = BEGUN.fullmatch(said[-1]), CAME.fullmatch(said[-1])
+            if begins:
+                crate, since = begins.group(1), time.monotonic()
+            elif came and crate:
+                say(f"{crate} proved ({time.monotonic() - since:.0f} s)" if came.group(1) == "proved" else f"{crate} NOT PROVED")
+                crate = ""
         return rt.wait(), said
     finally:
         with unbroken():
             end(rt)
 
 
-def begun(words: Sequence[str], temporary: str) -> subprocess.Popen[str]:
+def begun(words: Sequence[str], folder: str, temporary: str) -> subprocess.Popen[str]:
     return subprocess.Popen(
         words,
-        cwd=ROOT,
+        cwd=os.path.join(ROOT, folder),
         stdin=subprocess.DEVNULL,
         stdout=subprocess.PIPE,
         stderr=subprocess.STDOUT,
@@ -180,11 +211,5 @@ def only_one_build() -> Iterator[None]:
 
 
 def start(name: str) -> list[str]:
-    """The words that start the program. Programs are for x86-64; for another processor the kit has an emulator."""
-    guide = subprocess.run(["rt", "doc"], stdout=subprocess.PIPE, check=True, encoding="utf-8").stdout.strip()
-    kit = os.path.dirname(os.path.dirname(os.path.realpath(guide)))
-    tools = os.path.join(kit, "on", platform.machine(), "toolchain")
-    emulator = os.path.join(tools, "bin", "qemu-x86_64")
-    lib = os.path.join(tools, "lib")
-    plain = [os.path.join(lib, "ld-linux-x86-64.so.2"), "--library-path", lib, os.path.join(ROOT, "target", "bin", name)]
-    return [emulator, *plain] if os.access(emulator, os.X_OK) else plain
+    """The words that start the program."""
+    return [os.path.join(ROOT, program(name))]

@@ -7,13 +7,14 @@ import time
 
 from trial import ROOT, Folder, Gave, Different, holds, same, test
 
-FIGURE = "pub fn figure() -> [u8; 2] {\n    %s\n}\n"
+FIGURE = "pub fn figure() -> u8 {\n    %s\n}\n"
 PROGRAM = """\
-use libc::STDOUT_FILENO;
+use std::io;
 
-fn main() {
-    let line = figures::figure();
-    libc::write(STDOUT_FILENO, &line);
+fn main(rt: HostRuntime) -> io::Result<()> {
+    let figure = figures::figure();
+    println!(rt; "{figure}")?;
+    Ok(())
 }
 """
 
@@ -32,14 +33,14 @@ class Small(Folder):
         os.chmod(path, 0o755)
         shutil.copytree(os.path.join(ROOT, "python", "skelfora"), self.at("python", "skelfora"))
         shutil.copy(os.path.join(ROOT, "skelfora"), self.at("skelfora"))
-        self.put("crates.txt", "figures:\nlisting: figures libc\n")
+        self.put("crates.txt", "figures:\nlisting: figures\n")
         for crate in ("figures", "listing"):
             os.makedirs(self.at("crates", crate, "src"))
         self.put("crates/listing/src/main.rt", PROGRAM)
         self.write("7")
 
     def write(self, figure, beside=""):
-        self.put("crates/figures/src/lib.rt", FIGURE % f'*b"{figure}\\n"{beside}')
+        self.put("crates/figures/src/lib.rt", FIGURE % f"{figure}{beside}")
         self.put("crates/listing/stdout", figure + "\n")
 
     def busy(self):
@@ -76,7 +77,7 @@ def first_build(folder):
 def rebuilds(folder):
     small = BUILT[0] if BUILT else Small(folder.at("small"))
     if BUILT:
-        os.unlink(small.at("target/bin/listing"))
+        os.unlink(small.at("crates/listing/out/listing"))
     same(small.run("./skelfora", "list", data=b"").out, b"7\n", "before")
     small.write("8")
     gave = small.run("./skelfora", "list", data=b"")

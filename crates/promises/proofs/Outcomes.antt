@@ -297,7 +297,7 @@ tables-put-rows-once κ a r r' s s' h h' = h ∙ sym h'
 pub tables-taken-once : Once tables-taken.Post
 tables-taken-once κ a r r' s s' h h' = h ∙ sym h'
 
--- ---- bytes
+-- ---- octets
 
 pub too-few-once : Once too-few_lem.Post
 too-few-once κ a r r' s s' h h' = h ∙ sym h'
