@@ -4,6 +4,7 @@ from __future__ import annotations
 import argparse
 import contextlib
 import os
+import re
 import signal
 import sys
 import threading
@@ -16,12 +17,26 @@ from .faults import MISUSED, Fault
 Main = Callable[[list[str]], int]
 
 
+class Voice:
+    """Who speaks on standard error: the command that runs, or the package where none does; and whether it was started at the root, as
+    ./list, and calls the commands so."""
+
+    name = "skelfora"
+    at_root = False
+
+
+def called(text: str) -> str:
+    """A text that names commands, each as it was started: as skelfora list, or as ./list."""
+    return re.sub(r"\bskelfora (log|list|call|desk|marks|nightly|year|classroom|library)\b", r"./\1", text) if Voice.at_root else text
+
+
 class Parser(argparse.ArgumentParser):
     """Says in one line what is wrong with the words given."""
 
     def __init__(self, name: str, usage: str | None = None, **about: Any) -> None:
-        prog = f"skelfora {name}"
+        prog = called(f"skelfora {name}")
         formatter = argparse.RawDescriptionHelpFormatter
+        about = {key: called(text) for key, text in about.items()}
         super().__init__(prog=prog, usage=usage and f"{prog} {usage}", allow_abbrev=False, formatter_class=formatter, **about)
 
     def error(self, message: str) -> NoReturn:
@@ -29,12 +44,6 @@ class Parser(argparse.ArgumentParser):
 
     def print_help(self, file: Any = None) -> None:
         write(self.format_help().encode())
-
-
-class Voice:
-    """Who speaks on standard error: the command that runs, or the package where none does."""
-
-    name = "skelfora"
 
 
 class Command:
@@ -83,7 +92,7 @@ def unbroken() -> Iterator[None]:
 def say(text: str) -> None:
     """A line on standard error."""
     if sys.stderr is not None:
-        print(f"{Voice.name}: {text}", file=sys.stderr, flush=True)
+        print(f"{Voice.name}: {called(text)}", file=sys.stderr, flush=True)
 
 
 def write(data: bytes) -> None:

@@ -6,7 +6,7 @@ import importlib
 import sys
 
 from . import __version__
-from .command import Command, write
+from .command import Command, Voice, write
 from .faults import MISUSED, Fault
 
 # The commands in the order of a day's work, and what each does.
@@ -63,6 +63,16 @@ def itself(words: list[str]) -> int:
 def main() -> int:
     words = sys.argv[1:]
     if words and words[0] in DAY:
-        command: Command = importlib.import_module(f"skelfora.commands.{words[0]}").COMMAND
-        return command.run(words[1:])
+        return behind(words[0]).run(words[1:])
     return Command("skelfora", itself).run(words)
+
+
+def behind(name: str) -> Command:
+    command: Command = importlib.import_module(f"skelfora.commands.{name}").COMMAND
+    return command
+
+
+def at_root(name: str) -> int:
+    """A command of the door by its own name, as ./list at the root: it calls the commands so wherever it names them."""
+    Voice.at_root = True
+    return behind(name).run(sys.argv[1:])

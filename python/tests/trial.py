@@ -58,6 +58,7 @@ class Folder:
     """A folder that has the repository's commands, data and pages by links, so that what is written there touches nothing."""
 
     LINKS = ["skelfora", "python", "data", "docs", "crates", "target"]
+    LINKS += ["list", "log", "call", "desk", "marks", "nightly", "year", "library", "classroom"]
 
     def __init__(self, path):
         self.path = path

@@ -2,11 +2,25 @@
 // one line that the listing gives too. Reading is left to the library `calllog`.
 #![tactic(auto)]
 
+ghost use Rattle.std.specs.Prelude.{◌≤◌, length, IfOk};
+
 use std::io;
 use std::io::Read;
 
-// One byte more than the longest log has, as in the listing program.
-const LOG_ROOM: u64 = 36871;
+// Reads until the buffer is full or the input ends, and gives how many bytes it put at the start of the buffer, as in the listing program.
+fn read_full(from: &mut impl Read, buf: &mut [u8]) -> io::Result<usize>
+    ensures { IfOk result (λ n. n ≤ length buf.new) }
+{
+    let mut done = 0;
+    while done < buf.len() {
+        let n = from.read(&mut buf[done..])?;
+        if n == 0 {
+            break;
+        }
+        done += n;
+    }
+    Ok(done)
+}
 
 // One step, with a space before it where it is not the call's first.
 fn say_step(rt: &impl Print, step: u8, first: bool) -> io::Result<()> {
@@ -42,8 +56,8 @@ fn show(rt: &impl Print, log: &[u8]) -> io::Result<()> {
 }
 
 fn main(rt: HostRuntime) -> io::Result<()> {
-    // What is there beyond the room for a log stays unread, as in the listing program.
-    let mut log = Vec::new(rt.alloc());
-    rt.reader().take(LOG_ROOM).read_to_end(&mut log)?;
-    show(&rt, &log)
+    // One byte more than the longest log has, as in the listing program.
+    let mut log = [0u8; 36871];
+    let n = read_full(&mut rt.reader(), &mut log)?;
+    show(&rt, &log[..n])
 }

@@ -3,6 +3,8 @@
 // All that matters is in the library `report`.
 #![tactic(auto)]
 
+ghost use Rattle.std.specs.Prelude.{◌≤◌, length, IfOk};
+
 use report::Choice;
 use rules::Profile;
 use sets::Answer;
@@ -10,11 +12,20 @@ use std::env::{Env, FillError};
 use std::io;
 use std::io::Read;
 
-// One byte more than the longest log has: what is longer gets the number of these bytes (crates/calllog/proofs/Long.antt).
-const LOG_ROOM: u64 = 36871;
-
-// No listing is longer.
-const LISTING_ROOM: usize = 671799;
+// Reads until the buffer is full or the input ends, and gives how many bytes it put at the start of the buffer. It asks for no byte more.
+fn read_full(from: &mut impl Read, buf: &mut [u8]) -> io::Result<usize>
+    ensures { IfOk result (λ n. n ≤ length buf.new) }
+{
+    let mut done = 0;
+    while done < buf.len() {
+        let n = from.read(&mut buf[done..])?;
+        if n == 0 {
+            break;
+        }
+        done += n;
+    }
+    Ok(done)
+}
 
 // Writes the first n bytes. They are always there: no listing is longer than the buffer (crates/report/proofs/Longest.antt).
 fn write_first(rt: &impl Print, out: &[u8], n: usize) -> io::Result<()> {
@@ -30,13 +41,19 @@ fn list_into(rt: &impl Print, log: &[u8], profile: Profile, out: &mut [u8]) -> i
     write_first(rt, out, listed.length)
 }
 
-// Lists what is on standard input. What is there beyond the room for a log stays unread: the reader asks the system for no byte more.
-fn list(rt: &(impl Input + Print + Alloc), profile: Profile) -> io::Result<()> {
-    let mut log = Vec::new(rt.alloc());
-    rt.reader().take(LOG_ROOM).read_to_end(&mut log)?;
-    // On the heap, since a function pays at its start for the size of its locals.
-    let mut out = vec![in rt.alloc(); 0u8; LISTING_ROOM]?;
-    list_into(rt, &log, profile, &mut out)
+// Lists a log.
+fn list_log(rt: &impl Print, log: &[u8], profile: Profile) -> io::Result<()> {
+    // No listing is longer.
+    let mut out = [0u8; 671799];
+    list_into(rt, log, profile, &mut out)
+}
+
+// Lists what is on standard input. What is there beyond the room for a log stays unread.
+fn list(rt: &(impl Input + Print), profile: Profile) -> io::Result<()> {
+    // One byte more than the longest log has: what is longer gets the number of these bytes (crates/calllog/proofs/Long.antt).
+    let mut log = [0u8; 36871];
+    let n = read_full(&mut rt.reader(), &mut log)?;
+    list_log(rt, &log[..n], profile)
 }
 
 // The one line of a refusal, with nothing read.
