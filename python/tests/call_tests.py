@@ -129,3 +129,4 @@ def helps(folder):
     os.makedirs(folder.at("deep"))
     with_names(folder)
     same(folder.shell("cd deep && ../skelfora call light ../two.log Request Waive Assign >/dev/null"), Gave(0, b"", ""), "a link")
+    same(folder.shell("cd deep && ../call light ../two.log Request Waive Assign >/dev/null"), Gave(0, b"", ""), "a link to ./call")

@@ -111,6 +111,8 @@ def helps(folder):
     os.symlink(os.path.join(ROOT, "skelfora"), folder.at("elsewhere"))
     os.makedirs(folder.at("deep"))
     same(folder.shell("cd deep && ../elsewhere list ../data/L.log"), Gave(0, LISTING, ""), "a link")
+    os.symlink(os.path.join(ROOT, "list"), folder.at("lister"))
+    same(folder.shell("cd deep && ../lister ../data/L.log"), Gave(0, LISTING, ""), "a link to ./list")
 
 
 @test("a refused log: standard output as 01 has it, one sentence on standard error, exit status 1")
