@@ -7,3 +7,6 @@ returns-then-count-eq0 c = search (choosing, rules)
 
 pub returns-then-count-gt1 : goal.returns-then-count-gt1
 returns-then-count-gt1 c = search (choosing, rules)
+
+pub returns : goal.returns
+returns c = search (choosing, rules)
