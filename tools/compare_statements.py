@@ -1,16 +1,15 @@
 #!/usr/bin/env python3
-"""Lays the statements of proofs/ beside those of another checkout: what this page's port changed of a lemma or a theorem but its proof.
+"""Lays the statements of proofs/ beside those of another checkout: what a port changed of a lemma or a theorem but its proof.
 
-    tools/compare_statements.py OTHER    OTHER is a checkout of LANDED after tools/respell.py before, the kit's port.py, tools/respell.py after
+    tools/compare_statements.py OTHER    OTHER is a checkout of docs/PORT.md's LANDED, brought over as that page says
 
-It prints each declaration of crates/*/proofs/*.antt, function folders aside, whose signature is not the same there, and those that are gone or new.
+It prints each declaration of crates/*/proofs/*.antt, function folders aside, whose signature is not the same there, and those that are
+gone or new.
 """
 import glob
 import os
 import re
 import sys
-
-STARTS = re.compile(r"^(\s*)((?:abbrev |unfoldable |pub )*(?:record |data |ruleset )?)([^\s:(){}=]+)((?:\s*[({][^=]*?[)}])*)\s*(:|=)")
 
 
 def declared(path):
