@@ -87,6 +87,10 @@ module _ (rest rest' : Set) (r : Bool) (hr : r ≡ is_empty rest) (hn : r ≡ fa
       some-ext width _ _ (λ u l. ap (λ (t : Bool). t and q u) (passed-turn all h u l))
       ∙ some_more width (passed all rest) q (least_below width (mem rest)) (λ t. least-low)
 
+-- an iterator over the members has fewer left
+pub taken-fewer : (rest rest' : Set) (k : ℕ) → Takes rest k rest' → count_below width (mem rest') < count_below width (mem rest)
+taken-fewer rest rest' k t = fewer-left rest rest' _ refl t.0 t.2
+
 -- ---- rows that gain a set at each member passed
 
 abbrev pub Shared : List ℕ → Set → Set → List ℕ → Set → Type 0
@@ -168,4 +172,4 @@ module _ (rows : List ℕ) (all : Set) where
       → out ≡ those (in_some rows (mem whole))
   union-whole out rest whole ho n same = union-end out rest _ ho refl n ∙ ap (λ (s : Set). those (in_some rows (mem s))) same
 
-pub ruleset members = (share-start, share-turn, share-end, union-start, union-turn, union-end, union-taken, union-whole, fewer-left)
+pub ruleset members = (share-start, share-turn, share-end, union-start, union-turn, union-end, union-taken, union-whole, fewer-left, taken-fewer)
