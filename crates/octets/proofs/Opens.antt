@@ -1,19 +1,14 @@
 -- What bytes open with, place by place. Assumes nothing.
 use mathlib.Core.Path.{◌≡◌, refl, ap₂, ◌∙◌}
-use mathlib.Core.Bool.{Bool, true, false, ◌&&◌}
+use mathlib.Core.Bool.{true, false}
 use mathlib.Core.List.{List, [], ◌∷◌}
 use Prim.Native.Nat.{ℕ}
 use lib.Dec.{T, eqb, eqb→eq}
 use lib.ListN.{length, take}
 use Rattle.std.specs.List.{starts_with}
 use Rattle.sets.specs.Tests.{◌and◌}
-use Rattle.sets.proofs.Tests.{and_l, and_r, eqb-sym}
+use Rattle.sets.proofs.Tests.{and_l, and_r, and_is, eqb-sym}
 use Rattle.octets.specs.Opens.{opens_with}
-
-and_is : (a b : Bool) → (a && b) ≡ (a and b)
-unfolding ◌and◌
-and_is true b = refl
-and_is false b = refl
 
 -- the library's test is the same
 pub opens-starts : (mark bytes : List ℕ) → starts_with eqb bytes mark ≡ opens_with mark bytes

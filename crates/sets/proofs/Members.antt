@@ -1,19 +1,19 @@
 -- Laws of sets by their members, and the machine's operations as comprehensions. Assumes nothing.
 use mathlib.Core.Path.{◌≡◌, refl, sym, ap, ap₂, ◌∙◌, subst}
-use mathlib.Core.Bool.{Bool, true, false}
+use mathlib.Core.Bool.{Bool, true, false, ◌&&◌}
 use mathlib.Core.Logic.{◌⊎◌, inl, inr}
 use Prim.Native.Nat.{ℕ, suc, ◌^◌, ◌+◌, ◌-◌, ◌*◌, ◌/◌, ◌%◌, ◌≤◌, ◌<◌}
 use native.Mathlib.Omega.{arith}
 use native.Mathlib.Nat.{lt_of_le_of_lt}
 use borrow.Author.Tests.{ne_eqb, eqb-true, lt-ltb, le-ltb, ltb-true, ltb-false}
-use lib.Dec.{T, eqb, ltb}
+use lib.Dec.{T, eqb, eqb→eq, ltb}
 use lib.Pow.{pow-lt, pow_pos}
 use lib.Bits.{bit_and, bit_or, and_le_l, and_le_r, and_mask, or_lt, and_lt, or_add_and, or_zero_l}
 use lib.Count.{ones, count_trailing_zeros, count_leading_zeros, leading_of_zero, leading_top}
 use Rattle.sets.specs.Tests.{◌and◌, ◌or◌, non}
 use Rattle.sets.specs.Members.{width, word, bit, bits_of, mem, those, no_set, some_below, every_below, count_below, least_below, end_below, is_empty, within, Takes}
 use Rattle.sets.specs.declared.set.Set.{Set}
-use Rattle.sets.proofs.Tests.{non-or, non-non, and-true, and-false, false-and, and_l, and_r, and_i, eqb_of, T-ext, T→true, true→T, F→false, false→F, non-false, non-i, non-e, imp-i, imp-e, split, either}
+use Rattle.sets.proofs.Tests.{non-or, non-non, and-true, and-false, false-and, and_is, and_l, and_r, and_i, eqb_of, T-ext, T→true, true→T, F→false, false→F, non-false, non-i, non-e, imp-i, imp-e, split, either}
 use Rattle.sets.proofs.Bits.{is-bits_of, bits_of-ext, bits_of-bit, bits_of-lt, bit-bits_of, bit-and, bit-or, bit-non, bit-above, bit-zero, bit-pow, bit-top, bit-ones, one_shl}
 use Rattle.sets.proofs.Below.{some-ext, every-i, every-e, every-ext, every-split, non-some, none-zero, count-ext, count_less, count-split, least-is, least_lt, least-ext, least-here, least-past, end-past, end-only, ones-count, trailing-least, cleared}
 
@@ -413,6 +413,23 @@ module _ (s : Set) (a : ℕ) where
   has-high l =
       let e : word + (a - word) ≡ a = omega arith in
       ap (λ (n : ℕ). eqb n 1) (and_mask (s.high / 2 ^ (a - word)) 1) ∙ sym (mem-high s (a - word)) ∙ ap (mem s) e
+
+-- two sets of the code are equal where each is within the other
+pub equal-within : (s t : Set) → Fits s → Fits t → (eqb s.low t.low && eqb s.high t.high) ≡ (within s t and within t s)
+equal-within s t fs ft =
+    and_is (eqb s.low t.low) (eqb s.high t.high)
+    ∙ T-ext (eqb s.low t.low and eqb s.high t.high) (within s t and within t s)
+    (λ e.
+    let low = eqb→eq s.low t.low (and_l _ _ e) in
+    let high = eqb→eq s.high t.high (and_r _ _ e) in
+    let same : s ≡ t = λ i. record { low = low i; high = high i } in
+    and_i _ _ (within-i s t (λ a l m. subst (λ (u : Set). T (mem u a)) same m)) (within-i t s (λ a l m. subst (λ (u : Set). T (mem u a)) (sym same) m)))
+    (λ w.
+    let same : s ≡ t =
+        sym (those-mem s fs)
+        ∙ those-ext (mem s) (mem t) (λ a l. T-ext (mem s a) (mem t a) (within-e s t (and_l _ _ w) a l) (within-e t s (and_r _ _ w) a l))
+        ∙ those-mem t ft in
+    and_i _ _ (eqb_of (ap (λ (u : Set). u.low) same)) (eqb_of (ap (λ (u : Set). u.high) same)))
 
 -- ---- one activity, and all below a number
 
