@@ -1,6 +1,6 @@
 -- The set of enabled activities, gathered from the events that are included; and a marking that is true has that very set. Assumes nothing.
 use mathlib.Core.Path.{◌≡◌, refl, sym, ap, ap₂, ◌∙◌, subst}
-use mathlib.Core.Bool.{Bool, true, false}
+use mathlib.Core.Bool.{Bool, true, false, ◌&&◌}
 use Prim.Native.Nat.{ℕ, ◌≤◌, ◌<◌}
 use native.Mathlib.Omega.{arith}
 use borrow.Author.Tests.{lt-ltb}
@@ -13,7 +13,7 @@ use Rattle.sets.specs.declared.answer.Answer.TheVariants.{Done, NoEvent, NotIncl
 use Rattle.sets.proofs.Tests.{T-ext, T-eq, and_l, and_r, and_i, T→true, true→T, true-and}
 use Rattle.sets.proofs.Below.{some-ext, end-past}
 use Rattle.sets.proofs.Loops.{Gathered}
-use Rattle.sets.proofs.Members.{Whole, those-ext, those-of, within-i, within-e, mem-those}
+use Rattle.sets.proofs.Members.{Fits, Whole, equal-within, those-ext, those-of, within-i, within-e, mem-those}
 use Rattle.sets.proofs.MadeSets.{joined, is-those}
 use Rattle.engine.specs.declared.marking.State.{State}
 use Rattle.engine.specs.declared.marking.Marking.{Marking}
@@ -107,11 +107,8 @@ joined_free r s out left one u e t hl ht ho hu =
 pub marked-by_lem : (events : Set) (r : Relations) (s : State) (u : Set) → u ≡ enabled_set events r s → marking_of s u ≡ marked events r s
 marked-by_lem events r s u h j = marking_of s (h j)
 
-pub true-in : (e all x : Set) (t : Bool) → all ≡ x → t ≡ within e all → t ≡ within e x
-true-in e all x t h k = k ∙ ap (within e) h
-
-pub true_of : (e all x : Set) (t : Bool) → all ≡ x → t ≡ within all e → t ≡ within x e
-true_of e all x t h k = k ∙ ap (λ (u : Set). within u e) h
+pub same_true : (e all x : Set) (t : Bool) → Fits e → Fits all → all ≡ x → t ≡ (eqb e.low all.low && eqb e.high all.high) → t ≡ (within e x and within x e)
+same_true e all x t fe fa h k = k ∙ equal-within e all fe fa ∙ (λ j. within e (h j) and within (h j) e)
 
 -- ---- a true marking
 

@@ -1,7 +1,7 @@
 -- What lies below a word: a replay that is cut there after each step is that of relations whose gains are cut, and where nothing is gained above, of
 -- the relations themselves. Assumes nothing.
 use mathlib.Core.Path.{◌≡◌, refl, sym, ap, ◌∙◌, subst}
-use mathlib.Core.Bool.{Bool, true, false}
+use mathlib.Core.Bool.{Bool, true, false, not}
 use mathlib.Core.List.{List, [], ◌∷◌}
 use Prim.Native.Nat.{ℕ, ◌+◌, ◌≤◌, ◌<◌}
 use native.Mathlib.Numerals.{add-one}
@@ -42,9 +42,6 @@ few-by s low u hl hu = hu ∙ those-of low (λ a. ltb a word) (λ a t. mem s a a
 pub few-in-by : (s m : State) (x p i : Set) → x ≡ few_of s.executed → p ≡ few_of s.pending → i ≡ few_of s.included → m ≡ state_of x p i
     → m ≡ few_in s
 few-in-by s m x p i hx hp hi hm = hm ∙ (λ j. state_of (hx j) (hp j) (hi j))
-
-pub next-few-by : (n s m : State) → n ≡ s → m ≡ few_in n → m ≡ few_in s
-next-few-by n s m h k = k ∙ ap few_in h
 
 pub gained-by_lem : (tables : List ℕ) (e : ℕ) (r i u : Set) → r ≡ row_at (table_at tables 1) e → i ≡ row_at (table_at tables 2) e
     → u ≡ those (λ a. mem r a or mem i a) → u ≡ those (λ a. (in_tables tables).responses e a or (in_tables tables).includes e a)
@@ -127,6 +124,17 @@ low-cut s m h = subst Low (sym h) (record { executed = part s.executed; pending 
     part : (u : Set) (a : ℕ) → T (mem (few_of u) a) → T (ltb a word)
     part u a t = and_r _ _ (those-e (λ b. mem u b and ltb b word) a t).1
 
+-- the form that a constant parameter says
+abbrev pub form_of : ℕ → Bool
+form_of n = not (eqb n 0)
+
+-- a state that a form holds
+abbrev pub Holds : Bool → State → Type 0
+Holds wide s = wide ≡ false → Low s
+
+pub form-cut : (wide : Bool) (s m : State) → m ≡ state_for wide s → Holds wide m
+form-cut wide s m h z = low-cut s m (h ∙ ap (λ (b : Bool). state_for b s) z)
+
 module _ (q : Relations) (events : Set) where
   -- a step from a state below a word: what is enabled goes by the conditions alone
   enabled-same : (s : State) (e : ℕ) → enabled events q s e ≡ enabled events (few_gains q) s e
@@ -183,22 +191,35 @@ module _ (q : Relations) (events : Set) where
 
   module _ (trace : List ℕ) where
     -- one turn further, and either end
-    pub run-few : (s : State) (n : ℕ) (R : Replayed) (a : Answer) (t : Bool) (s' : State) → n < length trace → a ≡ enabled events q s (get_or trace n 0)
+    run-few : (s : State) (n : ℕ) (R : Replayed) (a : Answer) (t : Bool) (s' : State) → n < length trace → a ≡ enabled events q s (get_or trace n 0)
         → t ≡ is_done a → t ≡ true → s' ≡ few_in (after q s (get_or trace n 0)) → Low s
         → replay_from events (few_gains q) s n (drop n trace) ≡ R → replay_from events (few_gains q) s' (n + 1) (drop (n + 1) trace) ≡ R
     run-few s n R a t s' l ha ht z hs low inv =
         let done = true→T (sym (held _ t (ht ∙ ap is_done ha) z)) in
         run-next events (few_gains q) s n trace R a t l (ha ∙ enabled-same s (get_or trace n 0)) ht s' z (hs ∙ next-same s (get_or trace n 0) low done) inv
 
-    pub few-stop : (s : State) (n : ℕ) (R : Replayed) (a : Answer) (t : Bool) → n < length trace → a ≡ enabled events q s (get_or trace n 0) → t ≡ is_done a
+    few-stop : (s : State) (n : ℕ) (R : Replayed) (a : Answer) (t : Bool) → n < length trace → a ≡ enabled events q s (get_or trace n 0) → t ≡ is_done a
         → t ≡ false → replay_from events (few_gains q) s n (drop n trace) ≡ R
         → walked_of (ending a n (marked events (few_gains q) s) false) ≡ walked_of R
     few-stop s n R a t l ha ht z inv = walk-stop events (few_gains q) s n trace R a t l (ha ∙ enabled-same s (get_or trace n 0)) ht z inv
 
-    -- what was replayed from a state that is the one cut
-    pub walk_from : (m s : State) (w : Walked) → s ≡ few_in m → w ≡ walked_of (replay_from events (few_gains q) s 0 trace)
-        → w ≡ walked_of (replay_from events (few_gains q) (few_in m) 0 trace)
-    walk_from m s w h hw = hw ∙ ap (λ (k : State). walked_of (replay_from events (few_gains q) k 0 trace)) h
+    -- the same in either form
+    pub form-turn : (wide : Bool) (s : State) (n : ℕ) (R : Replayed) (a : Answer) (t : Bool) (m s' : State) → n < length trace
+        → a ≡ enabled events q s (get_or trace n 0) → t ≡ is_done a → t ≡ true → m ≡ after q s (get_or trace n 0) → s' ≡ state_for wide m → Holds wide s
+        → replay_from events (gains_for wide q) s n (drop n trace) ≡ R → replay_from events (gains_for wide q) s' (n + 1) (drop (n + 1) trace) ≡ R
+    form-turn true s n R a t m s' l ha ht z hm hs low inv = run-next events q s n trace R a t l ha ht s' z (hs ∙ hm) inv
+    form-turn false s n R a t m s' l ha ht z hm hs low inv = run-few s n R a t s' l ha ht z (hs ∙ ap few_in hm) (low refl) inv
+
+    pub form-stop : (wide : Bool) (s : State) (n : ℕ) (R : Replayed) (a : Answer) (t : Bool) → n < length trace
+        → a ≡ enabled events q s (get_or trace n 0) → t ≡ is_done a → t ≡ false → replay_from events (gains_for wide q) s n (drop n trace) ≡ R
+        → walked_of (ending a n (marked events (gains_for wide q) s) false) ≡ walked_of R
+    form-stop true s n R a t l ha ht z inv = walk-stop events q s n trace R a t l ha ht z inv
+    form-stop false s n R a t l ha ht z inv = few-stop s n R a t l ha ht z inv
+
+    -- what was replayed from a state that is the one held
+    pub form_from : (wide : Bool) (m s : State) (w : Walked) → s ≡ state_for wide m → w ≡ walked_of (replay_from events (gains_for wide q) s 0 trace)
+        → w ≡ walked_of (replay_from events (gains_for wide q) (state_for wide m) 0 trace)
+    form_from wide m s w h hw = hw ∙ ap (λ (k : State). walked_of (replay_from events (gains_for wide q) k 0 trace)) h
 
     -- the cut leaves nothing out where all lies below a word
     pub few-walk : (m : State) → Fits m.executed → Fits m.pending → Fits m.included → T (state_within (those (λ a. ltb a word)) m and gains_few q)
@@ -218,15 +239,6 @@ module _ (q : Relations) (events : Set) where
         → t ≡ (state_within (those (λ a. ltb a word)) m and gains_few q) → t ≡ true → w ≡ walked_of (replay_from events (few_gains q) (few_in m) 0 trace)
         → w ≡ walked_of (replay_from events q m 0 trace)
     walk-cut m t w fx fp fi ht y hw = hw ∙ ap walked_of (few-walk m fx fp fi (true→T (sym ht ∙ y)))
-
--- in the form that was asked for
-pub walk-wide : (wide : Bool) (events : Set) (q : Relations) (s : State) (σ : List ℕ) (w : Walked) → wide ≡ true → w ≡ walked_of (replay_from events q s 0 σ)
-    → w ≡ walked_of (replay_from events (gains_for wide q) (state_for wide s) 0 σ)
-walk-wide wide events q s σ w h e = e ∙ ap (λ (b : Bool). walked_of (replay_from events (gains_for b q) (state_for b s) 0 σ)) (sym h)
-
-pub walk-narrow : (wide : Bool) (events : Set) (q : Relations) (s : State) (σ : List ℕ) (w : Walked) → wide ≡ false
-    → w ≡ walked_of (replay_from events (few_gains q) (few_in s) 0 σ) → w ≡ walked_of (replay_from events (gains_for wide q) (state_for wide s) 0 σ)
-walk-narrow wide events q s σ w h e = e ∙ ap (λ (b : Bool). walked_of (replay_from events (gains_for b q) (state_for b s) 0 σ)) (sym h)
 
 -- a graph of few activities lies below a word
 module _ (g : Graph) (w : T (graph_within g)) (few : g.head.activities ≤ word) where

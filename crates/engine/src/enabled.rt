@@ -25,10 +25,8 @@ fn free(relations: &Relations, s: State, end: u8) -> Set
     ensures { result ≡ those (λ a. ltb a end and non (waits (in_tables relations.now) s a)) }
 {
     let mut out = Set::EMPTY;
-    let mut i: u8 = 0;
-    while i < end {
+    for i in 0..end {
         out = with_free(relations, s, Activity(i), out);
-        i += 1;
     }
     out
 }
@@ -62,9 +60,5 @@ pub fn marked(events: Set, relations: &Relations, s: State) -> Marking
 pub fn is_true(events: Set, relations: &Relations, m: Marking) -> bool
     ensures { result ≡ rules.is_true events (in_tables relations.now) m }
 {
-    let all = enabled_set(events, relations, m.state);
-    if !m.enabled.is_within(all) {
-        return false;
-    }
-    all.is_within(m.enabled)
+    m.enabled == enabled_set(events, relations, m.state)
 }

@@ -34,34 +34,6 @@ pub struct Walked {
     pub accepting: bool,
 }
 
-// A whole trace on lent relations, from a state.
-fn walk_wide<'a>(events: Set, relations: &'a Relations, opening: State, trace: &'a [u8]) -> Walked
-    ensures { result ≡ walked_of (replay_from events (in_tables relations.now) opening 0 trace.now) }
-{
-    let mut s = opening;
-    let mut at: usize = 0;
-    while at < trace.len() {
-        let a = Activity(trace[at]);
-        let answer = step::ask(events, relations, s, a);
-        if !answer.is_done() {
-            return Walked {
-                answer,
-                place: Place(at),
-                state: s,
-                accepting: false,
-            };
-        }
-        s = step::next(relations, s, a);
-        at += 1;
-    }
-    Walked {
-        answer: Answer::Done,
-        place: Place(at),
-        state: s,
-        accepting: step::is_accepting(s),
-    }
-}
-
 // What a step adds to pending and included.
 fn gained(relations: &Relations, a: Activity) -> Set
     ensures { result ≡ those (λ b. (in_tables relations.now).responses a.0 b or (in_tables relations.now).includes a.0 b) }
@@ -75,10 +47,8 @@ fn gains_few(relations: &Relations) -> bool
     ensures { result ≡ gains_few (in_tables relations.now) }
 {
     let mut all = Set::EMPTY;
-    let mut i: u8 = 0;
-    while i < WORD {
+    for i in 0..WORD {
         all = all.union(gained(relations, Activity(i)));
-        i += 1;
     }
     all.is_within(Set::below(WORD))
 }
@@ -93,22 +63,29 @@ fn is_few(relations: &Relations, opening: State) -> bool
     gains_few(relations)
 }
 
-// What of the state after a step lies below 64.
-fn next_few(relations: &Relations, s: State, a: Activity) -> State
-    ensures { result ≡ few_in (after (in_tables relations.now) s a.0) }
+// What a form holds of a state: all, or what lies below 64.
+fn held<const WIDE: bool>(s: State) -> State
+    ensures { result ≡ state_for WIDE s }
 {
-    marking::few_in(step::next(relations, s, a))
+    if WIDE {
+        return s;
+    }
+    marking::few_in(s)
 }
 
-// The same from what of a state lies below 64 and with what steps add there: the state is cut after each step, so that
-// the loop goes on one word (02, 10/12).
-fn walk_few<'a>(events: Set, relations: &'a Relations, opening: State, trace: &'a [u8]) -> Walked
-    ensures { result ≡ walked_of (replay_from events (few_gains (in_tables relations.now)) (few_in opening) 0 trace.now) }
+// A whole trace on lent relations, from a state. In the narrow form the state is cut after each step, so that the loop goes on one word
+// (02, 10/12): a constant parameter, since the compiler then makes two loops.
+fn walk_form<'a, const WIDE: bool>(
+    events: Set,
+    relations: &'a Relations,
+    opening: State,
+    trace: &'a [u8],
+) -> Walked
+    ensures { result ≡ walked_of (replay_from events (gains_for WIDE (in_tables relations.now)) (state_for WIDE opening) 0 trace.now) }
 {
-    let mut s = marking::few_in(opening);
-    let mut i: usize = 0;
-    while i < trace.len() {
-        let a = Activity(trace[i]);
+    let mut s = held::<WIDE>(opening);
+    for (i, &event) in trace.iter().enumerate() {
+        let a = Activity(event);
         let answer = step::ask(events, relations, s, a);
         if !answer.is_done() {
             return Walked {
@@ -118,12 +95,11 @@ fn walk_few<'a>(events: Set, relations: &'a Relations, opening: State, trace: &'
                 accepting: false,
             };
         }
-        s = next_few(relations, s, a);
-        i += 1;
+        s = held::<WIDE>(step::next(relations, s, a));
     }
     Walked {
         answer: Answer::Done,
-        place: Place(i),
+        place: Place(trace.len()),
         state: s,
         accepting: step::is_accepting(s),
     }
@@ -134,9 +110,9 @@ pub fn walk<'a>(events: Set, relations: &'a Relations, opening: State, trace: &'
     ensures { result ≡ walked_of (replay_from events (in_tables relations.now) opening 0 trace.now) }
 {
     if is_few(relations, opening) {
-        return walk_few(events, relations, opening, trace);
+        return walk_form::<false>(events, relations, opening, trace);
     }
-    walk_wide(events, relations, opening, trace)
+    walk_form::<true>(events, relations, opening, trace)
 }
 
 // The same in a form, for callers that know it, as a reader of a file does: of a graph with A up to 64 the narrow one leaves nothing out.
@@ -150,9 +126,9 @@ pub fn walk_in<'a>(
     ensures { result ≡ walked_of (replay_from events (gains_for wide (in_tables relations.now)) (state_for wide opening) 0 trace.now) }
 {
     if wide {
-        return walk_wide(events, relations, opening, trace);
+        return walk_form::<true>(events, relations, opening, trace);
     }
-    walk_few(events, relations, opening, trace)
+    walk_form::<false>(events, relations, opening, trace)
 }
 
 // The same, with the marking. Its set of enabled activities is worked out once, at the end (02, 6/12).
@@ -161,13 +137,10 @@ pub fn run<'a>(head: Head, relations: &'a Relations, trace: &'a [u8]) -> Replaye
 {
     let opening = head.opening.state;
     let walked = walk(head.events, relations, opening, trace);
-    let answer = walked.answer;
-    let place = walked.place;
-    let state = walked.state;
     Replayed {
-        answer,
-        place,
-        marking: enabled::marked(head.events, relations, state),
+        answer: walked.answer,
+        place: walked.place,
+        marking: enabled::marked(head.events, relations, walked.state),
         accepting: walked.accepting,
     }
 }

@@ -277,6 +277,24 @@ one_table rows a s =
     let high : 0 * row_words + a + width ≡ width + a = omega arith in
     λ i. when ltb a width then set (set rows (low i) s.low) (high i) s.high else rows
 
+-- rows by themselves are read and written as table 0
+module _ (rows : List ℕ) (long : length rows ≡ row_words) where
+  table-alone : table_at rows 0 ≡ rows
+  unfolding table_at
+  table-alone = take_all row_words rows (omega (arith, long))
+
+  pub row-alone : (a : ℕ) (s : Set) → s ≡ row_at (table_at rows 0) a → s ≡ row_at rows a
+  row-alone a s h = h ∙ ap (λ (l : List ℕ). row_at l a) table-alone
+
+  pub join-alone : (a : ℕ) (s : Set) (out : List ℕ) → out ≡ gained_in rows 0 a s → out ≡ with_row rows a (those (λ b. mem (row_at rows a) b or mem s b))
+  join-alone a s out h =
+      h ∙ ap (λ (l : List ℕ). with_row_in rows 0 a (those (λ b. mem (row_at l a) b or mem s b))) table-alone ∙ one_table rows a _
+
+pub put-alone : (rows : List ℕ) (a : ℕ) (s : Set) (out : List ℕ) → out ≡ with_row_in rows 0 a s → out ≡ with_row rows a s
+put-alone rows a s out h = h ∙ one_table rows a s
+
+pub ruleset alone = (row-alone, join-alone, put-alone)
+
 -- rows that were put down row by row are there
 rows-there : (rows : List ℕ) (m : ℕ) → m ≤ width → (a : ℕ) → a < m → row_at (with_rows_in no_rows 0 rows m) a ≡ row_at rows a
 unfolding with_rows_in

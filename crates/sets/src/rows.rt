@@ -1,5 +1,5 @@
-// Rows of sets, one for each activity: how a relation is kept. Only these functions read or write the numbers, so a wider
-// set changes this file and set.rt alone.
+// Rows of sets, one for each activity: how a relation is kept. Only `tables` reads or writes the numbers, so a wider set changes set.rt and
+// tables.rt alone.
 ghost use Rattle.std.specs.Prelude.{◌≡◌};
 ghost use Rattle.sets.specs.Tests.{◌and◌, ◌or◌, non};
 ghost use Rattle.sets.specs.Members.{mem, those};
@@ -7,6 +7,7 @@ ghost use Rattle.sets.specs.Rows.{Relation, no_rows, row_at, with_row, rows_of, 
 
 use crate::activity::{Activity, WIDTH};
 use crate::set::Set;
+use crate::tables;
 
 // How many words the rows of one relation are: the low words of all rows, then the high ones.
 pub const WORDS: usize = WIDTH * 2;
@@ -20,46 +21,28 @@ pub fn empty() -> Rows
     [0; WORDS]
 }
 
+// Rows by themselves are read and written as the first of several tables.
+const ALONE: u8 = 0;
+
 // The activity's row; empty past the last.
 pub fn row(rows: &Rows, a: Activity) -> Set
     ensures { result ≡ row_at rows.now a.0 }
 {
-    let i = a.0 as usize;
-    if i < WIDTH {
-        Set {
-            low: rows[i],
-            high: rows[WIDTH + i],
-        }
-    } else {
-        Set::EMPTY
-    }
+    tables::row(rows, ALONE, a)
 }
 
 // Puts a set into the activity's row; past the last row nothing changes.
 pub fn put(rows: &mut Rows, a: Activity, s: Set)
     ensures { rows.new ≡ with_row rows.old a.0 s }
 {
-    let i = a.0 as usize;
-    if i < WIDTH {
-        rows[i] = s.low;
-        rows[WIDTH + i] = s.high;
-    }
+    tables::put(rows, ALONE, a, s);
 }
 
 // The activity's row gains the members of a set.
 pub fn join(rows: &mut Rows, a: Activity, s: Set)
     ensures { rows.new ≡ with_row rows.old a.0 (those (λ b. mem (row_at rows.old a.0) b or mem s b)) }
 {
-    let i = a.0 as usize;
-    if i < WIDTH {
-        let old = Set {
-            low: rows[i],
-            high: rows[WIDTH + i],
-        };
-        let new = old.union(s);
-        rows[i] = new.low;
-        rows[WIDTH + i] = new.high;
-    }
+    tables::join(rows, ALONE, a, s);
 }
 
 // The activity's row loses the members of a set.
@@ -74,10 +57,8 @@ pub fn lose(rows: &mut Rows, a: Activity, gone: Set)
 fn share(rows: &mut Rows, members: Set, gain: Set)
     ensures { (r : Relation) → rows.old ≡ rows_of r → rows.new ≡ rows_of (λ a x. r a x or mem members a and mem gain x) }
 {
-    let mut rest = members;
-    while !rest.is_empty() {
-        join(rows, rest.least(), gain);
-        rest = rest.without_least();
+    for a in members.members() {
+        join(rows, a, gain);
     }
 }
 
@@ -86,11 +67,9 @@ pub fn turned(rows: &Rows) -> Rows
     ensures { result ≡ rows_of (turned rows.now) }
 {
     let mut out = empty();
-    let mut x = 0;
-    while x < Activity::LIMIT {
+    for x in 0..Activity::LIMIT {
         let members = row(rows, Activity(x));
         share(&mut out, members, Set::one(Activity(x)));
-        x += 1;
     }
     out
 }

@@ -1,11 +1,7 @@
 use borrow.Author.Rules.{rules}
-use Rattle.sets.proofs.Ways.{conjunction}
 use Rattle.engine.specs.Enabled.{is_true}
-use Rattle.engine.proofs.Enabling.{true-in, true_of}
+use Rattle.engine.proofs.Enabling.{same_true}
 use Rattle.engine.proofs.enabled.is_true.Goals as goal
 
-pub returns-then-not-is_within : goal.returns-then-not-is_within
-returns-then-not-is_within c = unfold is_true in search (conjunction, true-in, rules)
-
 pub returns : goal.returns
-returns c = unfold is_true in search (conjunction, true-in, true_of, rules)
+returns c = unfold is_true in search (same_true, rules)

@@ -1,4 +1,4 @@
-use Prim.Native.Nat.{◌-◌, ◌≤◌}
+use Prim.Native.Nat.{◌≤◌}
 use Rattle.sets.specs.Tables.{table_at}
 use Rattle.sets.proofs.Ways.{passed}
 use Rattle.engine.specs.Relations.{relation_count}
@@ -7,6 +7,3 @@ use Rattle.engine.proofs.judge.relations_within.Given as goal
 
 abbrev pub invariant-loop-kind : goal.invariant-loop-kind
 invariant-loop-kind l = (l.kind ≤ relation_count) × passed (λ k. rows_within l.events (table_at l.relations k)) l.kind
-
-abbrev pub decreases-loop-kind : goal.decreases-loop-kind
-decreases-loop-kind l = relation_count - l.kind

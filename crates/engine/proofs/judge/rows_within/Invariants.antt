@@ -1,4 +1,4 @@
-use Prim.Native.Nat.{◌-◌, ◌≤◌}
+use Prim.Native.Nat.{◌≤◌}
 use Rattle.sets.specs.Members.{width}
 use Rattle.sets.specs.Rows.{row_at}
 use Rattle.sets.specs.Tables.{table_at}
@@ -8,6 +8,3 @@ use Rattle.engine.proofs.judge.rows_within.Given as goal
 
 abbrev pub invariant-loop-i : goal.invariant-loop-i
 invariant-loop-i l = (l.i ≤ width) × passed (λ a. row_within l.events a (row_at (table_at l.relations l.kind) a)) l.i
-
-abbrev pub decreases-loop-i : goal.decreases-loop-i
-decreases-loop-i l = width - l.i
