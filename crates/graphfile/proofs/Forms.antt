@@ -20,7 +20,7 @@ use Rattle.octets.specs.Sets.{set_length, set_at}
 use Rattle.octets.specs.Editions.{edition_for, edition_in}
 use Rattle.graphfile.specs.Layout.{wide_for, activities_place, events_place, executed_place, entries_place, head_length, rows_length}
 use Rattle.octets.specs.Editions.{wide_in}
-use Rattle.graphfile.specs.Layout.{events_in, state_at, state_in, marking_at, head_at, head_in, offset_in, count_in, row_place, key_in, row_in}
+use Rattle.graphfile.specs.Layout.{state_at, state_in, marking_at, head_at, head_in, offset_in, count_in, row_place, key_in, row_in}
 use Rattle.graphfile.specs.Markings.{marking_length}
 use Rattle.graphfile.specs.Heads.{lone_head_length, wide_head, head_from}
 use Rattle.graphfile.proofs.RowLengths.{set-most, rows-suc, rows-le, rows-most}
@@ -182,9 +182,6 @@ key-before bytes first j n l =
     let less : first + j - 1 ≤ first + j = omega arith in
     omega (arith, rows-le (wide_in bytes) (first + j - 1) (first + j) less)
 
-pub events-found : (bytes : List ℕ) (w : Bool) (events : Set) → w ≡ wide_in bytes → events ≡ set_at w bytes events_place → events ≡ events_in bytes
-events-found bytes w events hw h = h ∙ ap (λ (b : Bool). set_at b bytes events_place) hw
-
-pub ruleset walking = (row-there, key-there, key-before, events-found)
+pub ruleset walking = (row-there, key-there, key-before)
 
 pub ruleset forms = (wide_by, form-by, count_at, offset-at_lem, count_room, offset-room, key-room, key-at, row_fits, row_room, row-at_lem, head-room, head-long, head-in-is, state-in-is, marking-is, head-is, head-none, head-some, place-fits, file-fits, entry-fits)

@@ -1,6 +1,6 @@
 use borrow.Author.Rules.{rules}
 use Rattle.graphfile.proofs.Forms.{forms}
-use Rattle.graphfile.proofs.layout.row_in.Goals as goal
+use Rattle.graphfile.proofs.file.File.row.Goals as goal
 
 pub overflow_add-row_place : goal.overflow_add-row_place
 overflow_add-row_place c = search (forms, rules)
