@@ -25,8 +25,8 @@ use Rattle.octets.proofs.NumberLaws.{number-stored, number-kept}
 use Rattle.octets.proofs.SetLaws.{length-set, set-stored, set-kept}
 use Rattle.graphfile.specs.Layout.{letters, events_place, state_length, entries_place, entry_length, head_length, rows_length, sum_of}
 use Rattle.graphfile.specs.Refusals.{most_rows}
-use Rattle.graphfile.specs.Writing.{row_of, rows_for, rows_from, count_from, row_count, counts_of, total_of, rows_before, entry_bytes, entries_for, entries_bytes}
-use Rattle.graphfile.specs.declared.writer.Counts.{Counts}
+use Rattle.graphfile.specs.Writing.{row_of, rows_for, rows_from, count_from, row_count, AreCounts, total_of, rows_before, entry_bytes, entries_for, entries_bytes}
+use Rattle.graphfile.specs.declared.counts.Counts.{Counts}
 use Rattle.graphfile.specs.Writing.{state_bytes, head_bytes, relation_bytes, relations_bytes, bytes_by}
 use Rattle.octets.specs.Editions.{edition_for}
 use Rattle.graphfile.proofs.RowLengths.{rows_none, rows-one, rows-add, rows-le}
@@ -146,28 +146,27 @@ module _ (wide : Bool) (o o₁ o₂ o₃ : List ℕ) where
 
 -- ---- the four entries
 
-pub counts-by_lem : (wide : Bool) (tables : List ℕ) (a b c d : ℕ) → a ≡ row_count wide (table_at tables 0) → b ≡ row_count wide (table_at tables 1)
-    → c ≡ row_count wide (table_at tables 2) → d ≡ row_count wide (table_at tables 3)
-    → ◌≡◌ {A = Counts} (record { conditions = a; responses = b; includes = c; excludes = d }) (counts_of wide tables)
-unfolding counts_of
-counts-by_lem wide tables a b c d ha hb hc hd = λ i. record { conditions = ha i; responses = hb i; includes = hc i; excludes = hd i }
-
 -- what is added up relation by relation is what the code counted
-module _ (wide : Bool) (tables : List ℕ) (c : Counts) (hc : c ≡ counts_of wide tables) where
+module _ (wide : Bool) (tables : List ℕ) (c : Counts) (are : AreCounts wide tables c) where
   abbrev first : ℕ
   first = row_count wide (table_at tables 0)
 
   -- the sum begins with nothing
   pub total-by : (n : ℕ) → n ≡ total_of c → n ≡ rows_before wide tables relation_count
-  unfolding counts_of sum_of
+  unfolding sum_of
   total-by n h =
-      h ∙ ap total_of hc
+      h ∙ (λ i. are.conditions i + are.responses i + are.includes i + are.excludes i)
       ∙ ap (λ (x : ℕ). x + row_count wide (table_at tables 1) + row_count wide (table_at tables 2) + row_count wide (table_at tables 3)) (sym (zero-add first))
 
   pub entries_by : (out out' : List ℕ) (at : ℕ) → out' ≡ sets out at (entries_for wide c) → out' ≡ sets out at (entries_bytes wide tables relation_count)
-  unfolding counts_of entries_bytes sum_of
+  unfolding entries_bytes sum_of
   entries_by out out' at h =
-      h ∙ ap (λ (x : Counts). sets out at (entries_for wide x)) hc
+      h
+      ∙ (λ i.
+      sets out at
+      (entry_bytes wide 0 (are.conditions i) ++ entry_bytes wide (are.conditions i) (are.responses i)
+      ++ entry_bytes wide (are.conditions i + are.responses i) (are.includes i)
+      ++ entry_bytes wide (are.conditions i + are.responses i + are.includes i) (are.excludes i)))
       ∙ ap
       (λ (x : ℕ).
       sets out at

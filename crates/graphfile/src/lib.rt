@@ -1,6 +1,7 @@
 // Graph files (01, "Two files, contents first": Graph): from bytes to a graph and back.
 #![tactic(auto)]
 
+mod counts;
 mod file;
 pub mod head;
 mod layout;
