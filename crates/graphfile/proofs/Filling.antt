@@ -1,5 +1,5 @@
 -- The reader's loop over the rows of a relation, and what it reads put together. Assumes nothing.
-use mathlib.Core.Path.{◌≡◌, refl, sym, ap, ◌∙◌, subst}
+use mathlib.Core.Path.{◌≡◌, refl, sym, ap, ◌∙◌}
 use mathlib.Core.Bool.{Bool, true, false}
 use mathlib.Core.List.{List}
 use Prim.Native.Nat.{ℕ, suc, ◌+◌, ◌-◌, ◌≤◌, ◌<◌}
@@ -23,7 +23,7 @@ use Rattle.engine.specs.declared.graph.Head.{Head}
 use Rattle.engine.specs.declared.graph.Graph.{Graph}
 use Rattle.graphfile.specs.declared.reader.Reading.{Reading}
 use Rattle.graphfile.specs.declared.reader.Bare.{Bare}
-use Rattle.graphfile.specs.Layout.{events_in, state_in, head_in, count_in, earlier_rows, row_place, key_in, row_in}
+use Rattle.graphfile.specs.Layout.{events_in, state_in, head_in, count_in, earlier_rows, key_in, row_in}
 use Rattle.graphfile.specs.Refusals.{rises, row_answer, judged_row, judged_before_rows, judged_relation, judged_file}
 use Rattle.graphfile.specs.Held.{filled, with_relation, with_relations, relations_in, graph_in, read_of, bare_of, bare_tables}
 use Rattle.graphfile.proofs.Judging.{row-judged, row-refused}
@@ -85,29 +85,29 @@ module _ (bytes : List ℕ) (first j key : ℕ) (events row : Set) (above t : Bo
   pub take-passed : t ≡ true → first_refusal (j + 1) (judged_row bytes first) ≡ Done
   take-passed n = turn-passed (judged_row bytes first) j (row_answer events key row above) t here ht f n
 
--- in the same bytes the same
-module _ (bytes bytes' : List ℕ) (same : bytes' ≡ bytes) (first count : ℕ) where
-  pub same-room : row_place bytes (first + count) ≤ length bytes → row_place bytes' (first + count) ≤ length bytes'
-  same-room = subst (λ (b : List ℕ). row_place b (first + count) ≤ length b) (sym same)
+-- of the same rows the same
+module _ (bytes bytes' : List ℕ) (same : bytes' ≡ bytes) (first first' count count' : ℕ) (f : first' ≡ first) (n : count' ≡ count) where
+  pub same-refusal : (a : Answer) → a ≡ first_refusal count' (judged_row bytes' first') → a ≡ first_refusal count (judged_row bytes first)
+  same-refusal a h = h ∙ λ i. first_refusal (n i) (judged_row (same i) (f i))
 
-  pub same-refusal : (a : Answer) → a ≡ first_refusal count (judged_row bytes' first) → a ≡ first_refusal count (judged_row bytes first)
-  same-refusal a = subst (λ (b : List ℕ). a ≡ first_refusal count (judged_row b first)) same
+  pub same-tables : (r : ℕ) (held tables : List ℕ) → tables ≡ filled bytes' held r count' first' → tables ≡ filled bytes held r count first
+  same-tables r held tables h = h ∙ λ i. filled (same i) held r (n i) (f i)
 
-  pub same-tables : (r : ℕ) (held tables : List ℕ) → tables ≡ filled bytes' held r count first → tables ≡ filled bytes held r count first
-  same-tables r held tables = subst (λ (b : List ℕ). tables ≡ filled b held r count first) same
-
-pub ruleset taking = (turns-begin, turns-end, take-passed, take-stopped, fill-begin, fill-turn, fill_end, same-room, same-refusal, same-tables)
+pub ruleset taking = (turns-begin, turns-end, take-passed, take-stopped, fill-begin, fill-turn, fill_end, same-refusal, same-tables)
 
 -- what holds before each turn of the loop
 abbrev pub Taken : List ℕ → ℕ → ℕ → ℕ → List ℕ → List ℕ → ℕ → Type 0
 Taken bytes r count first held₀ held j =
-    (row_place bytes (first + count) ≤ length bytes) × (first_refusal j (judged_row bytes first) ≡ Done)
-    × (filled bytes held r (count - j) (first + j) ≡ filled bytes held₀ r count first)
+    (first_refusal j (judged_row bytes first) ≡ Done) × (filled bytes held r (count - j) (first + j) ≡ filled bytes held₀ r count first)
 
-pub relation-judged : (bytes : List ℕ) (r first count : ℕ) (a : Answer) → first ≡ earlier_rows bytes r → count ≡ count_in bytes r
-    → a ≡ first_refusal count (judged_row bytes first) → a ≡ judged_relation bytes r
-unfolding judged_relation
-relation-judged bytes r first count a e f h = h ∙ (λ i. first_refusal (f i) (judged_row bytes (e i)))
+-- of the rows of a relation
+module _ (bytes bytes' : List ℕ) (same : bytes' ≡ bytes) (r first count : ℕ) (a : Answer) (e : first ≡ earlier_rows bytes r) (f : count ≡ count_in bytes r) where
+  pub relation-judged : a ≡ first_refusal count (judged_row bytes' first) → a ≡ judged_relation bytes r
+  unfolding judged_relation
+  relation-judged h = h ∙ (λ i. first_refusal (f i) (judged_row (same i) (e i)))
+
+  pub relation-held : (held tables : List ℕ) → (a ≡ Done → tables ≡ filled bytes' held r count first) → a ≡ Done → tables ≡ with_relation bytes held r
+  relation-held held tables g q = g q ∙ (λ i. filled (same i) held r (f i) (e i))
 
 -- ---- relation by relation
 

@@ -177,11 +177,6 @@ module _ (bytes : List ℕ) (first count j : ℕ) (l : j < count) (room : row_pl
   pub key-there : row_place bytes (first + j) < length bytes
   key-there = omega (arith, row-there, rows-suc (wide_in bytes) (first + j))
 
-pub key-before : (bytes : List ℕ) (first j : ℕ) → (j ≡ 0 → ⊥) → row_place bytes (first + j) < length bytes → row_place bytes (first + j - 1) < length bytes
-key-before bytes first j n l =
-    let less : first + j - 1 ≤ first + j = omega arith in
-    omega (arith, rows-le (wide_in bytes) (first + j - 1) (first + j) less)
-
-pub ruleset walking = (row-there, key-there, key-before)
+pub ruleset walking = (row-there, key-there)
 
 pub ruleset forms = (wide_by, form-by, count_at, offset-at_lem, count_room, offset-room, key-room, key-at, row_fits, row_room, row-at_lem, head-room, head-long, head-in-is, state-in-is, marking-is, head-is, head-none, head-some, place-fits, file-fits, entry-fits)

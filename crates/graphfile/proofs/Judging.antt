@@ -84,13 +84,13 @@ pub rises-first : (bytes : List ℕ) (first j : ℕ) → j ≡ 0 → true ≡ ri
 unfolding rises
 rises-first bytes first j e = ap (rises bytes first) (sym e)
 
-pub rises_next : (bytes : List ℕ) (first j before key : ℕ) → (j ≡ 0 → ⊥) → before ≡ key_in bytes (first + j - 1)
+pub rises_next : (bytes : List ℕ) (first j before key : ℕ) → (j ≡ 0 → ⊥) → before ≡ key_in bytes (first + (j - 1))
     → key ≡ key_in bytes (first + j)
     → ltb before key ≡ rises bytes first j
 unfolding rises
 rises_next bytes first zero before key n e f = absurd (n refl)
 rises_next bytes first (suc j) before key n e f =
-    let back : first + suc j - 1 ≡ first + j = omega arith in
+    let back : first + (suc j - 1) ≡ first + j = omega arith in
     ap₂ ltb (e ∙ ap (key_in bytes) back) f
 
 pub ruleset keys = (rises-first, rises_next)

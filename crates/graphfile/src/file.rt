@@ -1,13 +1,14 @@
-// A graph file that is opened: its head is there. What the entries and the rows say, and what is asked of the file but once: its form, events and state.
-ghost use Rattle.std.specs.Prelude.{◌≡◌, suc, ◌+◌, ◌*◌, ◌^◌, ◌≤◌, ◌<◌, length, true, false, IfOk, IfErr};
+// A graph file that is opened: its head is there. What is read of it but once, its form, events and state; and what its entries say.
+ghost use Rattle.std.specs.Prelude.{◌≡◌, ◌*◌, ◌≤◌, ◌<◌, length, true, false, IfOk, IfErr};
 ghost use Rattle.std.specs.Coded.{Coded-set};
 ghost use Rattle.sets.specs.Answers.{is_done};
 ghost use Rattle.engine.specs.Relations.{relation_count};
 ghost use Rattle.octets.specs.Editions.{opens_file, wide_in};
-ghost use Rattle.graphfile.specs.Layout.{letters, activities_in, events_in, state_in, head_length, offset_in, count_in, earlier_rows, row_place, key_in, row_in};
-ghost use Rattle.graphfile.specs.Refusals.{rises, judged_file};
+ghost use Rattle.graphfile.specs.Layout.{letters, activities_in, events_in, state_in, head_length, offset_in, count_in, earlier_rows, end_of};
+ghost use Rattle.graphfile.specs.Refusals.{judged_file};
 
 use crate::layout;
+use crate::rows::Rows;
 use engine::State;
 use octets::edition::opens_file;
 use octets::number::LENGTH as NUMBER;
@@ -49,19 +50,6 @@ impl<'a> File<'a> {
             events: set_at(bytes, layout::EVENTS, wide),
             state: layout::state_in(bytes),
         })
-    }
-
-    // The same file with its form written out, so that the compiler makes a loop over its rows for each form and asks for it at no row.
-    pub(crate) fn in_form<const WIDE: bool>(&self) -> File<'a>
-        requires { WIDE ≡ self.now.wide }
-        ensures { result.bytes.now ≡ self.now.bytes.now }
-    {
-        File {
-            bytes: self.bytes,
-            wide: WIDE,
-            events: self.events,
-            state: self.state,
-        }
     }
 
     // A.
@@ -106,30 +94,19 @@ impl<'a> File<'a> {
         rows
     }
 
-    // The key and the set of row k.
-    pub(crate) fn key(&self, k: usize) -> u8
-        requires { (k ≤ 65536 * relation_count) × (row_place self.now.bytes.now k < length self.now.bytes.now) }
-        ensures { result ≡ key_in self.now.bytes.now k }
+    // The rows of relation r.
+    pub(crate) fn rows(&self, r: usize) -> Rows<'a>
+        requires { (r < relation_count) × (end_of self.now.bytes.now ≤ length self.now.bytes.now) }
+        ensures bytes { result.bytes.now ≡ self.now.bytes.now }
+        ensures first { result.first ≡ earlier_rows self.now.bytes.now r }
+        ensures count { result.count ≡ count_in self.now.bytes.now r }
     {
-        self.bytes[layout::row_place(self.wide, k)]
-    }
-
-    pub(crate) fn row(&self, k: usize) -> Set
-        requires { (k < 65536 * relation_count) × (row_place self.now.bytes.now (suc k) ≤ length self.now.bytes.now) }
-        ensures { result ≡ row_in self.now.bytes.now k }
-    {
-        layout::set_in(self.bytes, layout::row_place(self.wide, k) + 1, self.wide)
-    }
-
-    // Whether a relation's row j has a key above the one before; the first row has none before it.
-    pub(crate) fn key_rises(&self, first: usize, j: usize) -> bool
-        requires { (first + j ≤ 65536 * relation_count) × (row_place self.now.bytes.now (first + j) < length self.now.bytes.now) }
-        ensures { result ≡ rises self.now.bytes.now first j }
-    {
-        if j == 0 {
-            return true;
+        Rows {
+            bytes: self.bytes,
+            wide: self.wide,
+            events: self.events,
+            first: self.earlier_rows(r),
+            count: self.count(r),
         }
-        let before = self.key(first + j - 1);
-        before < self.key(first + j)
     }
 }

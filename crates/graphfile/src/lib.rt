@@ -8,6 +8,7 @@ mod layout;
 pub mod marking;
 pub mod reader;
 mod refusal;
+mod rows;
 pub mod writer;
 
 pub use layout::{is_wide, wide_for};

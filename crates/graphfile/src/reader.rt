@@ -3,11 +3,12 @@ ghost use Rattle.std.specs.Prelude.{◌≡◌, true, false, ◌+◌, ◌*◌, �
 ghost use Rattle.sets.specs.Answers.{is_done, first_refusal};
 ghost use Rattle.sets.specs.declared.answer.Answer.TheVariants.{Done};
 ghost use Rattle.engine.specs.Relations.{relation_count};
-ghost use Rattle.graphfile.specs.Layout.{row_place, end_of};
+ghost use Rattle.graphfile.specs.Layout.{end_of};
 ghost use Rattle.graphfile.specs.Refusals.{judged_row, judged_relation, judged_file};
-ghost use Rattle.graphfile.specs.Held.{filled, with_relation, with_relations, bare_of, bare_tables, read_of};
+ghost use Rattle.graphfile.specs.Held.{filled, with_relations, bare_of, bare_tables, read_of};
 
 use crate::file::File;
+use crate::rows::Rows;
 use crate::{layout, refusal};
 use engine::graph::KINDS;
 use engine::{Graph, Head, Relations, State};
@@ -21,45 +22,35 @@ pub struct Reading {
     pub graph: Graph,
 }
 
-// So many rows of a file, each put at its key into table r, up to the first that is refused. The form is a const parameter: where it is handed to one
+// The rows of a relation, each put at its key into table r, up to the first that is refused. The form is a const parameter: where it is handed to one
 // loop, the compiler asks for it at each row.
-fn take_rows<const WIDE: bool>(
-    any: &File,
-    r: u8,
-    count: usize,
-    first: usize,
-    held: &mut Relations,
-) -> Answer
-    requires form { WIDE ≡ any.now.wide }
-    requires count_bound { (first + count ≤ 65536 * relation_count) × (row_place any.now.bytes.now (first + count) ≤ length any.now.bytes.now) }
-    ensures value { result ≡ first_refusal count (judged_row any.now.bytes.now first) }
-    ensures held_after { result ≡ Done → held.new ≡ filled any.now.bytes.now held.old r count first }
+fn take_rows_in<const WIDE: bool>(any: &Rows, r: u8, held: &mut Relations) -> Answer
+    requires { WIDE ≡ any.now.wide }
+    ensures value { result ≡ first_refusal any.now.count (judged_row any.now.bytes.now any.now.first) }
+    ensures held_after { result ≡ Done → held.new ≡ filled any.now.bytes.now held.old r any.now.count any.now.first }
 {
-    let file = any.in_form::<WIDE>();
-    for j in 0..count {
-        let key = Activity(file.key(first + j));
-        let row = file.row(first + j);
-        let above = file.key_rises(first, j);
-        if !refusal::is_right(file.events, key, row, above) {
-            return refusal::refused_row(file.events, key, row);
+    let rows = any.in_form::<WIDE>();
+    for j in 0..rows.count {
+        let key = Activity(rows.key(j));
+        let row = rows.set(j);
+        let above = rows.rises(j);
+        if !refusal::is_right(rows.events, key, row, above) {
+            return refusal::refused_row(rows.events, key, row);
         }
         tables::put(held, r, key, row);
     }
     Answer::Done
 }
 
-// The rows of relation r.
-fn take_relation(file: &File, r: u8, held: &mut Relations) -> Answer
-    requires { (r < relation_count) × (end_of file.now.bytes.now ≤ length file.now.bytes.now) }
-    ensures value { result ≡ judged_relation file.now.bytes.now r }
-    ensures held_after { result ≡ Done → held.new ≡ with_relation file.now.bytes.now held.old r }
+// The same, in the form that they have.
+fn take_rows(rows: &Rows, r: u8, held: &mut Relations) -> Answer
+    ensures value { result ≡ first_refusal rows.now.count (judged_row rows.now.bytes.now rows.now.first) }
+    ensures held_after { result ≡ Done → held.new ≡ filled rows.now.bytes.now held.old r rows.now.count rows.now.first }
 {
-    let first = file.earlier_rows(r as usize);
-    let count = file.count(r as usize);
-    if file.wide {
-        take_rows::<true>(file, r, count, first, held)
+    if rows.wide {
+        take_rows_in::<true>(rows, r, held)
     } else {
-        take_rows::<false>(file, r, count, first, held)
+        take_rows_in::<false>(rows, r, held)
     }
 }
 
@@ -70,7 +61,7 @@ fn take_relations(file: &File, held: &mut Relations) -> Answer
     ensures held_after { result ≡ Done → held.new ≡ with_relations file.now.bytes.now held.old relation_count }
 {
     for r in 0..KINDS {
-        let answer = take_relation(file, r, held);
+        let answer = take_rows(&file.rows(r as usize), r, held);
         if !answer.is_done() {
             return answer;
         }

@@ -1,19 +1,9 @@
 use borrow.Author.Rules.{rules}
 use Rattle.graphfile.proofs.Filling.{taking, row-stops}
-use Rattle.graphfile.proofs.Forms.{walking}
-use Rattle.graphfile.proofs.reader.take_rows.Goals as goal
+use Rattle.graphfile.proofs.reader.take_rows_in.Goals as goal
 
 pub loop-j-init : goal.loop-j-init
-loop-j-init g c = search (taking, walking, rules)
-
-pub key-requires : goal.key-requires
-key-requires g c = search (walking, rules)
-
-pub row-row-requires : goal.row-row-requires
-row-row-requires g c = search (walking, rules)
-
-pub key_rises-above-requires : goal.key_rises-above-requires
-key_rises-above-requires g c = search (walking, rules)
+loop-j-init g c = search (taking, rules)
 
 pub returns-then-not-is_right-clause-value : goal.returns-then-not-is_right-clause-value
 returns-then-not-is_right-clause-value g c = search (taking, rules)
