@@ -2,7 +2,7 @@
 use mathlib.Core.Path.{◌≡◌, sym, ap, ◌∙◌, subst}
 use mathlib.Core.Bool.{Bool}
 use mathlib.Core.List.{List}
-use Prim.Native.Nat.{ℕ, suc, ◌+◌, ◌-◌, ◌*◌, ◌^◌, ◌≤◌, ◌<◌}
+use Prim.Native.Nat.{ℕ, suc, ◌+◌, ◌*◌, ◌^◌, ◌≤◌, ◌<◌}
 use native.Mathlib.Omega.{arith}
 use borrow.Author.Tests.{lt-ltb, le-ltb}
 use lib.Dec.{eqb}
@@ -32,9 +32,6 @@ wide_by bytes e h = ap (λ (n : ℕ). eqb n 2) h
 
 pub form-by : (a e : ℕ) → e ≡ edition_for a → eqb e 2 ≡ wide_for a
 form-by a e h = ap (λ (n : ℕ). eqb n 2) h
-
-pub form-known : (bytes : List ℕ) (w b : Bool) → w ≡ wide_in bytes → w ≡ b → b ≡ wide_in bytes
-form-known bytes w b hw h = sym h ∙ hw
 
 -- ---- lengths that fit a machine's number
 

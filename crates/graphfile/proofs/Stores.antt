@@ -6,7 +6,7 @@ use Prim.Native.Nat.{ℕ, zero, suc, ◌+◌, ◌*◌, ◌≤◌, ◌<◌}
 use native.Mathlib.Nat.{zero-add}
 use native.Mathlib.Numerals.{add-one}
 use native.Mathlib.Omega.{arith}
-use lib.ListN.{length, set, length-append}
+use lib.ListN.{length, length-append}
 use lib.Seq.{sets, length-sets}
 use Rattle.sets.specs.Tests.{when◌then◌else◌}
 use Rattle.sets.specs.Members.{is_empty}
@@ -101,11 +101,6 @@ entry-stored wide out mid end at earlier count long room hl e f =
     (ap (λ (n : ℕ). at + n) (sym (length-number number_length long)))
     (number-stored out mid at long e (omega arith)) (number-stored mid end (at + number_length) count f (omega arith))
     ∙ ap (λ (n : ℕ). sets out at (little_endian number_length n ++ little_endian number_length count)) hl
-
--- the letters, the edition and A, byte by byte
-pub letters-stored : (out : List ℕ) (a e : ℕ) → e ≡ edition_for a
-    → set (set (set (set out 0 66) 1 71) 2 e) 3 a ≡ sets out 0 (letters ++ (edition_for a ∷ a ∷ []))
-letters-stored out a e h = ap (λ (n : ℕ). sets out 0 (letters ++ (n ∷ a ∷ []))) h
 
 -- three parts, each from the place where the one before it ends
 module _ (o o₁ o₂ o₃ a b c : List ℕ) (p p₁ p₂ : ℕ) (e₁ : p₁ ≡ p + length a) (e₂ : p₂ ≡ p₁ + length b)

@@ -1,8 +1,8 @@
 // What stands where in a graph file, whose sets have 8 bytes or 16 by its edition (02, 10/12).
-ghost use Rattle.std.specs.Prelude.{◌≡◌, suc, ◌+◌, ◌*◌, ◌^◌, ◌≤◌, ◌<◌, length};
+ghost use Rattle.std.specs.Prelude.{◌≡◌, ◌+◌, ◌*◌, ◌^◌, ◌≤◌, ◌<◌, length};
 ghost use Rattle.graphfile.specs.Layout.{wide_for, entries_place, head_length, rows_length, state_length, state_at, state_in, marking_at};
 ghost use Rattle.octets.specs.Editions.{wide_in};
-ghost use Rattle.graphfile.specs.Layout.{head_at, head_in, offset_in, count_in, earlier_rows, row_place, key_in, row_in};
+ghost use Rattle.graphfile.specs.Layout.{head_at, head_in};
 ghost use Rattle.graphfile.specs.Markings.{marking_length};
 ghost use Rattle.graphfile.specs.Heads.{lone_head_length};
 ghost use Rattle.engine.specs.Relations.{relation_count};

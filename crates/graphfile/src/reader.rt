@@ -1,5 +1,5 @@
 // The reader: what a file holds. A row is judged and put into its relation in one step, so that the rows are walked once.
-ghost use Rattle.std.specs.Prelude.{◌≡◌, true, false, ◌+◌, ◌*◌, ◌≤◌, ◌<◌, length, IfOk, IfErr, OnOk};
+ghost use Rattle.std.specs.Prelude.{◌≡◌, false, ◌≤◌, length, IfOk, IfErr, OnOk};
 ghost use Rattle.sets.specs.Answers.{is_done, first_refusal};
 ghost use Rattle.sets.specs.declared.answer.Answer.TheVariants.{Done};
 ghost use Rattle.engine.specs.Relations.{relation_count};
@@ -24,12 +24,12 @@ pub struct Reading {
 
 // The rows of a relation, each put at its key into table r, up to the first that is refused. The form is a const parameter: where it is handed to one
 // loop, the compiler asks for it at each row.
-fn take_rows_in<const WIDE: bool>(any: &Rows, r: u8, held: &mut Relations) -> Answer
-    requires { WIDE ≡ any.now.wide }
-    ensures value { result ≡ first_refusal any.now.count (judged_row any.now.bytes.now any.now.first) }
-    ensures held_after { result ≡ Done → held.new ≡ filled any.now.bytes.now held.old r any.now.count any.now.first }
+fn take_rows_in<const WIDE: bool>(rows: &Rows, r: u8, held: &mut Relations) -> Answer
+    requires { WIDE ≡ rows.now.wide }
+    ensures value { result ≡ first_refusal rows.now.count (judged_row rows.now.bytes.now rows.now.first) }
+    ensures held_after { result ≡ Done → held.new ≡ filled rows.now.bytes.now held.old r rows.now.count rows.now.first }
 {
-    let rows = any.in_form::<WIDE>();
+    let rows = rows.in_form::<WIDE>();
     for j in 0..rows.count {
         let key = Activity(rows.key(j));
         let row = rows.set(j);

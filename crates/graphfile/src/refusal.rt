@@ -1,14 +1,11 @@
 // The refusals of a graph file, in 01's order: of all that stands before the rows, and of one row. The reader goes from row to row.
-ghost use Rattle.std.specs.Prelude.{◌≡◌, ◌+◌, ◌*◌, ◌≤◌, ◌<◌, length, false};
-ghost use Rattle.graphfile.specs.Layout.{head_length, events_in, state_in, row_place};
-ghost use Rattle.octets.specs.Editions.{wide_in};
+ghost use Rattle.std.specs.Prelude.{◌≡◌, ◌<◌, false};
 ghost use Rattle.engine.specs.Relations.{relation_count};
 ghost use Rattle.sets.specs.Answers.{is_done, first_refusal};
-ghost use Rattle.graphfile.specs.Refusals.{most_rows, judged_sets, judged_head, judged_entry, judged_end, judged_before_rows, rises, row_answer};
+ghost use Rattle.graphfile.specs.Refusals.{most_rows, judged_sets, judged_head, judged_entry, judged_end, judged_before_rows, row_answer};
 
 use crate::file::File;
 use crate::layout;
-use engine::State;
 use engine::judge::state_within;
 use octets::edition;
 use octets::set::length;

@@ -7,7 +7,7 @@ ghost use Rattle.engine.specs.Relations.{relation_count, graph_of};
 ghost use Rattle.octets.specs.Editions.{edition_for};
 ghost use Rattle.graphfile.specs.Layout.{letters, wide_for, events_place, entries_place, state_length, entry_length, head_length, rows_length};
 ghost use Rattle.graphfile.specs.Refusals.{most_rows};
-ghost use Rattle.graphfile.specs.Writing.{rows_for, row_of, row_count, AreCounts, total_of, rows_before, relation_bytes};
+ghost use Rattle.graphfile.specs.Writing.{rows_for, row_of, row_count, AreCounts, rows_before, relation_bytes};
 ghost use Rattle.graphfile.specs.Writing.{entry_bytes, entries_for, state_bytes, head_bytes, relations_bytes, bytes_by, written_of, file_after, unjudged_of, unjudged_after};
 
 use crate::counts::Counts;
