@@ -3,8 +3,10 @@ ghost use Rattle.std.specs.Prelude.{◌≡◌, ◌+◌, ◌*◌, ◌^◌, ◌≤
 ghost use Rattle.graphfile.specs.Layout.{wide_for, entries_place, head_length, rows_length, state_length, state_at, state_in, marking_at};
 ghost use Rattle.octets.specs.Editions.{wide_in};
 ghost use Rattle.graphfile.specs.Layout.{head_at, head_in};
+ghost use Rattle.graphfile.specs.Refusals.{most_rows};
 ghost use Rattle.graphfile.specs.Markings.{marking_length};
 ghost use Rattle.graphfile.specs.Heads.{lone_head_length};
+ghost use Rattle.sets.specs.Members.{width};
 ghost use Rattle.engine.specs.Relations.{relation_count};
 ghost use Rattle.octets.specs.Numbers.{number_length, number_at};
 ghost use Rattle.octets.specs.Sets.{set_length, set_at};
@@ -14,8 +16,9 @@ use engine::{Head, Marking, Relations, State, enabled};
 use octets::edition::{WIDE, edition_for, edition_in};
 use octets::number::LENGTH as NUMBER;
 use octets::set::length;
-use octets::{byte_at, number_at, set, set_at};
-use sets::Set;
+use octets::{byte_at, number_at, set_at};
+use sets::activity::WORD;
+use sets::{Activity, Set};
 
 // The two letters that a file opens with; the edition comes after them.
 pub const LETTERS: [u8; 2] = *b"BG";
@@ -31,11 +34,6 @@ pub const EVENTS: usize = 4;
 // The bytes of an entry: an offset and a number of rows.
 pub const ENTRY: usize = 2 * NUMBER;
 
-// The bytes of a row: a key and a set.
-const NARROW_ROW: usize = 1 + set::NARROW;
-
-const WIDE_ROW: usize = 1 + set::WIDE;
-
 // Whether a file has wide sets (02, 10/12).
 pub fn is_wide(bytes: &[u8]) -> bool
     ensures { result ≡ wide_in bytes.now }
@@ -48,6 +46,15 @@ pub fn wide_for(activities: u8) -> bool
     ensures { result ≡ wide_for activities }
 {
     edition_for(activities) == WIDE
+}
+
+// The greatest number of rows of a relation, whatever A is. The activities that a form has a bit for are below it: no other has a row in the file, so the
+// loops over the rows end there.
+pub(crate) fn most_rows(wide: bool) -> u8
+    ensures value { result ≡ most_rows wide }
+    ensures upper_bound { result ≤ width }
+{
+    if wide { Activity::LIMIT } else { WORD }
 }
 
 // Where the entries begin: after the events and the marking.
@@ -71,10 +78,7 @@ pub(crate) fn rows_length(wide: bool, n: usize) -> usize
     requires { n ≤ 65536 * relation_count }
     ensures { result ≡ rows_length wide n }
 {
-    if wide {
-        return WIDE_ROW * n;
-    }
-    NARROW_ROW * n
+    (1 + length(wide)) * n
 }
 
 // Where row k stands.

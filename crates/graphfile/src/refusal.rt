@@ -2,21 +2,13 @@
 ghost use Rattle.std.specs.Prelude.{◌≡◌, ◌<◌, false};
 ghost use Rattle.engine.specs.Relations.{relation_count};
 ghost use Rattle.sets.specs.Answers.{is_done, first_refusal};
-ghost use Rattle.graphfile.specs.Refusals.{most_rows, judged_sets, judged_head, judged_entry, judged_end, judged_before_rows, row_answer};
+ghost use Rattle.graphfile.specs.Refusals.{judged_sets, judged_head, judged_entry, judged_end, judged_before_rows, row_answer};
 
 use crate::file::File;
 use crate::layout;
 use engine::judge::state_within;
 use octets::edition;
-use octets::set::length;
 use sets::{Activity, Answer, Set};
-
-// The greatest number of rows of a relation, whatever A is.
-fn most_rows(wide: bool) -> usize
-    ensures { result ≡ most_rows wide }
-{
-    8 * length(wide)
-}
 
 // The events and the marking.
 fn judge_sets(file: &File) -> Answer
@@ -44,7 +36,7 @@ fn judge_entry(file: &File, r: usize) -> Answer
     requires { r < relation_count }
     ensures { result ≡ judged_entry file.now.bytes.now r }
 {
-    if most_rows(file.wide) < file.count(r) {
+    if file.count(r) > layout::most_rows(file.wide) as usize {
         return Answer::AboveLimit;
     }
     if file.offset(r) != layout::rows_length(file.wide, file.earlier_rows(r)) {

@@ -6,7 +6,6 @@ ghost use Rattle.sets.specs.Tables.{table_at};
 ghost use Rattle.engine.specs.Relations.{relation_count, graph_of};
 ghost use Rattle.octets.specs.Editions.{edition_for};
 ghost use Rattle.graphfile.specs.Layout.{letters, wide_for, events_place, entries_place, state_length, entry_length, head_length, rows_length};
-ghost use Rattle.graphfile.specs.Refusals.{most_rows};
 ghost use Rattle.graphfile.specs.Writing.{rows_for, row_of, row_count, AreCounts, rows_before, relation_bytes};
 ghost use Rattle.graphfile.specs.Writing.{entry_bytes, entries_for, state_bytes, head_bytes, relations_bytes, bytes_by, written_of, file_after, unjudged_of, unjudged_after};
 
@@ -18,7 +17,6 @@ use engine::{Graph, Head, Relations, State};
 use octets::edition::edition_for;
 use octets::number::LENGTH as NUMBER;
 use octets::{put_number, put_set, set};
-use sets::activity::WORD;
 use sets::{Activity, Answer, Set, tables};
 
 // What a write gives: the answer, and the file's length; 0 where it is refused.
@@ -39,17 +37,6 @@ fn rows_for(s: Set) -> usize
     1
 }
 
-// The activities that a form has a bit for are below it: no other has a row in the file, so the loops over the rows end there.
-fn rows_end(wide: bool) -> u8
-    ensures value { result ≡ most_rows wide }
-    ensures upper_bound { result ≤ width }
-{
-    if wide {
-        return Activity::LIMIT;
-    }
-    WORD
-}
-
 // How many rows of relation r that the form has a place for are not empty. The form is a const parameter, here and where the rows are stored: so the
 // compiler knows where each loop over the rows ends, and tests at no row whether it is there.
 pub(crate) fn row_count<const WIDE: bool>(relations: &Relations, r: u8) -> usize
@@ -57,7 +44,7 @@ pub(crate) fn row_count<const WIDE: bool>(relations: &Relations, r: u8) -> usize
     ensures upper_bound { result ≤ width }
 {
     let mut n = 0;
-    for a in 0..rows_end(WIDE) {
+    for a in 0..layout::most_rows(WIDE) {
         n += rows_for(tables::row(relations, r, Activity(a)));
     }
     n
@@ -84,7 +71,7 @@ fn put_rows<const WIDE: bool>(out: &mut [u8], at: usize, relations: &Relations, 
     ensures out_after { out.new ≡ sets out.old at (relation_bytes WIDE (table_at relations.now r)) }
 {
     let mut next = at;
-    for a in 0..rows_end(WIDE) {
+    for a in 0..layout::most_rows(WIDE) {
         let key = Activity(a);
         next = put_row::<WIDE>(out, next, key, tables::row(relations, r, key));
     }
