@@ -12,8 +12,5 @@ returns-then-not-is_done-2-clause-err c = search (reading-through, rules)
 pub returns-clause-ok : goal.returns-clause-ok
 returns-clause-ok c = search (reading-through, rules)
 
-pub returns-clause-held_after : goal.returns-clause-held_after
-returns-clause-held_after c = search (reading-through, rules)
-
 pub take_relations-rows-requires : goal.take_relations-rows-requires
 take_relations-rows-requires c = search (end-within, rules)

@@ -14,8 +14,5 @@ returns-then-not-is_right-clause-held_after g c = row-stops _ _ _ _ _ c.is_right
 pub loop-j-preserved : goal.loop-j-preserved
 loop-j-preserved g c = search (taking, rules)
 
-pub returns-clause-value : goal.returns-clause-value
-returns-clause-value g c = search (taking, rules)
-
 pub returns-clause-held_after : goal.returns-clause-held_after
 returns-clause-held_after g c = search (taking, rules)

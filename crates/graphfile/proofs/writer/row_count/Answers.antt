@@ -2,9 +2,6 @@ use borrow.Author.Rules.{rules}
 use Rattle.graphfile.proofs.RowStores.{counts}
 use Rattle.graphfile.proofs.writer.row_count.Goals as goal
 
-pub loop-a-init : goal.loop-a-init
-loop-a-init g c = search (counts, rules)
-
 pub loop-a-preserved : goal.loop-a-preserved
 loop-a-preserved g c = search (counts, rules)
 

@@ -4,6 +4,3 @@ use Rattle.graphfile.proofs.rows.Rows.key.Goals as goal
 
 pub bounds-self-row_place : goal.bounds-self-row_place
 bounds-self-row_place c = search (forms, walking, rules)
-
-pub returns : goal.returns
-returns c = search (forms, walking, rules)

@@ -7,6 +7,3 @@ overflow_add-at c = search (forms, walking, rules)
 
 pub set_in-requires : goal.set_in-requires
 set_in-requires c = search (forms, walking, rules)
-
-pub returns : goal.returns
-returns c = search (forms, walking, rules)
