@@ -9,34 +9,31 @@ use lib.ListN.{length}
 use Rattle.sets.specs.Answers.{is_done, then_ask, first_refusal}
 use Rattle.sets.specs.declared.answer.Answer.{Answer}
 use Rattle.sets.specs.declared.answer.Answer.TheVariants.{TooShort}
-use Rattle.sets.proofs.Asking.{refused, passed, gone-on}
+use Rattle.sets.proofs.Asking.{refused, passed}
 use Rattle.engine.specs.Relations.{relation_count}
 use Rattle.graphfile.specs.Layout.{head_length}
 use Rattle.octets.specs.Editions.{wide_in}
-use Rattle.graphfile.proofs.Accepted.{head_done}
+use Rattle.graphfile.proofs.Accepted.{narrow-head}
 use Rattle.graphfile.specs.Refusals.{judged_head, judged_entry, judged_end, judged_before_rows}
 
 pub front-short : (bytes : List ℕ) (n : ℕ) → n ≡ head_length false → length bytes < n → TooShort ≡ judged_before_rows bytes
 unfolding judged_before_rows
 front-short bytes n hn l = rw (lt-ltb (length bytes) (head_length false) (omega arith))
 
--- the head was accepted, so all of it is there
-pub head-kept : (bytes : List ℕ) (a : Answer) (d : Bool) → a ≡ judged_head bytes → d ≡ is_done a → d ≡ true → head_length (wide_in bytes) ≤ length bytes
-head-kept bytes a d e t n = (head_done bytes (gone-on a (judged_head bytes) d e t n)).long
+pub front : (bytes : List ℕ) → head_length false ≤ length bytes
+    → judged_before_rows bytes ≡ then_ask (judged_head bytes) (then_ask (first_refusal relation_count (judged_entry bytes)) (judged_end bytes))
+unfolding judged_before_rows
+front bytes long = rw (le-ltb (length bytes) (head_length false) long)
 
-module _ (bytes : List ℕ) (n : ℕ) (hn : n ≡ head_length false) (long : n ≤ length bytes) (head : Answer) (d : Bool) (e : head ≡ judged_head bytes) (t : d
+module _ (bytes : List ℕ) (there : head_length (wide_in bytes) ≤ length bytes) (head : Answer) (d : Bool) (e : head ≡ judged_head bytes) (t : d
     ≡ is_done head) where
-  front : judged_before_rows bytes ≡ then_ask (judged_head bytes) (then_ask (first_refusal relation_count (judged_entry bytes)) (judged_end bytes))
-  unfolding judged_before_rows
-  front = rw (le-ltb (length bytes) (head_length false) (omega arith))
-
   pub front-head : d ≡ false → head ≡ judged_before_rows bytes
-  front-head f = refused head _ d e t _ f ∙ sym front
+  front-head f = refused head _ d e t _ f ∙ sym (front bytes (narrow-head bytes there))
 
   module _ (f : d ≡ true) (entries : Answer) (d' : Bool) (e' : entries ≡ first_refusal relation_count (judged_entry bytes)) (t' : d'
       ≡ is_done entries) where
     after-head : judged_before_rows bytes ≡ then_ask (first_refusal relation_count (judged_entry bytes)) (judged_end bytes)
-    after-head = front ∙ passed head _ d e t _ f
+    after-head = front bytes (narrow-head bytes there) ∙ passed head _ d e t _ f
 
     pub front-entries : d' ≡ false → entries ≡ judged_before_rows bytes
     front-entries f' = refused entries _ d' e' t' _ f' ∙ sym after-head

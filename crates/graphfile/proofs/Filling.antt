@@ -6,7 +6,6 @@ use Prim.Native.Nat.{ℕ, suc, ◌+◌, ◌-◌, ◌≤◌, ◌<◌}
 use native.Mathlib.Nat.{sub-zero, add-zero}
 use native.Mathlib.Numerals.{add-one}
 use native.Mathlib.Omega.{arith}
-use lib.ListN.{length}
 use Rattle.sets.specs.Tests.{when◌then◌else◌}
 use Rattle.sets.specs.Members.{no_set}
 use Rattle.sets.specs.Tables.{no_tables, with_row_in}
@@ -21,16 +20,12 @@ use Rattle.engine.specs.Markings.{empty_state, empty_marking}
 use Rattle.engine.specs.Relations.{relation_count, head_of, graph_of, empty_graph}
 use Rattle.engine.specs.declared.graph.Head.{Head}
 use Rattle.engine.specs.declared.graph.Graph.{Graph}
-use Rattle.octets.specs.Sets.{set_at}
 use Rattle.graphfile.specs.declared.reader.Reading.{Reading}
 use Rattle.graphfile.specs.declared.reader.Bare.{Bare}
-use Rattle.graphfile.specs.Layout.{events_place, head_length, events_in, state_in, head_in, count_in, earlier_rows, key_in, row_in}
-use Rattle.octets.specs.Editions.{wide_in}
+use Rattle.graphfile.specs.Layout.{events_in, state_in, head_in, count_in, earlier_rows, key_in, row_in}
 use Rattle.graphfile.specs.Refusals.{rises, row_answer, judged_row, judged_before_rows, judged_relation, judged_file}
 use Rattle.graphfile.specs.Held.{filled, with_relation, with_relations, relations_in, graph_in, read_of, bare_of, bare_tables}
 use Rattle.graphfile.proofs.Judging.{row-judged, row-refused}
-use Rattle.graphfile.proofs.Forms.{events-found}
-use Rattle.graphfile.proofs.Accepted.{accepted}
 
 -- ---- row by row: what is left to fill in, filled in, gives the whole
 
@@ -89,20 +84,29 @@ module _ (bytes : List ℕ) (first j key : ℕ) (events row : Set) (above t : Bo
   pub take-passed : t ≡ true → first_refusal (j + 1) (judged_row bytes first) ≡ Done
   take-passed n = turn-passed (judged_row bytes first) j (row_answer events key row above) t here ht f n
 
-pub ruleset taking = (turns-begin, turns-end, take-passed, take-stopped, fill-begin, fill-turn, fill_end)
+-- of the same rows the same
+module _ (bytes bytes' : List ℕ) (same : bytes' ≡ bytes) (first first' count count' : ℕ) (f : first' ≡ first) (n : count' ≡ count) where
+  pub same-refusal : (a : Answer) → a ≡ first_refusal count' (judged_row bytes' first') → a ≡ first_refusal count (judged_row bytes first)
+  same-refusal a h = h ∙ λ i. first_refusal (n i) (judged_row (same i) (f i))
 
--- what holds before each turn of the loop, in either form
-abbrev pub Taken : List ℕ → ℕ → ℕ → ℕ → List ℕ → Set → List ℕ → ℕ → Type 0
-Taken bytes r count first held₀ events held j =
-    (j ≤ count) × (events ≡ events_in bytes) × (first_refusal j (judged_row bytes first) ≡ Done)
-    × (filled bytes held r (count - j) (first + j) ≡ filled bytes held₀ r count first)
+  pub same-tables : (r : ℕ) (held tables : List ℕ) → tables ≡ filled bytes' held r count' first' → tables ≡ filled bytes held r count first
+  same-tables r held tables h = h ∙ λ i. filled (same i) held r (n i) (f i)
 
-pub relation-taken : (bytes held tables : List ℕ) (r first count : ℕ) (a : Answer) → first ≡ earlier_rows bytes r → count ≡ count_in bytes r
-    → a ≡ first_refusal count (judged_row bytes first) → (a ≡ Done → tables ≡ filled bytes held r count first)
-    → (a ≡ judged_relation bytes r) × (a ≡ Done → tables ≡ with_relation bytes held r)
-unfolding judged_relation
-relation-taken bytes held tables r first count a e f h g =
-    (h ∙ (λ i. first_refusal (f i) (judged_row bytes (e i))), λ q. g q ∙ (λ i. filled bytes held r (f i) (e i)))
+pub ruleset taking = (turns-begin, turns-end, take-passed, take-stopped, fill-begin, fill-turn, fill_end, same-refusal, same-tables)
+
+-- what holds before each turn of the loop
+abbrev pub Taken : List ℕ → ℕ → ℕ → ℕ → List ℕ → List ℕ → ℕ → Type 0
+Taken bytes r count first held₀ held j =
+    (first_refusal j (judged_row bytes first) ≡ Done) × (filled bytes held r (count - j) (first + j) ≡ filled bytes held₀ r count first)
+
+-- of the rows of a relation
+module _ (bytes bytes' : List ℕ) (same : bytes' ≡ bytes) (r first count : ℕ) (a : Answer) (e : first ≡ earlier_rows bytes r) (f : count ≡ count_in bytes r) where
+  pub relation-judged : a ≡ first_refusal count (judged_row bytes' first) → a ≡ judged_relation bytes r
+  unfolding judged_relation
+  relation-judged h = h ∙ (λ i. first_refusal (f i) (judged_row (same i) (e i)))
+
+  pub relation-held : (held tables : List ℕ) → (a ≡ Done → tables ≡ filled bytes' held r count first) → a ≡ Done → tables ≡ with_relation bytes held r
+  relation-held held tables g q = g q ∙ (λ i. filled (same i) held r (f i) (e i))
 
 -- ---- relation by relation
 
@@ -137,6 +141,30 @@ module _ (bytes : List ℕ) (a : Answer) (d : Bool) (e : a ≡ judged_before_row
   unfolding judged_file
   rows-follow n x h = h ∙ sym (passed a (judged_before_rows bytes) d e t _ n)
 
+-- as the code finds it in the opened file's bytes, which are the same
+module _ (bytes bytes' : List ℕ) (same : bytes' ≡ bytes) (a : Answer) (d : Bool) (e : a ≡ judged_before_rows bytes') (t : d ≡ is_done a) where
+  pub front-refuses : d ≡ false → a ≡ judged_file bytes
+  front-refuses n = front-stops bytes' a d e t n ∙ ap judged_file same
+
+  module _ (n : d ≡ true) (x : Answer) (y : Bool) (f : x ≡ first_refusal relation_count (judged_relation bytes')) (u : y ≡ is_done x) where
+    followed : x ≡ judged_file bytes
+    followed = rows-follow bytes' a d e t n x f ∙ ap judged_file same
+
+    pub rows-refuse : y ≡ false → x ≡ judged_file bytes
+    rows-refuse m = followed
+
+    pub rows-right : y ≡ true → judged_file bytes ≡ Done
+    rows-right m = sym followed ∙ done-is x (sym u ∙ m)
+
+    pub rows-held : y ≡ true → (held tables : List ℕ) → (x ≡ Done → tables ≡ with_relations bytes' held relation_count)
+        → tables ≡ with_relations bytes held relation_count
+    rows-held m held tables h = h (done-is x (sym u ∙ m)) ∙ ap (λ (b : List ℕ). with_relations b held relation_count) same
+
+pub refusal-kept : (a : Answer) (d : Bool) → d ≡ is_done a → d ≡ false → is_done a ≡ false
+refusal-kept a d t n = sym t ∙ n
+
+pub ruleset reading-through = (front-refuses, rows-refuse, rows-right, rows-held, refusal-kept)
+
 -- ---- what is read, by the answer
 
 module _ (bytes : List ℕ) (a : Answer) (d : Bool) (e : a ≡ judged_file bytes) (t : d ≡ is_done a) where
@@ -159,21 +187,20 @@ module _ (bytes : List ℕ) (a : Answer) (d : Bool) (e : a ≡ judged_file bytes
   unfolding bare_tables
   held b tables tables' q h = h ∙ ap (λ (y : Bool). when y then with_relations bytes tables relation_count else no_tables relation_count) (sym (said b q))
 
-  module _ (n : d ≡ false) where
-    pub bare-refused : ◌≡◌ {A = Bare} (record { answer = a; events = no_set; state = empty_state }) (bare_of bytes)
-    bare-refused = bare false no_set empty_state (n) refl refl
+module _ (bytes : List ℕ) (a : Answer) (e : a ≡ judged_file bytes) (n : is_done a ≡ false) where
+  pub bare-refused : ◌≡◌ {A = Bare} (record { answer = a; events = no_set; state = empty_state }) (bare_of bytes)
+  bare-refused = bare bytes a (is_done a) e refl false no_set empty_state n refl refl
 
-    pub bare-cleared : (tables tables' : List ℕ) → tables' ≡ no_tables relation_count → tables' ≡ bare_tables bytes tables
-    bare-cleared tables tables' h = held false tables tables' (n) h
+  pub bare-cleared : (tables tables' : List ℕ) → tables' ≡ no_tables relation_count → tables' ≡ bare_tables bytes tables
+  bare-cleared tables tables' h = held bytes a (is_done a) e refl false tables tables' n h
 
-  module _ (n : d ≡ true) where
-    pub bare-filled : (tables tables' : List ℕ) → (a ≡ Done → tables' ≡ with_relations bytes tables relation_count) → tables' ≡ bare_tables bytes tables
-    bare-filled tables tables' h = held true tables tables' (n) (h (gone-on a a d refl t n))
+module _ (bytes bytes' : List ℕ) (same : bytes' ≡ bytes) (r : judged_file bytes ≡ Done) where
+  pub bare-found : (events : Set) (s : State) → events ≡ events_in bytes' → s ≡ state_in bytes'
+      → ◌≡◌ {A = Bare} (record { answer = Done; events = events; state = s }) (bare_of bytes)
+  bare-found events s he hs = bare bytes Done true (sym r) refl true events s refl (he ∙ ap events_in same) (hs ∙ ap state_in same)
 
-    -- as the code finds them, by the form
-    pub bare-found : (w : Bool) (events : Set) (s : State) → w ≡ wide_in bytes → events ≡ set_at w bytes events_place → s ≡ state_in bytes
-        → ◌≡◌ {A = Bare} (record { answer = a; events = events; state = s }) (bare_of bytes)
-    bare-found w events s hw he hs = bare true events s (n) (events-found bytes w events hw he) hs
+  pub bare-filled : (tables tables' : List ℕ) → tables' ≡ with_relations bytes tables relation_count → tables' ≡ bare_tables bytes tables
+  bare-filled tables tables' h = held bytes Done true (sym r) refl true tables tables' refl h
 
 -- the same with the set
 module _ (bytes : List ℕ) (b : Bare) (e : b ≡ bare_of bytes) (d : Bool) (t : d ≡ is_done b.answer) where
@@ -194,9 +221,6 @@ module _ (bytes : List ℕ) (b : Bare) (e : b ≡ bare_of bytes) (d : Bool) (t :
   kept : (y : Bool) → d ≡ y → bare_tables bytes (no_tables relation_count) ≡ (when y then relations_in bytes relation_count else no_tables relation_count)
   unfolding bare_tables
   kept y q = ap (λ (z : Bool). when z then relations_in bytes relation_count else no_tables relation_count) (said bytes b.answer d answered t y q)
-
-  pub read-long : d ≡ true → head_length (wide_in bytes) ≤ length bytes
-  read-long y = (accepted bytes (sym answered ∙ done-is b.answer (sym t ∙ y))).long
 
   module _ (tables : List ℕ) (h : tables ≡ bare_tables bytes (no_tables relation_count)) where
     pub read-refused : d ≡ false → ◌≡◌ {A = Reading} (record { answer = b.answer; graph = graph_of (head_of 0 no_set empty_marking) tables }) (read_of bytes)

@@ -2,7 +2,7 @@
 use mathlib.Core.Path.{◌≡◌, sym, ap, ◌∙◌, subst}
 use mathlib.Core.Bool.{Bool}
 use mathlib.Core.List.{List}
-use Prim.Native.Nat.{ℕ, suc, ◌+◌, ◌-◌, ◌*◌, ◌^◌, ◌≤◌, ◌<◌}
+use Prim.Native.Nat.{ℕ, suc, ◌+◌, ◌*◌, ◌^◌, ◌≤◌, ◌<◌}
 use native.Mathlib.Omega.{arith}
 use borrow.Author.Tests.{lt-ltb, le-ltb}
 use lib.Dec.{eqb}
@@ -20,7 +20,7 @@ use Rattle.octets.specs.Sets.{set_length, set_at}
 use Rattle.octets.specs.Editions.{edition_for, edition_in}
 use Rattle.graphfile.specs.Layout.{wide_for, activities_place, events_place, executed_place, entries_place, head_length, rows_length}
 use Rattle.octets.specs.Editions.{wide_in}
-use Rattle.graphfile.specs.Layout.{events_in, state_at, state_in, marking_at, head_at, head_in, offset_in, count_in, row_place, key_in, row_in}
+use Rattle.graphfile.specs.Layout.{state_at, state_in, marking_at, head_at, head_in, offset_in, count_in, row_place, key_in, row_in}
 use Rattle.graphfile.specs.Markings.{marking_length}
 use Rattle.graphfile.specs.Heads.{lone_head_length, wide_head, head_from}
 use Rattle.graphfile.proofs.RowLengths.{set-most, rows-suc, rows-le, rows-most}
@@ -32,9 +32,6 @@ wide_by bytes e h = ap (λ (n : ℕ). eqb n 2) h
 
 pub form-by : (a e : ℕ) → e ≡ edition_for a → eqb e 2 ≡ wide_for a
 form-by a e h = ap (λ (n : ℕ). eqb n 2) h
-
-pub form-known : (bytes : List ℕ) (w b : Bool) → w ≡ wide_in bytes → w ≡ b → b ≡ wide_in bytes
-form-known bytes w b hw h = sym h ∙ hw
 
 -- ---- lengths that fit a machine's number
 
@@ -177,14 +174,6 @@ module _ (bytes : List ℕ) (first count j : ℕ) (l : j < count) (room : row_pl
   pub key-there : row_place bytes (first + j) < length bytes
   key-there = omega (arith, row-there, rows-suc (wide_in bytes) (first + j))
 
-pub key-before : (bytes : List ℕ) (first j : ℕ) → (j ≡ 0 → ⊥) → row_place bytes (first + j) < length bytes → row_place bytes (first + j - 1) < length bytes
-key-before bytes first j n l =
-    let less : first + j - 1 ≤ first + j = omega arith in
-    omega (arith, rows-le (wide_in bytes) (first + j - 1) (first + j) less)
-
-pub events-found : (bytes : List ℕ) (w : Bool) (events : Set) → w ≡ wide_in bytes → events ≡ set_at w bytes events_place → events ≡ events_in bytes
-events-found bytes w events hw h = h ∙ ap (λ (b : Bool). set_at b bytes events_place) hw
-
-pub ruleset walking = (row-there, key-there, key-before, events-found)
+pub ruleset walking = (row-there, key-there)
 
 pub ruleset forms = (wide_by, form-by, count_at, offset-at_lem, count_room, offset-room, key-room, key-at, row_fits, row_room, row-at_lem, head-room, head-long, head-in-is, state-in-is, marking-is, head-is, head-none, head-some, place-fits, file-fits, entry-fits)

@@ -25,20 +25,20 @@ use Rattle.graphfile.specs.Refusals.{most_rows, judged_sets, judged_head, judged
 
 -- ---- the end
 
-module _ (bytes : List ℕ) (wide : Bool) (hw : wide ≡ wide_in bytes) (head rows long : ℕ) (hh : head ≡ head_length wide)
-    (e : rows ≡ earlier_rows bytes relation_count) (hl : long ≡ rows_length wide rows) where
-  end_is : head + long ≡ end_of bytes
-  end_is = λ i. (hh ∙ ap head_length hw) i + (hl ∙ (λ j. rows_length (hw j) (e j))) i
+module _ (bytes : List ℕ) (wide : Bool) (hw : wide ≡ wide_in bytes) (rows end : ℕ) (e : rows ≡ earlier_rows bytes relation_count)
+    (he : end ≡ head_length wide + rows_length wide rows) where
+  end_is : end ≡ end_of bytes
+  end_is = he ∙ λ i. head_length (hw i) + rows_length (hw i) (e i)
 
-  pub end_short : length bytes < head + long → TooShort ≡ judged_end bytes
+  pub end_short : length bytes < end → TooShort ≡ judged_end bytes
   unfolding judged_end
   end_short l = rw (lt-ltb (length bytes) (end_of bytes) (omega (arith, end_is)))
 
-  pub end_more : head + long ≤ length bytes → head + long < length bytes → WrongOffset ≡ judged_end bytes
+  pub end_more : end ≤ length bytes → end < length bytes → WrongOffset ≡ judged_end bytes
   unfolding judged_end
   end_more m l = rw (le-ltb (length bytes) (end_of bytes) (omega (arith, end_is)), lt-ltb (end_of bytes) (length bytes) (omega (arith, end_is)))
 
-  pub end-right : head + long ≤ length bytes → length bytes ≤ head + long → Done ≡ judged_end bytes
+  pub end-right : end ≤ length bytes → length bytes ≤ end → Done ≡ judged_end bytes
   unfolding judged_end
   end-right m l = rw (le-ltb (length bytes) (end_of bytes) (omega (arith, end_is)), le-ltb (end_of bytes) (length bytes) (omega (arith, end_is)))
 
@@ -84,13 +84,13 @@ pub rises-first : (bytes : List ℕ) (first j : ℕ) → j ≡ 0 → true ≡ ri
 unfolding rises
 rises-first bytes first j e = ap (rises bytes first) (sym e)
 
-pub rises_next : (bytes : List ℕ) (first j before key : ℕ) → (j ≡ 0 → ⊥) → before ≡ key_in bytes (first + j - 1)
+pub rises_next : (bytes : List ℕ) (first j before key : ℕ) → (j ≡ 0 → ⊥) → before ≡ key_in bytes (first + (j - 1))
     → key ≡ key_in bytes (first + j)
     → ltb before key ≡ rises bytes first j
 unfolding rises
 rises_next bytes first zero before key n e f = absurd (n refl)
 rises_next bytes first (suc j) before key n e f =
-    let back : first + suc j - 1 ≡ first + j = omega arith in
+    let back : first + (suc j - 1) ≡ first + j = omega arith in
     ap₂ ltb (e ∙ ap (key_in bytes) back) f
 
 pub ruleset keys = (rises-first, rises_next)
@@ -173,11 +173,11 @@ row-judged bytes first j key events row above he hk hr ha = λ i. row_answer (he
 abbrev sets_answer : Bool → Bool → Answer
 sets_answer low within = when non low then Outside else when non within then Outside else Done
 
-module _ (bytes : List ℕ) (events low : Set) (t : Bool) (he : events ≡ events_in bytes) (hb : low ≡ those (λ x. ltb x (activities_in bytes)))
-    (ht : t ≡ within events low) where
+module _ (bytes : List ℕ) (events low : Set) (t : Bool) (n : ℕ) (he : events ≡ events_in bytes) (hn : n ≡ activities_in bytes)
+    (hb : low ≡ those (λ x. ltb x n)) (ht : t ≡ within events low) where
   sets-are : (e m : Bool) → t ≡ e → state_within (events_in bytes) (state_in bytes) ≡ m → sets_answer e m ≡ judged_sets bytes
   unfolding judged_sets
-  sets-are e m pe pm = λ i. sets_answer ((sym pe ∙ ht ∙ ap₂ within he hb) i) (sym pm i)
+  sets-are e m pe pm = λ i. sets_answer ((sym pe ∙ ht ∙ ap₂ within he (hb ∙ ap (λ (a : ℕ). those (λ x. ltb x a)) hn)) i) (sym pm i)
 
   pub sets-events : t ≡ false → Outside ≡ judged_sets bytes
   unfolding non
@@ -212,17 +212,17 @@ module _ (bytes : List ℕ) (l : Bool) (hl : l ≡ opens_file letters bytes) whe
     unfolding judged_head non
     head-short s = rw (← hl, nl, lt-ltb (length bytes) (head_length (wide_in bytes)) (omega (arith, head-is)))
 
-    module _ (long : n ≤ length bytes) (e : ℕ) (he : e ≡ edition_in bytes) (b : Bool) (hb : b ≡ beyond e (activities_in bytes)) where
-      is-beyond : beyond (edition_in bytes) (activities_in bytes) ≡ b
-      is-beyond = ap (λ (x : ℕ). beyond x (activities_in bytes)) (sym he) ∙ sym hb
+module _ (bytes : List ℕ) (opened : opens_file letters bytes ≡ true) (there : head_length (wide_in bytes) ≤ length bytes) (e n : ℕ)
+    (he : e ≡ edition_in bytes) (hn : n ≡ activities_in bytes) (b : Bool) (hb : b ≡ beyond e n) where
+  is-beyond : beyond (edition_in bytes) (activities_in bytes) ≡ b
+  is-beyond = ap₂ beyond (sym he) (sym hn) ∙ sym hb
 
-      pub head-above : b ≡ true → AboveLimit ≡ judged_head bytes
-      unfolding judged_head non
-      head-above t = rw (← hl, nl, le-ltb (length bytes) (head_length (wide_in bytes)) (omega (arith, head-is)), is-beyond, t)
+  pub head-above : b ≡ true → AboveLimit ≡ judged_head bytes
+  unfolding judged_head non
+  head-above t = rw (opened, le-ltb (length bytes) (head_length (wide_in bytes)) there, is-beyond, t)
 
-      pub head-sets : (a : Answer) → b ≡ false → a ≡ judged_sets bytes → a ≡ judged_head bytes
-      unfolding judged_head non
-      head-sets a t h =
-          h ∙ rw (← hl, nl, le-ltb (length bytes) (head_length (wide_in bytes)) (omega (arith, head-is)), is-beyond, t)
+  pub head-sets : (a : Answer) → b ≡ false → a ≡ judged_sets bytes → a ≡ judged_head bytes
+  unfolding judged_head non
+  head-sets a t h = h ∙ rw (opened, le-ltb (length bytes) (head_length (wide_in bytes)) there, is-beyond, t)
 
-pub ruleset heads = (head-letters, head-short, head-above, head-sets)
+pub ruleset heads = (head-above, head-sets)

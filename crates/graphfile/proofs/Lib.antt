@@ -6,6 +6,7 @@ pub mod Asking
 pub mod Judging
 pub mod Accepted
 pub mod Filling
+pub mod Opening
 pub mod Stores
 pub mod RowStores
 pub mod Writes

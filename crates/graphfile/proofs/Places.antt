@@ -8,14 +8,12 @@ use native.Mathlib.Numerals.{add-one}
 use native.Mathlib.Omega.{arith}
 use lib.ListN.{length, take, drop}
 use Rattle.sets.specs.declared.set.Set.{Set}
-use Rattle.engine.specs.declared.marking.State.{State}
-use Rattle.engine.specs.Markings.{state_of}
 use Rattle.engine.specs.Relations.{relation_count}
 use Rattle.octets.specs.Numbers.{value_of, number_length, number_at}
 use Rattle.octets.specs.Sets.{word_length, set_length, set_there, set_at}
 use Rattle.octets.proofs.Parts.{part, meet, length_part, part-whole}
 use Rattle.octets.proofs.SetLaws.{at_there, part-first, part-second}
-use Rattle.graphfile.specs.Layout.{count_in, sum_of, earlier_rows, state_at, row_place, end_of}
+use Rattle.graphfile.specs.Layout.{count_in, sum_of, earlier_rows, row_place, end_of}
 use Rattle.octets.specs.Editions.{wide_in}
 use Rattle.graphfile.proofs.RowLengths.{rows-le}
 
@@ -60,13 +58,6 @@ pub set-cut : (wide : Bool) (bytes : List ℕ) (at n : ℕ) (s : Set) → at + s
 set-cut wide bytes at n s room e h =
     let same : at + n - at ≡ set_length wide = omega arith in
     h ∙ ap (λ (k : ℕ). set_at wide (part bytes at k) 0) same ∙ set-alone wide bytes at room
-
--- ---- a state
-
-pub state-is : (wide : Bool) (bytes : List ℕ) (at n : ℕ) (x p i : Set) (m : State) → n ≡ set_length wide → x ≡ set_at wide bytes at
-    → p ≡ set_at wide bytes (at + n) → i ≡ set_at wide bytes (at + 2 * n) → m ≡ state_of x p i → m ≡ state_at wide bytes at
-state-is wide bytes at n x p i m hn hx hp hi e =
-    e ∙ (λ k. state_of (hx k) ((hp ∙ ap (λ (j : ℕ). set_at wide bytes (at + j)) hn) k) ((hi ∙ ap (λ (j : ℕ). set_at wide bytes (at + 2 * j)) hn) k))
 
 -- ---- a sum: what a loop adds up, and that it only grows
 

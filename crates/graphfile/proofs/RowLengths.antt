@@ -1,22 +1,11 @@
 -- How many bytes rows have, in either form: laws for `omega`, to which the product of two unknown numbers is closed. Assumes nothing.
-use mathlib.Core.Path.{◌≡◌, refl, sym, ap}
+use mathlib.Core.Path.{◌≡◌, refl, ap}
 use mathlib.Core.Bool.{Bool, true, false}
-use Prim.Native.Nat.{ℕ, suc, ◌+◌, ◌*◌, ◌≤◌}
+use Prim.Native.Nat.{ℕ, suc, ◌+◌, ◌*◌, ◌^◌, ◌≤◌, ◌<◌}
 use native.Mathlib.Omega.{arith}
+use Rattle.engine.specs.Relations.{relation_count}
 use Rattle.octets.specs.Sets.{set_length}
 use Rattle.graphfile.specs.Layout.{row_length, rows_length}
-
--- as the code has them, by the form
-module _ (wide : Bool) (n : ℕ) where
-  pub rows-wide : wide ≡ true → 17 * n ≡ rows_length wide n
-  unfolding rows_length
-  rows-wide w = ap (λ (b : Bool). row_length b * n) (sym w)
-
-  pub rows-narrow : wide ≡ false → 9 * n ≡ rows_length wide n
-  unfolding rows_length
-  rows-narrow w = ap (λ (b : Bool). row_length b * n) (sym w)
-
-pub ruleset lengths = (rows-wide, rows-narrow)
 
 -- no set has more bytes
 pub set-most : (wide : Bool) → set_length wide ≤ 16
@@ -58,3 +47,14 @@ pub rows-most : (wide : Bool) (n : ℕ) → rows_length wide n ≤ 17 * n
 unfolding rows_length
 rows-most true n = omega arith
 rows-most false n = omega arith
+
+-- as the code has them, by the length of a set
+module _ (wide : Bool) (n long : ℕ) (e : long ≡ set_length wide) where
+  pub rows-by : (1 + long) * n ≡ rows_length wide n
+  unfolding rows_length
+  rows-by = ap (λ (l : ℕ). (1 + l) * n) e
+
+  pub rows_fit : n ≤ 65536 * relation_count → (1 + long) * n < 2 ^ 64
+  rows_fit l = omega (arith, rows-by, rows-most wide n)
+
+pub ruleset lengths = (rows-by, rows_fit)

@@ -1,11 +1,12 @@
 -- The writer's loops over the rows of a relation: counting them, and storing them. Assumes nothing.
 use mathlib.Core.Path.{◌≡◌, refl, sym, ap, ◌∙◌}
-use mathlib.Core.Bool.{Bool, true, false}
+use mathlib.Core.Bool.{Bool, true, false, not}
 use mathlib.Core.List.{List, [], ◌∷◌, ◌++◌}
 use Prim.Native.Nat.{ℕ, suc, ◌+◌, ◌-◌, ◌^◌, ◌≤◌, ◌<◌}
 use native.Mathlib.Nat.{add-zero, zero-add, sub-zero}
 use native.Mathlib.Numerals.{add-one}
 use native.Mathlib.Omega.{arith}
+use lib.Dec.{eqb}
 use lib.ListN.{length, set, length-set}
 use lib.Seq.{sets, length-sets}
 use Rattle.sets.specs.Tests.{when◌then◌else◌}
@@ -64,25 +65,15 @@ module _ (wide : Bool) (s : Set) (e : Bool) (h : e ≡ is_empty s) where
     pub room-key : at < length out
     room-key = omega (arith, length-one t)
 
--- ---- as the code has the end, by the form
+-- ---- the form, as a const parameter has it
 
-pub end-wide : (wide : Bool) → wide ≡ true → 128 ≡ most_rows wide
-end-wide wide w = ap most_rows (sym w)
-
-pub end-narrow : (wide : Bool) → wide ≡ false → 64 ≡ most_rows wide
-end-narrow wide w = ap most_rows (sym w)
-
--- the rows below either end are those that the form has a place for
-module _ (wide : Bool) (rows : List ℕ) (n : ℕ) where
-  pub count-wide : wide ≡ true → n ≡ count_from rows 128 0 → n ≡ row_count wide rows
-  count-wide w h = h ∙ ap (λ (k : ℕ). count_from rows k 0) (end-wide wide w)
-
-  pub count-narrow : wide ≡ false → n ≡ count_from rows 64 0 → n ≡ row_count wide rows
-  count-narrow w h = h ∙ ap (λ (k : ℕ). count_from rows k 0) (end-narrow wide w)
+abbrev pub form_of : ℕ → Bool
+form_of n = not (eqb n 0)
 
 -- ---- one activity after the other
 
-module _ (rows : List ℕ) (most a : ℕ) (l : a < most) where
+-- the code has the end in a number of its own
+module _ (rows : List ℕ) (most a end : ℕ) (e : end ≡ most) (l : a < end) where
   left : most - a ≡ suc (most - (a + 1))
   left = omega arith
 
@@ -93,7 +84,7 @@ module _ (rows : List ℕ) (most a : ℕ) (l : a < most) where
 
   pub count_turn : (s : Set) → s ≡ row_at rows a → (n k whole : ℕ) → n + count_from rows (most - a) a ≡ whole → k ≡ rows_for s
       → n + k + count_from rows (most - (a + 1)) (a + 1) ≡ whole
-  count_turn s h n k whole e f = let g : k ≡ rows_for (row_at rows a) = f ∙ ap rows_for h in omega (arith, count-step)
+  count_turn s h n k whole p f = let g : k ≡ rows_for (row_at rows a) = f ∙ ap rows_for h in omega (arith, count-step)
 
   module _ (wide : Bool) where
     rows_step : rows_from wide rows (most - a) a ≡ row_of wide a (row_at rows a) ++ rows_from wide rows (most - (a + 1)) (a + 1)
@@ -110,24 +101,24 @@ module _ (rows : List ℕ) (most a : ℕ) (l : a < most) where
           ∙ ap (λ (v : Set). rows_length wide (rows_for v) + rows_length wide (count_from rows (most - (a + 1)) (a + 1))) (sym h)
 
       -- the place after the row, and what room the rows from here on need
-      pub place-turn : (next next' end : ℕ) → next + rows_length wide (count_from rows (most - a) a) ≡ end → next' ≡ next + rows_length wide (rows_for s)
-          → next' + rows_length wide (count_from rows (most - (a + 1)) (a + 1)) ≡ end
-      place-turn next next' end e f = omega (arith, length-step)
+      pub place-turn : (next next' all : ℕ) → next + rows_length wide (count_from rows (most - a) a) ≡ all → next' ≡ next + rows_length wide (rows_for s)
+          → next' + rows_length wide (count_from rows (most - (a + 1)) (a + 1)) ≡ all
+      place-turn next next' all p f = omega (arith, length-step)
 
-      pub place-room : (next end : ℕ) (out out₀ : List ℕ) → next + rows_length wide (count_from rows (most - a) a) ≡ end → end ≤ length out₀
+      pub place-room : (next all : ℕ) (out out₀ : List ℕ) → next + rows_length wide (count_from rows (most - a) a) ≡ all → all ≤ length out₀
           → length out ≡ length out₀
           → next + rows_length wide (rows_for s) ≤ length out
-      place-room next end out out₀ e f g = omega (arith, length-step)
+      place-room next all out out₀ p f g = omega (arith, length-step)
 
       pub rows-turn : (out out' whole : List ℕ) (next next' : ℕ) → sets out next (rows_from wide rows (most - a) a) ≡ whole
           → next' ≡ next + rows_length wide (rows_for s) → out' ≡ sets out next (row_of wide a s)
           → sets out' next' (rows_from wide rows (most - (a + 1)) (a + 1)) ≡ whole
-      rows-turn out out' whole next next' e f g =
+      rows-turn out out' whole next next' w f g =
           let p : next' ≡ next + length (row_of wide a s) = omega (arith, length-row wide a s) in
           follow out out' _ (row_of wide a s) (rows_from wide rows (most - (a + 1)) (a + 1)) next next' p g refl
           ∙ ap (λ (v : Set). sets out next (row_of wide a v ++ rows_from wide rows (most - (a + 1)) (a + 1))) h
           ∙ ap (sets out next) (sym rows_step)
-          ∙ e
+          ∙ w
 
 module _ (wide : Bool) (rows : List ℕ) (most : ℕ) (h : most ≡ most_rows wide) where
   all : most - 0 ≡ most_rows wide
@@ -142,25 +133,24 @@ module _ (wide : Bool) (rows : List ℕ) (most : ℕ) (h : most ≡ most_rows wi
 pub count-begin : (rows : List ℕ) (most : ℕ) → 0 + count_from rows (most - 0) 0 ≡ count_from rows most 0
 count-begin rows most = zero-add _ ∙ ap (λ (n : ℕ). count_from rows n 0) (sub-zero most)
 
-pub count-end : (rows : List ℕ) (most a n whole : ℕ) → most ≤ a → n + count_from rows (most - a) a ≡ whole → n ≡ whole
-unfolding count_from
-count-end rows most a n whole l e =
-    let none : most - a ≡ 0 = omega arith in
-    sym (add-zero n) ∙ ap (λ (k : ℕ). n + count_from rows k a) (sym none) ∙ e
+module _ (rows : List ℕ) (most a end : ℕ) (e : end ≡ most) (l : end ≤ a) where
+  none : most - a ≡ 0
+  none = omega arith
 
-pub place_end : (wide : Bool) (rows : List ℕ) (most a next end : ℕ) → most ≤ a → next + rows_length wide (count_from rows (most - a) a) ≡ end → next ≡ end
-unfolding count_from
-place_end wide rows most a next end l e =
-    let none : most - a ≡ 0 = omega arith in
-    let zero-long = rows_none wide in
-    let same = ap (λ (k : ℕ). next + rows_length wide (count_from rows k a)) none in
-    omega (arith, e)
+  pub count-end : (n whole : ℕ) → n + count_from rows (most - a) a ≡ whole → n ≡ whole
+  unfolding count_from
+  count-end n whole p = sym (add-zero n) ∙ ap (λ (k : ℕ). n + count_from rows k a) (sym none) ∙ p
 
-pub rows-end_lem : (wide : Bool) (rows out whole : List ℕ) (most a next : ℕ) → most ≤ a → sets out next (rows_from wide rows (most - a) a) ≡ whole → out ≡ whole
-unfolding rows_from
-rows-end_lem wide rows out whole most a next l e =
-    let none : most - a ≡ 0 = omega arith in
-    ap (λ (n : ℕ). sets out next (rows_from wide rows n a)) (sym none) ∙ e
+  pub place_end : (wide : Bool) (next all : ℕ) → next + rows_length wide (count_from rows (most - a) a) ≡ all → next ≡ all
+  unfolding count_from
+  place_end wide next all p =
+      let zero-long = rows_none wide in
+      let same = ap (λ (k : ℕ). next + rows_length wide (count_from rows k a)) none in
+      omega (arith, p)
+
+  pub rows-end_lem : (wide : Bool) (out whole : List ℕ) (next : ℕ) → sets out next (rows_from wide rows (most - a) a) ≡ whole → out ≡ whole
+  unfolding rows_from
+  rows-end_lem wide out whole next p = ap (λ (n : ℕ). sets out next (rows_from wide rows n a)) (sym none) ∙ p
 
 pub kept-length : (out out' out₀ vs : List ℕ) (at : ℕ) → length out ≡ length out₀ → out' ≡ sets out at vs → length out' ≡ length out₀
 kept-length out out' out₀ vs at e f = ap length f ∙ length-sets out at vs ∙ e

@@ -6,7 +6,7 @@ use Prim.Native.Nat.{ℕ, zero, suc, ◌+◌, ◌*◌, ◌≤◌, ◌<◌}
 use native.Mathlib.Nat.{zero-add}
 use native.Mathlib.Numerals.{add-one}
 use native.Mathlib.Omega.{arith}
-use lib.ListN.{length, set, length-append}
+use lib.ListN.{length, length-append}
 use lib.Seq.{sets, length-sets}
 use Rattle.sets.specs.Tests.{when◌then◌else◌}
 use Rattle.sets.specs.Members.{is_empty}
@@ -25,8 +25,8 @@ use Rattle.octets.proofs.NumberLaws.{number-stored, number-kept}
 use Rattle.octets.proofs.SetLaws.{length-set, set-stored, set-kept}
 use Rattle.graphfile.specs.Layout.{letters, events_place, state_length, entries_place, entry_length, head_length, rows_length, sum_of}
 use Rattle.graphfile.specs.Refusals.{most_rows}
-use Rattle.graphfile.specs.Writing.{row_of, rows_for, rows_from, count_from, row_count, counts_of, total_of, rows_before, entry_bytes, entries_for, entries_bytes}
-use Rattle.graphfile.specs.declared.writer.Counts.{Counts}
+use Rattle.graphfile.specs.Writing.{row_of, rows_for, rows_from, count_from, row_count, AreCounts, total_of, rows_before, entry_bytes, entries_for, entries_bytes}
+use Rattle.graphfile.specs.declared.counts.Counts.{Counts}
 use Rattle.graphfile.specs.Writing.{state_bytes, head_bytes, relation_bytes, relations_bytes, bytes_by}
 use Rattle.octets.specs.Editions.{edition_for}
 use Rattle.graphfile.proofs.RowLengths.{rows_none, rows-one, rows-add, rows-le}
@@ -102,11 +102,6 @@ entry-stored wide out mid end at earlier count long room hl e f =
     (number-stored out mid at long e (omega arith)) (number-stored mid end (at + number_length) count f (omega arith))
     ∙ ap (λ (n : ℕ). sets out at (little_endian number_length n ++ little_endian number_length count)) hl
 
--- the letters, the edition and A, byte by byte
-pub letters-stored : (out : List ℕ) (a e : ℕ) → e ≡ edition_for a
-    → set (set (set (set out 0 66) 1 71) 2 e) 3 a ≡ sets out 0 (letters ++ (edition_for a ∷ a ∷ []))
-letters-stored out a e h = ap (λ (n : ℕ). sets out 0 (letters ++ (n ∷ a ∷ []))) h
-
 -- three parts, each from the place where the one before it ends
 module _ (o o₁ o₂ o₃ a b c : List ℕ) (p p₁ p₂ : ℕ) (e₁ : p₁ ≡ p + length a) (e₂ : p₂ ≡ p₁ + length b)
     (h₁ : o₁ ≡ sets o p a) (h₂ : o₂ ≡ sets o₁ p₁ b) (h₃ : o₃ ≡ sets o₂ p₂ c) where
@@ -146,28 +141,27 @@ module _ (wide : Bool) (o o₁ o₂ o₃ : List ℕ) where
 
 -- ---- the four entries
 
-pub counts-by_lem : (wide : Bool) (tables : List ℕ) (a b c d : ℕ) → a ≡ row_count wide (table_at tables 0) → b ≡ row_count wide (table_at tables 1)
-    → c ≡ row_count wide (table_at tables 2) → d ≡ row_count wide (table_at tables 3)
-    → ◌≡◌ {A = Counts} (record { conditions = a; responses = b; includes = c; excludes = d }) (counts_of wide tables)
-unfolding counts_of
-counts-by_lem wide tables a b c d ha hb hc hd = λ i. record { conditions = ha i; responses = hb i; includes = hc i; excludes = hd i }
-
 -- what is added up relation by relation is what the code counted
-module _ (wide : Bool) (tables : List ℕ) (c : Counts) (hc : c ≡ counts_of wide tables) where
+module _ (wide : Bool) (tables : List ℕ) (c : Counts) (are : AreCounts wide tables c) where
   abbrev first : ℕ
   first = row_count wide (table_at tables 0)
 
   -- the sum begins with nothing
   pub total-by : (n : ℕ) → n ≡ total_of c → n ≡ rows_before wide tables relation_count
-  unfolding counts_of sum_of
+  unfolding sum_of
   total-by n h =
-      h ∙ ap total_of hc
+      h ∙ (λ i. are.conditions i + are.responses i + are.includes i + are.excludes i)
       ∙ ap (λ (x : ℕ). x + row_count wide (table_at tables 1) + row_count wide (table_at tables 2) + row_count wide (table_at tables 3)) (sym (zero-add first))
 
   pub entries_by : (out out' : List ℕ) (at : ℕ) → out' ≡ sets out at (entries_for wide c) → out' ≡ sets out at (entries_bytes wide tables relation_count)
-  unfolding counts_of entries_bytes sum_of
+  unfolding entries_bytes sum_of
   entries_by out out' at h =
-      h ∙ ap (λ (x : Counts). sets out at (entries_for wide x)) hc
+      h
+      ∙ (λ i.
+      sets out at
+      (entry_bytes wide 0 (are.conditions i) ++ entry_bytes wide (are.conditions i) (are.responses i)
+      ++ entry_bytes wide (are.conditions i + are.responses i) (are.includes i)
+      ++ entry_bytes wide (are.conditions i + are.responses i + are.includes i) (are.excludes i)))
       ∙ ap
       (λ (x : ℕ).
       sets out at

@@ -1,7 +1,7 @@
 -- The file of a graph, and what a write gives and leaves in the buffer.
-use Rattle.std.specs.Prelude.{Bool, List, [], ◌∷◌, ◌++◌, ℕ, zero, suc, ◌+◌, ◌≤◌, ltb, length, drop}
+use Rattle.std.specs.Prelude.{◌≡◌, Bool, List, [], ◌∷◌, ◌++◌, ℕ, zero, suc, ◌+◌, ltb, length, drop}
 use Rattle.sets.specs.Tests.{when◌then◌else◌}
-use Rattle.sets.specs.Members.{width, is_empty}
+use Rattle.sets.specs.Members.{is_empty}
 use Rattle.sets.specs.Rows.{row_at}
 use Rattle.sets.specs.Tables.{table_at}
 use Rattle.sets.specs.Answers.{is_done, then_ask}
@@ -14,7 +14,7 @@ use Rattle.engine.specs.declared.graph.Graph.{Graph}
 use Rattle.engine.specs.Relations.{relation_count}
 use Rattle.engine.specs.Judged.{judged}
 use Rattle.graphfile.specs.declared.writer.Written.{Written}
-use Rattle.graphfile.specs.declared.writer.Counts.{Counts}
+use Rattle.graphfile.specs.declared.counts.Counts.{Counts}
 use Rattle.octets.specs.Numbers.{little_endian, number_length}
 use Rattle.octets.specs.Sets.{set_bytes}
 use Rattle.octets.specs.Editions.{edition_for}
@@ -48,18 +48,12 @@ row_count wide rows = count_from rows (most_rows wide) 0
 abbrev pub rows_before : Bool → List ℕ → ℕ → ℕ
 rows_before wide tables r = sum_of (λ k. row_count wide (table_at tables k)) r
 
--- as the code counts them, once for the file's length and its entries: each relation's rows, no more than a set has members; and all of them
-unfoldable pub counts_of : Bool → List ℕ → Counts
-counts_of wide tables =
-    record {
-      conditions = row_count wide (table_at tables 0);
-      responses = row_count wide (table_at tables 1);
-      includes = row_count wide (table_at tables 2);
-      excludes = row_count wide (table_at tables 3);
-    }
-
-abbrev pub Counted : Counts → Type 0
-Counted c = (c.conditions ≤ width) × (c.responses ≤ width) × (c.includes ≤ width) × (c.excludes ≤ width)
+-- as the code counts them, once for the file's length and its entries: each relation's rows; and all of them
+pub record AreCounts (wide : Bool) (tables : List ℕ) (c : Counts) : Type 0 where
+  pub conditions : c.conditions ≡ row_count wide (table_at tables 0)
+  pub responses : c.responses ≡ row_count wide (table_at tables 1)
+  pub includes : c.includes ≡ row_count wide (table_at tables 2)
+  pub excludes : c.excludes ≡ row_count wide (table_at tables 3)
 
 abbrev pub total_of : Counts → ℕ
 total_of c = c.conditions + c.responses + c.includes + c.excludes

@@ -1,10 +1,12 @@
 // What stands where in a graph file, whose sets have 8 bytes or 16 by its edition (02, 10/12).
-ghost use Rattle.std.specs.Prelude.{◌≡◌, suc, ◌+◌, ◌*◌, ◌^◌, ◌≤◌, ◌<◌, length};
+ghost use Rattle.std.specs.Prelude.{◌≡◌, ◌+◌, ◌*◌, ◌^◌, ◌≤◌, ◌<◌, length};
 ghost use Rattle.graphfile.specs.Layout.{wide_for, entries_place, head_length, rows_length, state_length, state_at, state_in, marking_at};
 ghost use Rattle.octets.specs.Editions.{wide_in};
-ghost use Rattle.graphfile.specs.Layout.{head_at, head_in, offset_in, count_in, earlier_rows, row_place, key_in, row_in};
+ghost use Rattle.graphfile.specs.Layout.{head_at, head_in};
+ghost use Rattle.graphfile.specs.Refusals.{most_rows};
 ghost use Rattle.graphfile.specs.Markings.{marking_length};
 ghost use Rattle.graphfile.specs.Heads.{lone_head_length};
+ghost use Rattle.sets.specs.Members.{width};
 ghost use Rattle.engine.specs.Relations.{relation_count};
 ghost use Rattle.octets.specs.Numbers.{number_length, number_at};
 ghost use Rattle.octets.specs.Sets.{set_length, set_at};
@@ -14,8 +16,9 @@ use engine::{Head, Marking, Relations, State, enabled};
 use octets::edition::{WIDE, edition_for, edition_in};
 use octets::number::LENGTH as NUMBER;
 use octets::set::length;
-use octets::{number_at, set, set_at};
-use sets::Set;
+use octets::{byte_at, number_at, set_at};
+use sets::activity::WORD;
+use sets::{Activity, Set};
 
 // The two letters that a file opens with; the edition comes after them.
 pub const LETTERS: [u8; 2] = *b"BG";
@@ -31,11 +34,6 @@ pub const EVENTS: usize = 4;
 // The bytes of an entry: an offset and a number of rows.
 pub const ENTRY: usize = 2 * NUMBER;
 
-// The bytes of a row: a key and a set.
-const NARROW_ROW: usize = 1 + set::NARROW;
-
-const WIDE_ROW: usize = 1 + set::WIDE;
-
 // Whether a file has wide sets (02, 10/12).
 pub fn is_wide(bytes: &[u8]) -> bool
     ensures { result ≡ wide_in bytes.now }
@@ -48,6 +46,15 @@ pub fn wide_for(activities: u8) -> bool
     ensures { result ≡ wide_for activities }
 {
     edition_for(activities) == WIDE
+}
+
+// The greatest number of rows of a relation, whatever A is. The activities that a form has a bit for are below it: no other has a row in the file, so the
+// loops over the rows end there.
+pub(crate) fn most_rows(wide: bool) -> u8
+    ensures value { result ≡ most_rows wide }
+    ensures upper_bound { result ≤ width }
+{
+    if wide { Activity::LIMIT } else { WORD }
 }
 
 // Where the entries begin: after the events and the marking.
@@ -71,14 +78,11 @@ pub(crate) fn rows_length(wide: bool, n: usize) -> usize
     requires { n ≤ 65536 * relation_count }
     ensures { result ≡ rows_length wide n }
 {
-    if wide {
-        return WIDE_ROW * n;
-    }
-    NARROW_ROW * n
+    (1 + length(wide)) * n
 }
 
 // Where row k stands.
-fn row_place(wide: bool, k: usize) -> usize
+pub(crate) fn row_place(wide: bool, k: usize) -> usize
     requires { k ≤ 65536 * relation_count }
     ensures { result ≡ head_length wide + rows_length wide k }
 {
@@ -86,7 +90,7 @@ fn row_place(wide: bool, k: usize) -> usize
 }
 
 // The set at a place whose bytes are there. It is read from a part of just its length: then the compiler sees that there is room, and asks for it at no row.
-fn set_in(bytes: &[u8], at: usize, wide: bool) -> Set
+pub(crate) fn set_in(bytes: &[u8], at: usize, wide: bool) -> Set
     requires { at + set_length wide ≤ length bytes.now }
     ensures { result ≡ set_at wide bytes.now at }
 {
@@ -95,7 +99,7 @@ fn set_in(bytes: &[u8], at: usize, wide: bool) -> Set
 }
 
 // A number whose bytes are there, in the same way.
-fn number_in(bytes: &[u8], at: usize) -> u16
+pub(crate) fn number_in(bytes: &[u8], at: usize) -> u16
     requires { at + number_length ≤ length bytes.now }
     ensures { result ≡ number_at number_length bytes.now at }
 {
@@ -115,10 +119,10 @@ fn state_at(bytes: &[u8], at: usize, wide: bool) -> State
     State::of(executed, pending, included)
 }
 
-pub(crate) fn state_in(bytes: &[u8], wide: bool) -> State
-    requires { wide ≡ wide_in bytes.now }
+pub(crate) fn state_in(bytes: &[u8]) -> State
     ensures { result ≡ state_in bytes.now }
 {
+    let wide = is_wide(bytes);
     state_at(bytes, EVENTS + length(wide), wide)
 }
 
@@ -147,66 +151,13 @@ pub(crate) fn head_at(bytes: &[u8], at: usize, wide: bool) -> Head
 
 // The head of a file whose relations have been read: its set of enabled activities follows from them.
 pub(crate) fn head_in(bytes: &[u8], relations: &Relations) -> Head
-    requires { head_length (wide_in bytes.now) ≤ length bytes.now }
     ensures { result ≡ head_in bytes.now relations.now }
 {
-    let wide = is_wide(bytes);
-    let events = set_at(bytes, EVENTS, wide);
-    let state = state_in(bytes, wide);
+    let events = set_at(bytes, EVENTS, is_wide(bytes));
+    let state = state_in(bytes);
     Head {
-        activities: bytes[ACTIVITIES],
+        activities: byte_at(bytes, ACTIVITIES),
         events,
         opening: enabled::marked(events, relations, state),
     }
-}
-
-// What entry r says. The form is handed over here and below, so that whoever goes from entry to entry or from row to row asks for it once.
-pub(crate) fn offset_in(bytes: &[u8], r: usize, wide: bool) -> usize
-    requires wide_value { wide ≡ wide_in bytes.now }
-    requires r_lt_relation_count { (r < relation_count) × (head_length (wide_in bytes.now) ≤ length bytes.now) }
-    ensures { result ≡ offset_in bytes.now r }
-{
-    number_in(bytes, entries_place(wide) + ENTRY * r) as usize
-}
-
-pub(crate) fn count_in(bytes: &[u8], r: usize, wide: bool) -> usize
-    requires wide_value { wide ≡ wide_in bytes.now }
-    requires r_lt_relation_count { (r < relation_count) × (head_length (wide_in bytes.now) ≤ length bytes.now) }
-    ensures value { result ≡ count_in bytes.now r }
-    ensures upper_bound { result < 65536 }
-{
-    number_in(bytes, entries_place(wide) + NUMBER + ENTRY * r) as usize
-}
-
-// How many rows the relations before r have.
-pub(crate) fn earlier_rows(bytes: &[u8], r: usize, wide: bool) -> usize
-    requires wide_value { wide ≡ wide_in bytes.now }
-    requires r_le_relation_count { (r ≤ relation_count) × (head_length (wide_in bytes.now) ≤ length bytes.now) }
-    ensures value { result ≡ earlier_rows bytes.now r }
-    ensures upper_bound { result ≤ 65536 * r }
-{
-    let mut rows = 0;
-    let mut i = 0;
-    while i < r {
-        rows += count_in(bytes, i, wide);
-        i += 1;
-    }
-    rows
-}
-
-// The key and the set of row k.
-pub(crate) fn key_in(bytes: &[u8], k: usize, wide: bool) -> u8
-    requires wide_value { wide ≡ wide_in bytes.now }
-    requires k_bound { (k ≤ 65536 * relation_count) × (row_place bytes.now k < length bytes.now) }
-    ensures { result ≡ key_in bytes.now k }
-{
-    bytes[row_place(wide, k)]
-}
-
-pub(crate) fn row_in(bytes: &[u8], k: usize, wide: bool) -> Set
-    requires wide_value { wide ≡ wide_in bytes.now }
-    requires k_bound { (k < 65536 * relation_count) × (row_place bytes.now (suc k) ≤ length bytes.now) }
-    ensures { result ≡ row_in bytes.now k }
-{
-    set_in(bytes, row_place(wide, k) + 1, wide)
 }

@@ -1,17 +1,17 @@
 // The reader: what a file holds. A row is judged and put into its relation in one step, so that the rows are walked once.
-ghost use Rattle.std.specs.Prelude.{◌≡◌, true, false, ◌+◌, ◌*◌, ◌≤◌, ◌<◌, length};
-ghost use Rattle.sets.specs.Answers.{first_refusal};
+ghost use Rattle.std.specs.Prelude.{◌≡◌, false, ◌≤◌, length, IfOk, IfErr, OnOk};
+ghost use Rattle.sets.specs.Answers.{is_done, first_refusal};
 ghost use Rattle.sets.specs.declared.answer.Answer.TheVariants.{Done};
 ghost use Rattle.engine.specs.Relations.{relation_count};
-ghost use Rattle.graphfile.specs.Layout.{events_in, state_in, row_place, end_of};
-ghost use Rattle.octets.specs.Editions.{wide_in};
+ghost use Rattle.graphfile.specs.Layout.{end_of};
 ghost use Rattle.graphfile.specs.Refusals.{judged_row, judged_relation, judged_file};
-ghost use Rattle.graphfile.specs.Held.{filled, with_relation, with_relations, bare_of, bare_tables, read_of};
+ghost use Rattle.graphfile.specs.Held.{filled, with_relations, bare_of, bare_tables, read_of};
 
+use crate::file::File;
+use crate::rows::Rows;
 use crate::{layout, refusal};
 use engine::graph::KINDS;
 use engine::{Graph, Head, Relations, State};
-use octets::set_at;
 use sets::rows::WORDS;
 use sets::{Activity, Answer, Set, tables};
 
@@ -22,113 +22,69 @@ pub struct Reading {
     pub graph: Graph,
 }
 
-// So many rows of a file of edition 1, each put at its key into table r, up to the first that is refused. The form is written out, here and in
-// the twin for edition 2: where it is handed to one loop, the compiler asks for it at each row.
-fn take_rows_narrow(bytes: &[u8], r: u8, count: usize, first: usize, held: &mut Relations) -> Answer
-    requires false_value { false ≡ wide_in bytes.now }
-    requires count_bound { (first + count ≤ 65536 * relation_count) × (row_place bytes.now (first + count) ≤ length bytes.now) }
-    ensures value { result ≡ first_refusal count (judged_row bytes.now first) }
-    ensures held_after { result ≡ Done → held.new ≡ filled bytes.now held.old r count first }
+// The rows of a relation, each put at its key into table r, up to the first that is refused. The form is a const parameter: where it is handed to one
+// loop, the compiler asks for it at each row.
+fn take_rows_in<const WIDE: bool>(rows: &Rows, r: u8, held: &mut Relations) -> Answer
+    requires { WIDE ≡ rows.now.wide }
+    ensures value { result ≡ first_refusal rows.now.count (judged_row rows.now.bytes.now rows.now.first) }
+    ensures held_after { result ≡ Done → held.new ≡ filled rows.now.bytes.now held.old r rows.now.count rows.now.first }
 {
-    let events = set_at(bytes, layout::EVENTS, false);
-    let mut j = 0;
-    while j < count {
-        let key = Activity(layout::key_in(bytes, first + j, false));
-        let row = layout::row_in(bytes, first + j, false);
-        let above = refusal::key_rises(bytes, first, j, false);
-        if !refusal::is_right(events, key, row, above) {
-            return refusal::refused_row(events, key, row);
+    let rows = rows.in_form::<WIDE>();
+    for j in 0..rows.count {
+        let key = Activity(rows.key(j));
+        let row = rows.set(j);
+        let above = rows.rises(j);
+        if !refusal::is_right(rows.events, key, row, above) {
+            return refusal::refused_row(rows.events, key, row);
         }
         tables::put(held, r, key, row);
-        j += 1;
     }
     Answer::Done
 }
 
-// The same of edition 2.
-fn take_rows_wide(bytes: &[u8], r: u8, count: usize, first: usize, held: &mut Relations) -> Answer
-    requires true_value { true ≡ wide_in bytes.now }
-    requires count_bound { (first + count ≤ 65536 * relation_count) × (row_place bytes.now (first + count) ≤ length bytes.now) }
-    ensures value { result ≡ first_refusal count (judged_row bytes.now first) }
-    ensures held_after { result ≡ Done → held.new ≡ filled bytes.now held.old r count first }
+// The same, in the form that they have.
+fn take_rows(rows: &Rows, r: u8, held: &mut Relations) -> Answer
+    ensures value { result ≡ first_refusal rows.now.count (judged_row rows.now.bytes.now rows.now.first) }
+    ensures held_after { result ≡ Done → held.new ≡ filled rows.now.bytes.now held.old r rows.now.count rows.now.first }
 {
-    let events = set_at(bytes, layout::EVENTS, true);
-    let mut j = 0;
-    while j < count {
-        let key = Activity(layout::key_in(bytes, first + j, true));
-        let row = layout::row_in(bytes, first + j, true);
-        let above = refusal::key_rises(bytes, first, j, true);
-        if !refusal::is_right(events, key, row, above) {
-            return refusal::refused_row(events, key, row);
-        }
-        tables::put(held, r, key, row);
-        j += 1;
+    if rows.wide {
+        take_rows_in::<true>(rows, r, held)
+    } else {
+        take_rows_in::<false>(rows, r, held)
     }
-    Answer::Done
-}
-
-// The same of either.
-fn take_rows(
-    bytes: &[u8],
-    r: u8,
-    count: usize,
-    first: usize,
-    held: &mut Relations,
-    wide: bool,
-) -> Answer
-    requires wide_value { wide ≡ wide_in bytes.now }
-    requires count_bound { (first + count ≤ 65536 * relation_count) × (row_place bytes.now (first + count) ≤ length bytes.now) }
-    ensures value { result ≡ first_refusal count (judged_row bytes.now first) }
-    ensures held_after { result ≡ Done → held.new ≡ filled bytes.now held.old r count first }
-{
-    if wide {
-        return take_rows_wide(bytes, r, count, first, held);
-    }
-    take_rows_narrow(bytes, r, count, first, held)
-}
-
-// The rows of relation r.
-fn take_relation(bytes: &[u8], r: u8, held: &mut Relations, wide: bool) -> Answer
-    requires wide_value { wide ≡ wide_in bytes.now }
-    requires r_lt_relation_count { (r < relation_count) × (end_of bytes.now ≤ length bytes.now) }
-    ensures value { result ≡ judged_relation bytes.now r }
-    ensures held_after { result ≡ Done → held.new ≡ with_relation bytes.now held.old r }
-{
-    let first = layout::earlier_rows(bytes, r as usize, wide);
-    let count = layout::count_in(bytes, r as usize, wide);
-    take_rows(bytes, r, count, first, held, wide)
 }
 
 // The four relations in turn.
-fn take_relations(bytes: &[u8], held: &mut Relations, wide: bool) -> Answer
-    requires wide_value { wide ≡ wide_in bytes.now }
-    requires bytes_in_bounds { end_of bytes.now ≤ length bytes.now }
-    ensures value { result ≡ first_refusal relation_count (judged_relation bytes.now) }
-    ensures held_after { result ≡ Done → held.new ≡ with_relations bytes.now held.old relation_count }
+fn take_relations(file: &File, held: &mut Relations) -> Answer
+    requires { end_of file.now.bytes.now ≤ length file.now.bytes.now }
+    ensures value { result ≡ first_refusal relation_count (judged_relation file.now.bytes.now) }
+    ensures held_after { result ≡ Done → held.new ≡ with_relations file.now.bytes.now held.old relation_count }
 {
-    let mut r: u8 = 0;
-    while r < KINDS {
-        let answer = take_relation(bytes, r, held, wide);
+    for r in 0..KINDS {
+        let answer = take_rows(&file.rows(r as usize), r, held);
         if !answer.is_done() {
             return answer;
         }
-        r += 1;
     }
     Answer::Done
 }
 
-// All of a file, whose events and state have been read: its answer, and the relations' tables; of a refused file they are of no use.
-fn take(bytes: &[u8], events: Set, state: State, held: &mut Relations, wide: bool) -> Answer
-    requires wide_value { wide ≡ wide_in bytes.now }
-    requires events_value { (events ≡ events_in bytes.now) × (state ≡ state_in bytes.now) }
-    ensures value { result ≡ judged_file bytes.now }
-    ensures held_after { result ≡ Done → held.new ≡ with_relations bytes.now held.old relation_count }
+// All of a file: opened and judged, and its rows put into the tables; of a refused file these are of no use.
+fn take<'a>(bytes: &'a [u8], held: &mut Relations) -> Result<File<'a>, Answer>
+    ensures ok { IfOk result (λ f. (f.bytes.now ≡ bytes.now) × (judged_file bytes.now ≡ Done)) }
+    ensures held_after { OnOk result (held.new ≡ with_relations bytes.now held.old relation_count) }
+    ensures err { IfErr result (λ a. (a ≡ judged_file bytes.now) × (is_done a ≡ false)) }
 {
-    let answer = refusal::judge_before_rows(bytes, events, state);
-    if !answer.is_done() {
-        return answer;
+    let file = File::open(bytes)?;
+    let front = refusal::judge_before_rows(&file);
+    if !front.is_done() {
+        return Err(front);
     }
-    take_relations(bytes, held, wide)
+    let rows = take_relations(&file, held);
+    if !rows.is_done() {
+        return Err(rows);
+    }
+    Ok(file)
 }
 
 // What a read without the set of enabled activities gives, beside the relations: for callers that hand no marking on. Of a refused file nothing.
@@ -145,22 +101,20 @@ pub fn read_bare(bytes: &[u8], relations: &mut Relations) -> Bare
     ensures value { result ≡ bare_of bytes.now }
     ensures relations_after { relations.new ≡ bare_tables bytes.now relations.old }
 {
-    let wide = layout::is_wide(bytes);
-    let events = set_at(bytes, layout::EVENTS, wide);
-    let state = layout::state_in(bytes, wide);
-    let answer = take(bytes, events, state, relations, wide);
-    if !answer.is_done() {
-        *relations = [0; KINDS as usize * WORDS];
-        return Bare {
-            answer,
-            events: Set::EMPTY,
-            state: State::EMPTY,
-        };
-    }
-    Bare {
-        answer,
-        events,
-        state,
+    match take(bytes, relations) {
+        Ok(file) => Bare {
+            answer: Answer::Done,
+            events: file.events,
+            state: file.state,
+        },
+        Err(answer) => {
+            *relations = [0; KINDS as usize * WORDS];
+            Bare {
+                answer,
+                events: Set::EMPTY,
+                state: State::EMPTY,
+            }
+        }
     }
 }
 

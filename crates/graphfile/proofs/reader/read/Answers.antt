@@ -1,9 +1,6 @@
 use borrow.Author.Rules.{rules}
-use Rattle.graphfile.proofs.Filling.{read-long, read_taken, read-refused}
+use Rattle.graphfile.proofs.Filling.{read_taken, read-refused}
 use Rattle.graphfile.proofs.reader.read.Goals as goal
-
-pub head_in-head-requires : goal.head_in-head-requires
-head_in-head-requires c = search (read-long, rules)
 
 pub returns-then-is_done : goal.returns-then-is_done
 returns-then-is_done c = search (read_taken, rules)

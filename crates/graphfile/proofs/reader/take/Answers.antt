@@ -1,13 +1,16 @@
 use borrow.Author.Rules.{rules}
 use Rattle.graphfile.proofs.Accepted.{end-within}
-use Rattle.graphfile.proofs.Filling.{front-stops, rows-follow}
+use Rattle.graphfile.proofs.Filling.{reading-through}
 use Rattle.graphfile.proofs.reader.take.Goals as goal
 
-pub returns-then-not-is_done-clause-value : goal.returns-then-not-is_done-clause-value
-returns-then-not-is_done-clause-value c = search (front-stops, rules)
+pub returns-then-not-is_done-clause-err : goal.returns-then-not-is_done-clause-err
+returns-then-not-is_done-clause-err c = search (reading-through, rules)
 
-pub take_relations-requires-clause-bytes_in_bounds : goal.take_relations-requires-clause-bytes_in_bounds
-take_relations-requires-clause-bytes_in_bounds c = search (end-within, rules)
+pub returns-then-not-is_done-2-clause-err : goal.returns-then-not-is_done-2-clause-err
+returns-then-not-is_done-2-clause-err c = search (reading-through, rules)
 
-pub returns-clause-value : goal.returns-clause-value
-returns-clause-value c = search (rows-follow, rules)
+pub returns-clause-ok : goal.returns-clause-ok
+returns-clause-ok c = search (reading-through, rules)
+
+pub take_relations-rows-requires : goal.take_relations-rows-requires
+take_relations-rows-requires c = search (end-within, rules)

@@ -1,16 +1,12 @@
 use borrow.Author.Rules.{rules}
 use Rattle.graphfile.proofs.Judging.{ends}
-use Rattle.graphfile.proofs.Forms.{forms}
 use Rattle.graphfile.proofs.refusal.judge_end.Goals as goal
 
-pub overflow_add-end : goal.overflow_add-end
-overflow_add-end c = search (ends, forms, rules)
+pub returns-then-file-end : goal.returns-then-file-end
+returns-then-file-end c = search (ends, rules)
 
-pub returns-then-bytes-end : goal.returns-then-bytes-end
-returns-then-bytes-end c = search (ends, forms, rules)
-
-pub returns-then-end-bytes : goal.returns-then-end-bytes
-returns-then-end-bytes c = search (ends, forms, rules)
+pub returns-then-end-file : goal.returns-then-end-file
+returns-then-end-file c = search (ends, rules)
 
 pub returns : goal.returns
-returns c = search (ends, forms, rules)
+returns c = search (ends, rules)

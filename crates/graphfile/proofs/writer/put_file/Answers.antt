@@ -3,4 +3,4 @@ use Rattle.graphfile.proofs.Stores.{entries_by, file-stored}
 use Rattle.graphfile.proofs.writer.put_file.Goals as goal
 
 pub returns : goal.returns
-returns c = search (entries_by, file-stored, rules)
+returns g c = search (entries_by, file-stored, rules)

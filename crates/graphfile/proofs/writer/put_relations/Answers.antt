@@ -4,10 +4,10 @@ use Rattle.graphfile.proofs.Stores.{each-relation}
 use Rattle.graphfile.proofs.writer.put_relations.Goals as goal
 
 pub loop-r-init : goal.loop-r-init
-loop-r-init c = search (each-relation, rules)
+loop-r-init g c = search (each-relation, rules)
 
 pub put_rows-next-requires : goal.put_rows-next-requires
-put_rows-next-requires c = search (each-relation, kept-length, rules)
+put_rows-next-requires g c = search (each-relation, kept-length, rules)
 
 pub loop-r-preserved : goal.loop-r-preserved
-loop-r-preserved c = search (each-relation, kept-length, rules)
+loop-r-preserved g c = search (each-relation, kept-length, rules)

@@ -1,6 +1,6 @@
 use Rattle.graphfile.proofs.Places.{counting}
 use borrow.Author.Rules.{rules}
-use Rattle.graphfile.proofs.layout.earlier_rows.Goals as goal
+use Rattle.graphfile.proofs.file.File.earlier_rows.Goals as goal
 
 pub loop-i-init : goal.loop-i-init
 loop-i-init c = search (counting, rules)

@@ -1,9 +1,0 @@
-use borrow.Author.Rules.{rules}
-use Rattle.graphfile.proofs.Forms.{forms}
-use Rattle.graphfile.proofs.layout.row_in.Goals as goal
-
-pub overflow_add-row_place : goal.overflow_add-row_place
-overflow_add-row_place c = search (forms, rules)
-
-pub set_in-requires : goal.set_in-requires
-set_in-requires c = search (forms, rules)
