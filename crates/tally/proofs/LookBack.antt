@@ -1,6 +1,6 @@
 -- Looking back from a place to the last e: what stands since then. By blocks of eight places: a block without an e is passed at once, and what
 -- stands in a block stays true from place to place. Assumes nothing.
-use mathlib.Core.Path.{◌≡◌, refl, sym, ap, ap₂, ◌∙◌}
+use mathlib.Core.Path.{◌≡◌, refl, sym, ap, ap₂, ◌∙◌, subst}
 use mathlib.Core.Bool.{Bool, true, false, not}
 use mathlib.Core.List.{List, [], ◌∷◌, reverse_aux}
 use Prim.Native.Nat.{ℕ, zero, suc, ◌+◌, ◌-◌, ◌≤◌, ◌<◌, ◌*◌, ◌/◌}
@@ -10,6 +10,8 @@ use borrow.Author.Tests.{eq-eqb, ne_eqb, lt-ltb, le-ltb, ltb-true, ltb-false, eq
 use lib.Dec.{eqb, T, eqb→eq, ltb, lt→ltb, ltb→lt}
 use lib.ListN.{length, get_or, take, drop, length-drop}
 use lib.Seq.{drop-length, get_or-take, get_or-drop, length-take-le}
+use Rattle.std.specs.List.{push}
+use Rattle.tally.proofs.Backwards.{First, first_all, first-longer, first-item, first-less}
 use Rattle.sets.specs.Tests.{◌and◌, ◌or◌, non, when◌then◌else◌}
 use Rattle.sets.specs.Members.{width, mem, those, is_empty, no_set, some_below}
 use Rattle.sets.specs.declared.set.Set.{Set}
@@ -181,6 +183,46 @@ module _ {past : List ℕ} {e i : ℕ} {wanted left : Set} (inv : Looked past e 
         (λ a l. sym (ap (λ (t : Bool). mem left a and non t)
         (ap (since e a []) (ap (past_at past) (sym again) ∙ past_next past (i - 1) here) ∙ since-last e a y _ (eq-eqb e y (sym q)))))
         ∙ look-whole
+
+-- ---- the same by what is left of the places, which are passed from the last
+
+abbrev pub LookedTo : List ℕ → ℕ → Set → Set → List ℕ → Type 0
+LookedTo past e wanted left rest = First past rest × Looked past e wanted left (length rest)
+
+pub looked-start : (past : List ℕ) (e : ℕ) (wanted : Set) (rest : List ℕ) → those (mem wanted) ≡ wanted → rest ≡ past → LookedTo past e wanted wanted rest
+looked-start past e wanted rest h q = (first_all past rest q, look-start past e wanted (length rest) h (ap length (sym q)))
+
+module _ {past rest : List ℕ} {e : ℕ} {wanted left : Set} (inv : LookedTo past e wanted left rest) where
+  module _ (rest' : List ℕ) (x : ℕ) (left' one : Set) (q : rest ≡ push rest' x) (ho : one ≡ those (λ b. eqb b x))
+      (hl : left' ≡ those (λ a. mem left a and non (mem one a))) where
+    longer : length rest ≡ length rest' + 1
+    longer = first-longer rest' x inv.0 q
+
+    at : length rest - 1 ≡ length rest'
+    at = omega (arith, longer)
+
+    item : get_or past (length rest - 1) 0 ≡ x
+    item = ap (λ (n : ℕ). get_or past n 0) at ∙ first-item rest' x inv.0 q
+
+    only : one ≡ those (λ b. eqb b (get_or past (length rest - 1) 0))
+    only = ho ∙ ap (λ (y : ℕ). those (λ b. eqb b y)) (sym item)
+
+    pub looked-next : (x ≡ e → ⊥) → LookedTo past e wanted left' rest'
+    looked-next ne =
+        (
+          first-less rest' x inv.0 q,
+          subst (λ (n : ℕ). Looked past e wanted left' n) at
+          (look-next inv.1 (omega (arith, longer)) left' one only hl (λ y. ne (sym item ∙ y))),
+        )
+
+    pub looked-stop : x ≡ e → left' ≡ wanted_of e past wanted
+    looked-stop y = look_stop inv.1 (omega (arith, longer)) left' one only hl (item ∙ y)
+
+  pub looked-empty : (r : Bool) → r ≡ is_empty left → r ≡ true → left ≡ wanted_of e past wanted
+  looked-empty = look-empty inv.1
+
+  pub looked-end : length rest ≡ 0 → left ≡ wanted_of e past wanted
+  looked-end h = look-end inv.1 (omega (arith, h))
 
 -- ---- whether a block is passed
 

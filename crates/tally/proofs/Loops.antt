@@ -14,6 +14,8 @@ use Rattle.sets.specs.declared.set.Set.{Set}
 use Rattle.rules.specs.Traces.{◌has◌, ◌begins_with◌}
 use Rattle.tally.specs.Passes.{forward, backward, reaches, in_block}
 use Rattle.tally.specs.Tallies.{note_past_in, note_rest_in, place_by, rest_by}
+use Rattle.std.specs.List.{push}
+use Rattle.tally.proofs.Backwards.{First, first_all, first-longer, first-item, first-less}
 use Rattle.tally.proofs.Turns.{past_at, past_next, rest-next, held_in, last_in, held_more, held_all, held_none, last_none, rest-is, forward-next, forward-end}
 use Rattle.tally.proofs.Alternate.{place_is}
 use Rattle.tally.proofs.LookBack.{blocks-none, blocks-next}
@@ -122,3 +124,28 @@ module _ {wide : Bool} {σ t₀ t : List ℕ} {after next : Set} {i : ℕ} (inv 
 
       here : Homeward wide σ t₀ t after next (k + 1)
       here = subst (λ (n : ℕ). Homeward wide σ t₀ t after next n) (omega arith) inv
+
+-- the same by what is left of the trace, which is passed from its end
+abbrev pub HomewardTo : Bool → (σ t₀ t : List ℕ) → (after next : Set) → List ℕ → Type 0
+HomewardTo wide σ t₀ t after next rest = First σ rest × Homeward wide σ t₀ t after next (length rest)
+
+pub homeward_to-start : (wide : Bool) (σ t rest : List ℕ) → rest ≡ σ → HomewardTo wide σ t t no_set no_set rest
+homeward_to-start wide σ t rest h = (first_all σ rest h, subst (λ (l : List ℕ). Homeward wide σ t t no_set no_set (length l)) (sym h) (homeward-start wide σ t))
+
+module _ {wide : Bool} {σ t₀ t rest : List ℕ} {after next : Set} (inv : HomewardTo wide σ t₀ t after next rest) where
+  pub homeward_to-turn : (rest' : List ℕ) (x : ℕ) (t' : List ℕ) (one both after' : Set) → rest ≡ push rest' x → t' ≡ rest_by wide t x after next
+      → one ≡ those (λ b. eqb b x) → both ≡ those (λ a. mem after a or mem one a)
+      → after' ≡ those (λ y. reaches wide y and mem both y) → HomewardTo wide σ t₀ t' after' one rest'
+  homeward_to-turn rest' x t' one both after' e ht ho hb ha =
+      let longer = first-longer rest' x inv.0 e in
+      let at : length rest - 1 ≡ length rest' = omega (arith, longer) in
+      let item : get_or σ (length rest - 1) 0 ≡ x = ap (λ (n : ℕ). get_or σ n 0) at ∙ first-item rest' x inv.0 e in
+      (
+        first-less rest' x inv.0 e,
+        subst (λ (n : ℕ). Homeward wide σ t₀ t' after' one n) at
+        (homeward-turn inv.1 (omega (arith, longer)) t' one both after'
+        (ht ∙ ap (λ (y : ℕ). rest_by wide t y after next) (sym item)) (ho ∙ ap (λ (y : ℕ). those (λ b. eqb b y)) (sym item)) hb ha),
+      )
+
+  pub homeward_to-end : length rest ≡ 0 → t ≡ backward (note_rest_in wide) t₀ [] σ
+  homeward_to-end h = homeward-end inv.1 (omega (arith, h))

@@ -26,13 +26,10 @@ fn unmet(past: &[u8], e: Activity, wanted: Set) -> Set
     ensures { result ≡ those (λ x. mem wanted x and not_since e.0 (reverse_aux past.now []) [] x) }
 {
     let mut left = wanted;
-    let mut i = past.len();
-    while 0 < i {
+    for &x in past.iter().rev() {
         if left.is_empty() {
             return left;
         }
-        i -= 1;
-        let x = past[i];
         left = left.difference(Set::one(Activity(x)));
         if x == e.0 {
             return left;
@@ -95,18 +92,17 @@ fn unmet_by<'a>(past: &'a [u8], blocks: &'a Rows, e: Activity, wanted: Set) -> S
 
 // One place: what does not stand since the last e. At the first e of a trace that is what was not seen. A row that has all can gain
 // nothing, and that is the first question, since the answer is mostly the same.
-pub(crate) fn note_since<'a>(
+pub(crate) fn note_since<'a, const WIDE: bool>(
     past: &'a [u8],
     blocks: &'a Rows,
     e: Activity,
     seen: Set,
-    wide: bool,
     tally: &mut Tally,
 )
     requires { blocks.now ≡ rows_of (in_block past.now) }
-    ensures { tally.new ≡ since_by wide tally.old e.0 past.now seen }
+    ensures { tally.new ≡ since_by WIDE tally.old e.0 past.now seen }
 {
-    let wanted = in_form(tables::row(tally, UNALTERNATED, e).complement(), wide);
+    let wanted = in_form(tables::row(tally, UNALTERNATED, e).complement(), WIDE);
     if wanted.is_empty() {
         return;
     }
@@ -114,7 +110,7 @@ pub(crate) fn note_since<'a>(
         let left = unmet_by(past, blocks, e, wanted);
         tables::join(tally, UNALTERNATED, e, left);
     } else {
-        tables::join(tally, UNALTERNATED, e, in_form(seen.complement(), wide));
+        tables::join(tally, UNALTERNATED, e, in_form(seen.complement(), WIDE));
     }
 }
 
@@ -132,12 +128,10 @@ pub(crate) fn put_down(blocks: &mut Rows, e: Activity, at: usize)
 pub(crate) fn take_up(blocks: &mut Rows, places: usize)
     ensures { (past : List ℕ) → blocks.old ≡ rows_of (in_block past) → length past ≡ places → blocks.new ≡ no_rows }
 {
-    let mut j: usize = 0;
-    while j < WIDTH {
+    for j in 0..WIDTH {
         if places <= j * BLOCK {
             return;
         }
         rows::put(blocks, Activity(j as u8), Set::EMPTY);
-        j += 1;
     }
 }

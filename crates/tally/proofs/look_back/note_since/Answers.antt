@@ -14,13 +14,13 @@ looked-low : (s : Set) (e : ℕ) (r : Bool) → Whole s → r ≡ mem s e → r 
 looked-low s e r hs hr ht = whole-low s hs e (true→T (sym hr ∙ ht))
 
 pub returns-then-is_empty : goal.returns-then-is_empty
-returns-then-is_empty c = search (note-full, those-mem, rules)
+returns-then-is_empty g c = search (note-full, those-mem, rules)
 
 pub unmet_by-left-requires-clause-e_lt_width : goal.unmet_by-left-requires-clause-e_lt_width
-unmet_by-left-requires-clause-e_lt_width c = search (looked-low, those-mem, rules)
+unmet_by-left-requires-clause-e_lt_width g c = search (looked-low, those-mem, rules)
 
 pub returns-then-has : goal.returns-then-has
-returns-then-has c = search (note-repeat, rules)
+returns-then-has g c = search (note-repeat, rules)
 
 pub returns-else-has : goal.returns-else-has
-returns-else-has c = search (note-first, rules)
+returns-else-has g c = search (note-first, rules)

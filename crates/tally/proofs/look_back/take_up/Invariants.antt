@@ -11,5 +11,3 @@ use Rattle.tally.proofs.look_back.take_up.Given as goal
 abbrev pub invariant-loop-j : goal.invariant-loop-j
 invariant-loop-j l = (l.j ≤ width) × ((past : List ℕ) → l.initial.blocks ≡ rows_of (in_block past) → length past ≡ l.places → l.blocks ≡ left_from past l.j)
 
-abbrev pub decreases-loop-j : goal.decreases-loop-j
-decreases-loop-j l = width - l.j

@@ -13,7 +13,8 @@ use Rattle.rules.specs.Traces.{◌has◌}
 use Rattle.tally.specs.Passes.{walked, reaches, event_in}
 use Rattle.tally.specs.Tallies.{noted_for}
 use Rattle.tally.proofs.Walks.{Left, events_from, events-start, events-next, through-start, through-next}
-use Rattle.tally.proofs.log.note_traces_in.Given as goal
+use Rattle.std.specs.Prelude.{not, ◌==◌}
+use Rattle.tally.proofs.log.note_traces.Given as goal
 
 -- what is left of the walk, from the tally as it is, gives the whole walk
 pub record Walked (wide : Bool) (log : List ℕ) (n : ℕ) (t₀ t blocks : List ℕ) (events : Set) (k : ℕ) : Type 0 where
@@ -47,7 +48,5 @@ module _ {wide : Bool} {log : List ℕ} {n : ℕ} {t₀ t blocks : List ℕ} {ev
       }
 
 abbrev pub invariant-loop-k : goal.invariant-loop-k
-invariant-loop-k l = Walked l.wide l.log l.traces l.initial.tally l.tally l.blocks l.events l.k
+invariant-loop-k g l = Walked (not (g.row.WIDE == 0)) l.log l.traces l.initial.tally l.tally l.blocks l.events l.k
 
-abbrev pub decreases-loop-k : goal.decreases-loop-k
-decreases-loop-k l = l.traces - l.k
