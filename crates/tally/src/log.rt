@@ -1,17 +1,17 @@
 // The tally of a log: what steps 1 to 7 ask of it. It keeps what was seen, or what breaks a rule, over all activities of the width: all of
 // it only grows, so the facts of two logs join by union.
-ghost use Rattle.std.specs.Prelude.{◌≡◌};
+ghost use Rattle.std.specs.Prelude.{◌≡◌, []};
 ghost use Rattle.sets.specs.Tests.{◌and◌, ◌or◌};
 ghost use Rattle.sets.specs.Members.{mem, those};
-ghost use Rattle.sets.specs.Rows.{no_rows};
 ghost use Rattle.sets.specs.Tables.{no_tables};
 ghost use Rattle.rules.specs.Traces.{◌has◌};
-ghost use Rattle.tally.specs.Passes.{through, walked, reaches, event_in};
+ghost use Rattle.tally.specs.Passes.{through, walked, reaches, event_in, Knows};
 ghost use Rattle.tally.specs.Tallies.{table_count, noted_for};
 
+use crate::look_back::Blocks;
 use crate::passes;
 use sets::rows::WORDS;
-use sets::{Rows, Set, rows};
+use sets::Set;
 
 // Row t: what stands before some t.
 pub const BEFORE: u8 = 0;
@@ -43,12 +43,12 @@ pub fn empty() -> Tally
 fn note_trace<const WIDE: bool>(
     trace: &[u8],
     events: Set,
-    blocks: &mut Rows,
+    blocks: &mut Blocks,
     tally: &mut Tally,
 ) -> Set
-    requires { blocks.old ≡ no_rows }
+    requires { Knows blocks.old.rows [] }
     ensures value { result ≡ those (λ x. mem events x or reaches WIDE x and trace.now has x) }
-    ensures blocks_after { blocks.new ≡ no_rows }
+    ensures blocks_after { Knows blocks.new.rows [] }
     ensures tally_after { tally.new ≡ noted_for WIDE tally.old trace.now }
 {
     let seen = passes::forward::<WIDE>(trace, blocks, tally);
@@ -61,7 +61,7 @@ fn note_traces<const WIDE: bool>(log: &[u8], traces: usize, tally: &mut Tally) -
     ensures value { result ≡ those (event_in WIDE (walked log.now traces 0)) }
     ensures tally_after { tally.new ≡ through (noted_for WIDE) tally.old (walked log.now traces 0) }
 {
-    let mut blocks = rows::empty();
+    let mut blocks = Blocks::empty();
     let mut events = Set::EMPTY;
     for k in 0..traces {
         let trace = calllog::trace::trace_at(log, k);

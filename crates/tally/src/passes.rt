@@ -1,18 +1,17 @@
 // The passes over one trace that fill the tally. Each puts down, in the rows of every place's activity, what its past or its rest
 // says; `seen` and `after` are the sets of what stands before and after the place. The form is a const parameter: the compiler drops the
 // second word of a set only in a loop that is made for the narrow form alone.
-ghost use Rattle.std.specs.Prelude.{◌≡◌, [], ◌/◌, eqb, length};
+ghost use Rattle.std.specs.Prelude.{◌≡◌, [], ◌∷◌, ◌++◌};
 ghost use Rattle.sets.specs.Members.{those};
-ghost use Rattle.sets.specs.Tests.{◌and◌, ◌or◌};
-ghost use Rattle.sets.specs.Rows.{no_rows, rows_of};
+ghost use Rattle.sets.specs.Tests.{◌and◌};
 ghost use Rattle.rules.specs.Traces.{◌has◌};
-ghost use Rattle.tally.specs.Passes.{forward, backward, reaches, in_block};
+ghost use Rattle.tally.specs.Passes.{forward, backward, reaches, Knows};
 ghost use Rattle.tally.specs.Tallies.{note_past_in, note_rest_in, past_by, place_by, rest_by};
 
 use crate::form::{holds, in_form};
 use crate::log::{BEFORE, FOLLOWED, LATER, Tally, UNANSWERED, UNCHAINED, UNPRECEDED};
-use crate::look_back;
-use sets::{Activity, Rows, Set, tables};
+use crate::look_back::{Blocks, Past};
+use sets::{Activity, Set, tables};
 
 // One place: what was seen before it, what was not, and what does not stand directly before it.
 fn note_past<const WIDE: bool>(e: Activity, seen: Set, last: Set, tally: &mut Tally)
@@ -25,33 +24,37 @@ fn note_past<const WIDE: bool>(e: Activity, seen: Set, last: Set, tally: &mut Ta
 
 // One place of the forward pass: what its past says, of what the form can hold. Its block knows the place then. The block is known in either
 // case, and said twice, so that in the narrow form the compiler sees there how small e is.
-fn note_place<'a, const WIDE: bool>(
-    past: &'a [u8],
+fn note_place<const WIDE: bool>(
+    past: &[u8],
     e: Activity,
     seen: Set,
     last: Set,
-    blocks: &mut Rows,
+    blocks: &mut Blocks,
     tally: &mut Tally,
 )
-    requires { blocks.old ≡ rows_of (in_block past.now) }
-    ensures blocks_after { blocks.new ≡ rows_of (λ j x. in_block past.now j x or eqb j (length past.now / 8) and eqb x e.0) }
+    requires { Knows blocks.old.rows past.now }
+    ensures blocks_after { Knows blocks.new.rows (past.now ++ e.0 ∷ []) }
     ensures tally_after { tally.new ≡ place_by WIDE tally.old e.0 past.now seen last }
 {
     if holds(e, WIDE) {
         note_past::<WIDE>(e, seen, last, tally);
-        look_back::note_since::<WIDE>(past, blocks, e, seen, tally);
-        look_back::put_down(blocks, e, past.len());
+        let before = Past {
+            places: past,
+            blocks,
+        };
+        before.note_since::<WIDE>(e, seen, tally);
+        blocks.put_down(past, e);
     } else {
-        look_back::put_down(blocks, e, past.len());
+        blocks.put_down(past, e);
     }
 }
 
 // From the first place to the last, looking back from a repeat. The rows of its blocks are lent empty and left empty. It gives the set of what
 // stands in the trace, as far as the form holds it.
-pub(crate) fn forward<const WIDE: bool>(trace: &[u8], blocks: &mut Rows, tally: &mut Tally) -> Set
-    requires { blocks.old ≡ no_rows }
+pub(crate) fn forward<const WIDE: bool>(trace: &[u8], blocks: &mut Blocks, tally: &mut Tally) -> Set
+    requires { Knows blocks.old.rows [] }
     ensures value { result ≡ those (λ x. reaches WIDE x and trace.now has x) }
-    ensures blocks_after { blocks.new ≡ no_rows }
+    ensures blocks_after { Knows blocks.new.rows [] }
     ensures tally_after { tally.new ≡ forward (note_past_in WIDE) tally.old [] trace.now }
 {
     let mut seen = Set::EMPTY;
@@ -62,7 +65,7 @@ pub(crate) fn forward<const WIDE: bool>(trace: &[u8], blocks: &mut Rows, tally: 
         last = Set::one(e);
         seen = in_form(seen.union(last), WIDE);
     }
-    look_back::take_up(blocks, trace.len());
+    blocks.take_up(trace);
     seen
 }
 

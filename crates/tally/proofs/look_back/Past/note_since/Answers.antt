@@ -7,7 +7,7 @@ use Rattle.sets.specs.declared.set.Set.{Set}
 use Rattle.sets.proofs.Tests.{true→T}
 use Rattle.sets.proofs.Members.{Whole, whole-low, those-mem}
 use Rattle.tally.proofs.Alternate.{note-full, note-repeat, note-first}
-use Rattle.tally.proofs.look_back.note_since.Goals as goal
+use Rattle.tally.proofs.look_back.Past.note_since.Goals as goal
 
 -- what was seen is below the width
 looked-low : (s : Set) (e : ℕ) (r : Bool) → Whole s → r ≡ mem s e → r ≡ true → e < width
@@ -16,8 +16,8 @@ looked-low s e r hs hr ht = whole-low s hs e (true→T (sym hr ∙ ht))
 pub returns-then-is_empty : goal.returns-then-is_empty
 returns-then-is_empty g c = search (note-full, those-mem, rules)
 
-pub unmet_by-left-requires-clause-e_lt_width : goal.unmet_by-left-requires-clause-e_lt_width
-unmet_by-left-requires-clause-e_lt_width g c = search (looked-low, those-mem, rules)
+pub unmet-left-requires : goal.unmet-left-requires
+unmet-left-requires g c = search (looked-low, those-mem, rules)
 
 pub returns-then-has : goal.returns-then-has
 returns-then-has g c = search (note-repeat, rules)
