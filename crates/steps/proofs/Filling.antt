@@ -6,7 +6,7 @@ use Prim.Native.Nat.{ℕ, ◌<◌}
 use borrow.Author.Tests.{eqb-true}
 use lib.Dec.{eqb}
 use Rattle.sets.specs.Tests.{◌and◌, ◌or◌, when◌then◌else◌}
-use Rattle.sets.specs.Members.{width, mem, those, least_below, is_empty, Takes}
+use Rattle.sets.specs.Members.{width, mem, those, is_empty, Takes}
 use Rattle.sets.specs.Rows.{Relation, no_rows, with_row, rows_of, rows_for}
 use Rattle.sets.specs.declared.set.Set.{Set}
 use Rattle.sets.proofs.Tests.{true-and, false-and, or-true, or-false}

@@ -18,7 +18,11 @@ fn reduced_row<const WIDE: bool>(rows: &Rows, source: Activity) -> Set
     ensures { result ≡ those (reduced_of rows.now source.0) }
 {
     let row = rows::row(rows, source);
-    let from = if WIDE { row } else { row.intersection(Set::below(WORD)) };
+    let from = if WIDE {
+        row
+    } else {
+        row.intersection(Set::below(WORD))
+    };
     let mut kept = Set::EMPTY;
     let mut targets = from;
     let mut middles = from.members();
@@ -41,7 +45,9 @@ fn reduced_row<const WIDE: bool>(rows: &Rows, source: Activity) -> Set
 fn reduced_row_in(rows: &Rows, source: Activity) -> Set
     ensures { result ≡ those (reduced_of rows.now source.0) }
 {
-    if rows::row(rows, source).is_within(Set::below(WORD)) {
+    let row = rows::row(rows, source);
+    let word = Set::below(WORD);
+    if row.is_within(word) {
         reduced_row::<false>(rows, source)
     } else {
         reduced_row::<true>(rows, source)

@@ -96,7 +96,10 @@ pub fn excluded_by<'a>(
     ensures { result ≡ rows_for events (excluders events (table_at tables.now before) (table_at tables.now later)
         chains.now) }
 {
-    rows_at(events, |a| excluders(events, tables, before, later, chains, a))
+    rows_at(
+        events,
+        |a| excluders(events, tables, before, later, chains, a),
+    )
 }
 
 // ---- step 6

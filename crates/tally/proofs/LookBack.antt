@@ -212,12 +212,11 @@ module _ {past rest : List ℕ} {e : ℕ} {wanted left : Set} (inv : LookedTo pa
     only = ho ∙ ap (λ (y : ℕ). those (λ b. eqb b y)) (sym item)
 
     pub looked-next : (x ≡ e → ⊥) → LookedTo past e wanted left' rest'
-    looked-next ne =
-        (
-          first-less rest' x inv.0 q,
-          subst (λ (n : ℕ). Looked past e wanted left' n) at
+    looked-next ne = (
+      first-less rest' x inv.0 q,
+      subst (λ (n : ℕ). Looked past e wanted left' n) at
           (look-next inv.1 (omega (arith, longer)) left' one only hl (λ y. ne (sym item ∙ y))),
-        )
+    )
 
     pub looked-stop : x ≡ e → left' ≡ wanted_of e past wanted
     looked-stop y = look_stop inv.1 (omega (arith, longer)) left' one only hl (item ∙ y)

@@ -2,14 +2,14 @@
 use mathlib.Core.Path.{◌≡◌, refl, sym, ap, subst, ◌∙◌}
 use mathlib.Core.Bool.{Bool}
 use mathlib.Core.List.{List, [], ◌∷◌, ◌++◌}
-use Prim.Native.Nat.{ℕ, ◌+◌, ◌-◌, ◌/◌, ◌≤◌, ◌<◌}
+use Prim.Native.Nat.{ℕ, ◌+◌, ◌-◌, ◌≤◌, ◌<◌}
 use native.Mathlib.Omega.{arith}
 use lib.Dec.{eqb}
 use lib.ListN.{length, get_or, take, drop}
 use lib.Seq.{take_all, drop-length}
 use Rattle.sets.specs.Tests.{◌and◌, ◌or◌}
 use Rattle.sets.specs.Members.{mem, those, no_set}
-use Rattle.sets.specs.Rows.{no_rows, rows_of}
+use Rattle.sets.specs.Rows.{rows_of}
 use Rattle.sets.specs.declared.set.Set.{Set}
 use Rattle.rules.specs.Traces.{◌has◌, ◌begins_with◌}
 use Rattle.tally.specs.Passes.{forward, backward, reaches, in_block, Knows}
@@ -139,12 +139,11 @@ module _ {wide : Bool} {σ t₀ t rest : List ℕ} {after next : Set} (inv : Hom
   homeward_to-turn rest' x t' one both after' e ht ho hb ha =
       let longer = first-longer rest' x inv.0 e in
       let at : length rest - 1 ≡ length rest' = omega (arith, longer) in
-      let item : get_or σ (length rest - 1) 0 ≡ x = ap (λ (n : ℕ). get_or σ n 0) at ∙ first-item rest' x inv.0 e in
-      (
+      let item : get_or σ (length rest - 1) 0 ≡ x = ap (λ (n : ℕ). get_or σ n 0) at ∙ first-item rest' x inv.0 e in (
         first-less rest' x inv.0 e,
         subst (λ (n : ℕ). Homeward wide σ t₀ t' after' one n) at
-        (homeward-turn inv.1 (omega (arith, longer)) t' one both after'
-        (ht ∙ ap (λ (y : ℕ). rest_by wide t y after next) (sym item)) (ho ∙ ap (λ (y : ℕ). those (λ b. eqb b y)) (sym item)) hb ha),
+            (homeward-turn inv.1 (omega (arith, longer)) t' one both after'
+            (ht ∙ ap (λ (y : ℕ). rest_by wide t y after next) (sym item)) (ho ∙ ap (λ (y : ℕ). those (λ b. eqb b y)) (sym item)) hb ha),
       )
 
   pub homeward_to-end : length rest ≡ 0 → t ≡ backward (note_rest_in wide) t₀ [] σ

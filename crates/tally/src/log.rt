@@ -10,8 +10,8 @@ ghost use Rattle.tally.specs.Tallies.{table_count, noted_for};
 
 use crate::look_back::Blocks;
 use crate::passes;
-use sets::rows::WORDS;
 use sets::Set;
+use sets::rows::WORDS;
 
 // Row t: what stands before some t.
 pub const BEFORE: u8 = 0;

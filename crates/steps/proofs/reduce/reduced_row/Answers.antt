@@ -8,7 +8,7 @@ use Rattle.steps.proofs.reduce.reduced_row.Goals.{then-this-ne0, else-this-ne0}
 pub target-init : goal.target-init
 target-init g c =
     elim c.if-this-ne0.branch [
-      then-this-ne0 w ↦ judging-from _ _ _ _ (is_row _ _ _ (w.from-is ∙ c.row-row.ensures)) c.members-middles.ensures
+      | then-this-ne0 w ↦ judging-from _ _ _ _ (is_row _ _ _ (w.from-is ∙ c.row-row.ensures)) c.members-middles.ensures
       | else-this-ne0 w ↦ judging-from _ _ _ _ (narrow-cut _ _ _ _ _ _ c.requires (search rules) c.row-row.ensures w.below.ensures (w.from-is ∙ w.intersection-from.ensures)) c.members-middles.ensures
     ]
 

@@ -1,8 +1,7 @@
-use mathlib.Core.Path.{◌≡◌, ap, ◌∙◌}
-use mathlib.Core.Bool.{Bool}
+use mathlib.Core.Path.{ap, ◌∙◌}
 use mathlib.Core.List.{List, []}
 use Prim.Native.Nat.{ℕ}
-use Rattle.sets.specs.Tests.{◌and◌, ◌or◌}
+use Rattle.sets.specs.Tests.{◌or◌}
 use Rattle.sets.specs.Members.{mem}
 use Rattle.sets.proofs.Members.{those-of}
 use Rattle.tally.specs.Passes.{backward}

@@ -5,7 +5,6 @@ use Prim.Native.Nat.{ℕ, ◌+◌, ◌-◌, ◌≤◌, ◌<◌}
 use native.Mathlib.Omega.{arith}
 use Rattle.sets.specs.Tests.{◌and◌, ◌or◌}
 use Rattle.sets.specs.Members.{mem, those, no_set}
-
 use Rattle.sets.specs.declared.set.Set.{Set}
 use Rattle.sets.proofs.Members.{those-mem, those-of}
 use Rattle.calllog.specs.Logs.{part_at}
@@ -49,4 +48,3 @@ module _ {wide : Bool} {log : List ℕ} {n : ℕ} {t₀ t blocks : List ℕ} {ev
 
 abbrev pub invariant-loop-k : goal.invariant-loop-k
 invariant-loop-k g l = Walked (not (g.row.WIDE == 0)) l.log l.traces l.initial.tally l.tally l.blocks.rows l.events l.k
-

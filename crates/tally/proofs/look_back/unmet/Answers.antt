@@ -1,4 +1,3 @@
-use mathlib.Core.Path.{refl}
 use borrow.Author.Rules.{rules}
 use Rattle.sets.proofs.Members.{those-mem}
 use Rattle.tally.proofs.LookBack.{looked-start, looked-next, looked-stop, looked-empty, looked-end}

@@ -3,7 +3,7 @@ use Rattle.tally.proofs.Loops.{onward-start, onward-turn, onward-known, onward-e
 use Rattle.tally.proofs.passes.forward.Goals as goal
 
 pub loop-i-init : goal.loop-i-init
-loop-i-init g c = search (onward-start, rules)
+loop-i-init g c = onward-start _ _ _ _ c.requires
 
 pub loop-i-preserved : goal.loop-i-preserved
 loop-i-preserved g c = search (onward-turn, rules)
