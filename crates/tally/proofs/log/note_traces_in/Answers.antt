@@ -1,19 +1,14 @@
 use borrow.Author.Rules.{rules}
-use Rattle.tally.specs.Tallies.{noted_for}
-use Rattle.tally.proofs.Walks.{events-end, through-end}
-use Rattle.tally.proofs.log.note_traces_in.Invariants.{start, turn}
 use Rattle.tally.proofs.log.note_traces_in.Goals as goal
 
-pub loop-k-init : goal.loop-k-init
-loop-k-init c = search (start, rules)
+pub returns-then-wide-clause-value : goal.returns-then-wide-clause-value
+returns-then-wide-clause-value c = search rules
 
-pub loop-k-preserved : goal.loop-k-preserved
-loop-k-preserved c = search (turn, rules)
+pub returns-then-wide-clause-tally_after : goal.returns-then-wide-clause-tally_after
+returns-then-wide-clause-tally_after c = search rules
 
-pub returns-clause-value : goal.returns-clause-value
-returns-clause-value c = let inv = c.loop-k.invariant in let over = c.loop-k-test.false in
-    events-end _ _ _ _ _ _ inv.a-set over inv.events-are
+pub returns-else-wide-clause-value : goal.returns-else-wide-clause-value
+returns-else-wide-clause-value c = search rules
 
-pub returns-clause-tally_after : goal.returns-clause-tally_after
-returns-clause-tally_after c = let inv = c.loop-k.invariant in let over = c.loop-k-test.false in
-    through-end (noted_for _) _ _ _ _ _ over inv.left
+pub returns-else-wide-clause-tally_after : goal.returns-else-wide-clause-tally_after
+returns-else-wide-clause-tally_after c = search rules
