@@ -54,28 +54,27 @@ fn put_never(events: Set, tally: &Tally, out: &mut Relations)
 }
 
 // Step 6, which asks the traces once more; the light profile leaves it out (02, 3/12).
-fn put_six<'a>(
+fn put_six<'a, const WIDE: bool>(
     bytes: &'a [u8],
     traces: usize,
     events: Set,
     tally: &'a Tally,
-    wide: bool,
     profile: Profile,
     out: &mut Relations,
 )
     ensures out_len_unchanged { length out.new ≡ length out.old }
     ensures out_after { length out.old ≡ relation_count * row_words
-        → table_at out.old 2 ≡ includes_in wide Light events tally.now (walked bytes.now traces 0)
-        → table_at out.new 2 ≡ includes_in wide profile events tally.now (walked bytes.now traces 0) }
+        → table_at out.old 2 ≡ includes_in WIDE Light events tally.now (walked bytes.now traces 0)
+        → table_at out.new 2 ≡ includes_in WIDE profile events tally.now (walked bytes.now traces 0) }
     ensures out_after_2 { length out.old ≡ relation_count * row_words
-        → table_at out.old 2 ≡ includes_in wide Light events tally.now (walked bytes.now traces 0)
+        → table_at out.old 2 ≡ includes_in WIDE Light events tally.now (walked bytes.now traces 0)
         → table_at out.old 3 ≡ excludes_six Light events tally.now
         → table_at out.new 3 ≡ excludes_six profile events tally.now }
 {
     match profile {
         Profile::Full => {
             put_never(events, tally, out);
-            includes::put_six(bytes, traces, wide, out);
+            includes::put_six::<WIDE>(bytes, traces, out);
             excludes::put_six(events, out);
         }
         Profile::Light => {}
@@ -83,56 +82,75 @@ fn put_six<'a>(
 }
 
 // The tables after step 8 that a tally gives, with the traces that it is of.
-fn put_eight<'a>(
+fn put_eight<'a, const WIDE: bool>(
     bytes: &'a [u8],
     traces: usize,
     events: Set,
     tally: &'a Tally,
-    wide: bool,
     profile: Profile,
     out: &mut Relations,
 )
     ensures { length out.old ≡ relation_count * row_words → out.new ≡ four_tables
         (rows_for events (reduced_of (conditions_of events tally.now)))
         (rows_for events (reduced_of (responses_of events tally.now)))
-        (includes_in wide profile events tally.now (walked bytes.now traces 0))
-        (seven_from events tally.now (includes_in wide profile events tally.now (walked bytes.now traces 0))
+        (includes_in WIDE profile events tally.now (walked bytes.now traces 0))
+        (seven_from events tally.now (includes_in WIDE profile events tally.now (walked bytes.now traces 0))
         (excludes_six profile events tally.now) (walked bytes.now traces 0)) }
 {
     includes::put_three(events, tally, out);
     excludes::put_excluded(events, tally, out);
     excludes::turn(out);
-    put_six(bytes, traces, events, tally, wide, profile, out);
+    put_six::<WIDE>(bytes, traces, events, tally, profile, out);
     redundant::put_seven(bytes, traces, events, tally, out);
     conditions::put_eight(events, tally, out);
     put_responses(events, tally, out);
 }
 
 // The same of a log's first traces; it gives their events, as far as the form holds them. The tally, the largest of all, is gone when it returns.
-fn tables_eight(
+fn tables_eight<const WIDE: bool>(
     bytes: &[u8],
     traces: usize,
-    wide: bool,
     profile: Profile,
     out: &mut Relations,
 ) -> Set
-    ensures value { result ≡ those (event_in wide (walked bytes.now traces 0)) }
+    ensures value { result ≡ those (event_in WIDE (walked bytes.now traces 0)) }
     ensures out_after { length out.old ≡ relation_count * row_words → out.new ≡ four_tables
-        (rows_for result (reduced_of (conditions_of result (tallied_for wide (walked bytes.now traces 0)))))
-        (rows_for result (reduced_of (responses_of result (tallied_for wide (walked bytes.now traces 0)))))
-        (includes_in wide profile result (tallied_for wide (walked bytes.now traces 0)) (walked bytes.now traces 0))
-        (seven_from result (tallied_for wide (walked bytes.now traces 0))
-        (includes_in wide profile result (tallied_for wide (walked bytes.now traces 0)) (walked bytes.now traces 0))
-        (excludes_six profile result (tallied_for wide (walked bytes.now traces 0))) (walked bytes.now traces 0)) }
+        (rows_for result (reduced_of (conditions_of result (tallied_for WIDE (walked bytes.now traces 0)))))
+        (rows_for result (reduced_of (responses_of result (tallied_for WIDE (walked bytes.now traces 0)))))
+        (includes_in WIDE profile result (tallied_for WIDE (walked bytes.now traces 0)) (walked bytes.now traces 0))
+        (seven_from result (tallied_for WIDE (walked bytes.now traces 0))
+        (includes_in WIDE profile result (tallied_for WIDE (walked bytes.now traces 0)) (walked bytes.now traces 0))
+        (excludes_six profile result (tallied_for WIDE (walked bytes.now traces 0))) (walked bytes.now traces 0)) }
 {
     let mut tally = log::empty();
-    let events = log::note_traces_in(bytes, traces, wide, &mut tally);
-    put_eight(bytes, traces, events, &tally, wide, profile, out);
+    let events = log::note_traces_in(bytes, traces, WIDE, &mut tally);
+    put_eight::<WIDE>(bytes, traces, events, &tally, profile, out);
     events
 }
 
-// The graph of a log's first traces: its head, and its relations in tables that are lent empty. Where all activities are below 64, the passes
-// keep one word of each set.
+// The graph of a log's first traces, its passes in a form: its head, and its relations in tables that are lent empty.
+fn graph_in<const WIDE: bool>(
+    bytes: &[u8],
+    activities: u8,
+    traces: usize,
+    profile: Profile,
+    found: &mut Relations,
+) -> Head
+    requires { found.old ≡ no_tables relation_count }
+    ensures value { result ≡ (graph_found_in WIDE activities (walked bytes.now traces 0) profile).head }
+    ensures found_after { found.new ≡ (graph_found_in WIDE activities (walked bytes.now traces 0) profile).relations }
+{
+    let events = tables_eight::<WIDE>(bytes, traces, profile, found);
+    conditions::put_nine::<WIDE>(bytes, traces, events, found);
+    conditions::put_ten(events, found);
+    Head {
+        activities,
+        events,
+        opening: enabled::marked(events, found, State::opening(events)),
+    }
+}
+
+// The same in the form that the activities ask for. Where all are below 64, the passes keep one word of each set.
 fn graph_found(
     bytes: &[u8],
     activities: u8,
@@ -144,15 +162,10 @@ fn graph_found(
     ensures value { result ≡ (graph_found_in (ltb word activities) activities (walked bytes.now traces 0) profile).head }
     ensures found_after { found.new ≡ (graph_found_in (ltb word activities) activities (walked bytes.now traces 0) profile).relations }
 {
-    let wide = WORD < activities;
-    let events = tables_eight(bytes, traces, wide, profile, found);
-    conditions::put_nine(bytes, traces, events, wide, found);
-    conditions::put_ten(events, found);
-    Head {
-        activities,
-        events,
-        opening: enabled::marked(events, found, State::opening(events)),
+    if WORD < activities {
+        return graph_in::<true>(bytes, activities, traces, profile, found);
     }
+    graph_in::<false>(bytes, activities, traces, profile, found)
 }
 
 // What mining gives beside the relations: the log's answer, and the head of its graph.

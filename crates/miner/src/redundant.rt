@@ -1,7 +1,7 @@
 // Step 7 (02, 7/12): the exclusions that are not redundant, put into the tables that are lent. What is left of them is in `left`. It loses,
 // for one event u after another, what u makes redundant. A pair whose target nothing lets in after the one and before the other is sure to
 // go; where something does, the traces are asked, and only until no such pair is in doubt any more.
-ghost use Rattle.std.specs.Prelude.{◌≡◌, ℕ, ◌<◌, ◌%◌, T, eqb};
+ghost use Rattle.std.specs.Prelude.{◌≡◌, ℕ, ◌<◌, ◌%◌, T, eqb, position};
 ghost use Rattle.sets.specs.Tests.{◌and◌, non};
 ghost use Rattle.sets.specs.Members.{width, mem, those, some_below, is_empty};
 ghost use Rattle.sets.specs.Rows.{Relation, row_at, in_row, rows_of};
@@ -20,30 +20,32 @@ use tally::{Tally, in_form, log};
 
 // ---- the traces
 
+// Where u stands for the first time in the trace.
+fn first_place(trace: &[u8], u: Activity) -> Option<usize>
+    ensures { result ≡ position (λ e. eqb e u.0) trace.now }
+{
+    trace.iter().position(|&e| e == u.0)
+}
+
 // After the first u of the trace: row e of `doubts` loses, at every e, what was let in since, as far as the form holds it. `since` is what
-// that is. The caller names each form by a literal, so that the compiler makes two passes of it and drops the second word in the narrow one.
-fn reopen_trace<'a>(
+// that is.
+fn reopen_trace<'a, const WIDE: bool>(
     trace: &'a [u8],
     u: Activity,
     held: &'a Relations,
-    wide: bool,
     doubts: &mut Rows,
 )
     ensures { Less doubts.old
-        (λ e x. reaches wide x and reopened_in (table_at held.now 2) u.0 trace.now e x) doubts.new }
+        (λ e x. reaches WIDE x and reopened_in (table_at held.now 2) u.0 trace.now e x) doubts.new }
 {
-    let mut begun = false;
-    let mut i: usize = 0;
-    while i < trace.len() && !begun {
-        begun = trace[i] == u.0;
-        i += 1;
-    }
+    let Some(first) = first_place(trace, u) else {
+        return;
+    };
     let mut since = Set::EMPTY;
-    while i < trace.len() {
-        let e = Activity(trace[i]);
+    for &n in &trace[first + 1..] {
+        let e = Activity(n);
         rows::lose(doubts, e, since);
-        since = in_form(since.union(tables::row(held, INCLUDES, e)), wide);
-        i += 1;
+        since = in_form(since.union(tables::row(held, INCLUDES, e)), WIDE);
     }
 }
 
@@ -60,7 +62,30 @@ fn none_doubted(doubts: &Rows, members: Set, asked: Set, k: usize) -> bool
     open.is_empty()
 }
 
-// The same of all traces, of the pairs from a member to what is asked. Where all that is asked lies below 64 the narrow form will do.
+// The same of all traces, of the pairs from a member to what is asked and the form holds.
+fn reopen_traces<'a, const WIDE: bool>(
+    log: &'a [u8],
+    traces: usize,
+    u: Activity,
+    held: &'a Relations,
+    members: Set,
+    asked: Set,
+    doubts: &mut Rows,
+)
+    ensures { (r : Relation) → doubts.old ≡ rows_of r → (a x : ℕ) → a < width → x < width → T (mem members a and mem asked x)
+        → T (reaches WIDE x) → in_row doubts.new a x ≡ (r a x and non
+        (reopened (table_at held.now 2) u.0 (walked log.now traces 0) a x)) }
+{
+    for k in 0..traces {
+        if none_doubted(doubts, members, asked, k) {
+            return;
+        }
+        let trace = calllog::trace::trace_at(log, k);
+        reopen_trace::<WIDE>(trace, u, held, doubts);
+    }
+}
+
+// The same of all that is asked. Where it lies below 64 the narrow form will do.
 fn reopen_log<'a>(
     log: &'a [u8],
     traces: usize,
@@ -74,19 +99,10 @@ fn reopen_log<'a>(
         → in_row doubts.new a x ≡ (r a x and non
         (reopened (table_at held.now 2) u.0 (walked log.now traces 0) a x)) }
 {
-    let wide = !asked.is_within(Set::below(WORD));
-    let mut k: usize = 0;
-    while k < traces {
-        if none_doubted(doubts, members, asked, k) {
-            return;
-        }
-        let trace = calllog::trace::trace_at(log, k);
-        k += 1;
-        if wide {
-            reopen_trace(trace, u, held, true, doubts);
-        } else {
-            reopen_trace(trace, u, held, false, doubts);
-        }
+    if asked.is_within(Set::below(WORD)) {
+        reopen_traces::<false>(log, traces, u, held, members, asked, doubts);
+    } else {
+        reopen_traces::<true>(log, traces, u, held, members, asked, doubts);
     }
 }
 

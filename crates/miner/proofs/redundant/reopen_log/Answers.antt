@@ -1,19 +1,11 @@
-use borrow.Author.Rules.{rules}
-use Rattle.miner.proofs.Reopening.{walk_start, walk-next, walk_end, walk-short}
+use Rattle.sets.specs.Members.{mem}
+use Rattle.sets.proofs.Tests.{and_r}
+use Rattle.miner.proofs.Reopening.{held-narrow, held-wide}
 use Rattle.miner.proofs.redundant.reopen_log.Goals as goal
 
-pub loop-k-init : goal.loop-k-init
-loop-k-init c = (search rules, walk_start _ _ _ _ _ _)
+pub returns-then-is_within : goal.returns-then-is_within
+returns-then-is_within c = λ r hr a x la lx p. c.reopen_traces.ensures r hr a x la lx p
+    (held-narrow _ _ _ c.below.ensures c.is_within.ensures c.if-is_within.true x lx (and_r (mem c.args.members a) _ p))
 
-pub returns-then-none_doubted : goal.returns-then-none_doubted
-returns-then-none_doubted c = walk-short _ _ _ _ _ _ _ _ _ _ _ c.below.ensures c.is_within-wide.ensures c.loop-k.invariant.1 _ _
-    c.none_doubted.ensures c.if-none_doubted.true
-
-pub loop-k-preserved-then-wide : goal.loop-k-preserved-then-wide
-loop-k-preserved-then-wide c = search (walk-next, rules)
-
-pub loop-k-preserved : goal.loop-k-preserved
-loop-k-preserved c = search (walk-next, rules)
-
-pub returns : goal.returns
-returns c = walk_end _ _ _ _ _ _ _ _ _ _ _ c.below.ensures c.is_within-wide.ensures c.loop-k.invariant.1 c.loop-k-test.false
+pub returns-else-is_within : goal.returns-else-is_within
+returns-else-is_within c = λ r hr a x la lx p. c.reopen_traces-else-is_within.ensures r hr a x la lx p (held-wide x)
