@@ -1,6 +1,6 @@
 use borrow.Author.Rules.{rules}
 use Rattle.miner.proofs.Reopening.{walk_start, walk-next, walk_end, walk-short}
-use Rattle.miner.proofs.redundant.reopen_traces.Goals as goal
+use Rattle.miner.proofs.redundant.Sources.reopen_in.Goals as goal
 
 pub loop-k-init : goal.loop-k-init
 loop-k-init g c = (search rules, walk_start _ _ _ _ _ _)

@@ -1,7 +1,7 @@
 use mathlib.Core.Path.{refl}
 use Rattle.sets.proofs.MadeSets.{less}
 use Rattle.miner.proofs.Settling.{doubted-is}
-use Rattle.miner.proofs.redundant.sure_row.Goals as goal
+use Rattle.miner.proofs.redundant.Sources.sure_row.Goals as goal
 
 pub returns : goal.returns
 returns c = less _ _ _ _ _ (λ a l. refl)
