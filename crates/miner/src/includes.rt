@@ -1,17 +1,18 @@
-// The includes of steps 3 and 6, put into the tables that are lent. What step 6 lets in needs the pairs that never follow, so it is asked of
+// The includes of steps 3 and 6, put into a table that is lent. What step 6 lets in needs the pairs that never follow, so it is asked of
 // the log in a pass of its own: over each trace from the first place to the last.
 ghost use Rattle.std.specs.Prelude.{◌≡◌, cond, [], ℕ, ◌+◌, ◌<◌, eqb, ltb, length, get_or, set, drop};
 ghost use Rattle.sets.specs.Tests.{◌and◌, ◌or◌, non};
 ghost use Rattle.sets.specs.Members.{width, mem, those};
-ghost use Rattle.sets.specs.Rows.{in_row, no_rows, rows_of, turned};
-ghost use Rattle.sets.specs.Tables.{table_at, with_table};
+ghost use Rattle.sets.specs.Rows.{in_row, rows_of, turned};
+ghost use Rattle.sets.specs.Tables.{with_table};
 ghost use Rattle.rules.specs.Traces.{◌has◌};
 ghost use Rattle.tally.specs.Passes.{gained, gains, forward, walked, reaches, cut};
 ghost use Rattle.miner.specs.Facts.{let_in, places_from};
-ghost use Rattle.miner.specs.Stages.{chains_of, let_in_of};
+ghost use Rattle.miner.specs.Stages.{chains_of, let_in_of, includes_in};
 
 use engine::Relations;
-use engine::graph::{INCLUDES, RESPONSES};
+use engine::graph::INCLUDES;
+use rules::Profile;
 use sets::activity::WIDTH;
 use sets::{Activity, Place, Rows, Set, rows, tables};
 use steps::relations;
@@ -129,22 +130,31 @@ fn let_in_log<'a, const WIDE: bool>(
 }
 
 // Step 3: what a chain leads to, turned round.
-pub fn put_three(events: Set, tally: &Tally, out: &mut Relations)
-    ensures { out.new ≡ with_table out.old 2 (rows_of (turned (chains_of events tally.now))) }
+fn includes_three(events: Set, tally: &Tally) -> Rows
+    ensures { result ≡ rows_of (turned (chains_of events tally.now)) }
 {
     let chains = relations::unbroken(events, tally, log::UNCHAINED);
-    let includes = rows::turned(&chains);
-    tables::put_rows(out, INCLUDES, &includes);
+    rows::turned(&chains)
 }
 
-// Step 6: the includes gain what is let in. What never directly follows stands where the responses will.
-pub(crate) fn put_six<const WIDE: bool>(log: &[u8], traces: usize, out: &mut Relations)
-    ensures { out.new ≡ with_table out.old 2
-        (let_in_of WIDE (with_table no_rows 0 (table_at out.old 1)) (with_table no_rows 0 (table_at out.old 2))
-        (walked log.now traces 0)) }
+// The includes after step 6, which asks the traces once more; the light profile leaves it out (02, 3/12).
+pub(crate) fn put_six<'a, const WIDE: bool>(
+    log: &'a [u8],
+    traces: usize,
+    events: Set,
+    tally: &'a Tally,
+    profile: Profile,
+    out: &mut Relations,
+)
+    ensures { out.new ≡ with_table out.old 2 (includes_in WIDE profile events tally.now (walked log.now traces 0)) }
 {
-    let mut includes = tables::taken(out, INCLUDES);
-    let never = tables::taken(out, RESPONSES);
-    let_in_log::<WIDE>(log, traces, &never, &mut includes);
+    let mut includes = includes_three(events, tally);
+    match profile {
+        Profile::Full => {
+            let never = relations::absent(events, tally, log::FOLLOWED);
+            let_in_log::<WIDE>(log, traces, &never, &mut includes);
+        }
+        Profile::Light => {}
+    }
     tables::put_rows(out, INCLUDES, &includes);
 }

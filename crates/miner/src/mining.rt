@@ -5,11 +5,10 @@ ghost use Rattle.sets.specs.Members.{word, those};
 ghost use Rattle.sets.specs.Rows.{row_words, rows_for};
 ghost use Rattle.sets.specs.Tables.{no_tables, table_at, with_table};
 ghost use Rattle.engine.specs.Relations.{relation_count};
-ghost use Rattle.rules.specs.declared.Profile.TheVariants.{Light};
 ghost use Rattle.steps.specs.Rowwise.{reduced_of};
 ghost use Rattle.tally.specs.Passes.{walked, event_in};
 ghost use Rattle.tally.specs.Tallies.{tallied_for};
-ghost use Rattle.miner.specs.Stages.{conditions_of, responses_of, never_of, includes_in, excludes_six, seven_from};
+ghost use Rattle.miner.specs.Stages.{conditions_of, responses_of, includes_in, excludes_six, seven_from};
 ghost use Rattle.miner.specs.Stages.{four_tables, graph_found_in};
 ghost use Rattle.miner.specs.Mine.{headed_of, mined_of};
 
@@ -45,42 +44,6 @@ fn put_responses(events: Set, tally: &Tally, out: &mut Relations)
     tables::put_rows(out, RESPONSES, &eight);
 }
 
-// What never directly follows, for step 6. It stands where the responses will: they come last.
-fn put_never(events: Set, tally: &Tally, out: &mut Relations)
-    ensures { out.new ≡ with_table out.old 1 (never_of events tally.now) }
-{
-    let never = relations::absent(events, tally, log::FOLLOWED);
-    tables::put_rows(out, RESPONSES, &never);
-}
-
-// Step 6, which asks the traces once more; the light profile leaves it out (02, 3/12).
-fn put_six<'a, const WIDE: bool>(
-    bytes: &'a [u8],
-    traces: usize,
-    events: Set,
-    tally: &'a Tally,
-    profile: Profile,
-    out: &mut Relations,
-)
-    ensures out_len_unchanged { length out.new ≡ length out.old }
-    ensures out_after { length out.old ≡ relation_count * row_words
-        → table_at out.old 2 ≡ includes_in WIDE Light events tally.now (walked bytes.now traces 0)
-        → table_at out.new 2 ≡ includes_in WIDE profile events tally.now (walked bytes.now traces 0) }
-    ensures out_after_2 { length out.old ≡ relation_count * row_words
-        → table_at out.old 2 ≡ includes_in WIDE Light events tally.now (walked bytes.now traces 0)
-        → table_at out.old 3 ≡ excludes_six Light events tally.now
-        → table_at out.new 3 ≡ excludes_six profile events tally.now }
-{
-    match profile {
-        Profile::Full => {
-            put_never(events, tally, out);
-            includes::put_six::<WIDE>(bytes, traces, out);
-            excludes::put_six(events, out);
-        }
-        Profile::Light => {}
-    }
-}
-
 // The tables after step 8 that a tally gives, with the traces that it is of.
 fn put_eight<'a, const WIDE: bool>(
     bytes: &'a [u8],
@@ -97,10 +60,8 @@ fn put_eight<'a, const WIDE: bool>(
         (seven_from events tally.now (includes_in WIDE profile events tally.now (walked bytes.now traces 0))
         (excludes_six profile events tally.now) (walked bytes.now traces 0)) }
 {
-    includes::put_three(events, tally, out);
-    excludes::put_excluded(events, tally, out);
-    excludes::turn(out);
-    put_six::<WIDE>(bytes, traces, events, tally, profile, out);
+    includes::put_six::<WIDE>(bytes, traces, events, tally, profile, out);
+    excludes::put_six(events, tally, profile, out);
     redundant::put_seven(bytes, traces, events, tally, out);
     conditions::put_eight(events, tally, out);
     put_responses(events, tally, out);
