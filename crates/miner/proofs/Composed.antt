@@ -26,12 +26,12 @@ use Rattle.engine.specs.Enabled.{marked, graph_at}
 use Rattle.rules.specs.declared.Profile.{Profile}
 use Rattle.rules.specs.declared.Profile.TheVariants.{Full, Light}
 use Rattle.rules.specs.Traces.{Traces}
-use Rattle.steps.specs.Rowwise.{excluders, in_either, reduced_of, waited}
+use Rattle.steps.specs.Rowwise.{in_either, reduced_of, waited}
 use Rattle.tally.specs.Passes.{through, event_in, cut}
-use Rattle.tally.specs.Tallies.{table_count, noted_for, tallied_for, before_table, later_table}
+use Rattle.tally.specs.Tallies.{table_count, noted_for, tallied_for}
 use Rattle.tally.proofs.Folds.{forward-rows_of, through-rows_of}
 use Rattle.miner.specs.Stages.{four_tables, conditions_of, chains_of, responses_of, never_of, five_of, followers_of, redundant_by, seven_from}
-use Rattle.miner.specs.Stages.{includes_in, excludes_six, let_in_of, waited_in, ahead_of, missed_of, tables_in, graph_found_in}
+use Rattle.miner.specs.Stages.{includes_in, excludes_six, waited_in, ahead_of, missed_of, tables_in, graph_found_in}
 use Rattle.miner.specs.Facts.{Less, let_in}
 
 module _ (tables : List ℕ) (k : ℕ) (rows : List ℕ) where

@@ -7,7 +7,7 @@ use Prim.Native.Nat.{ℕ, ◌<◌}
 use borrow.Author.Tests.{eqb-true}
 use lib.Dec.{T, eqb, eqb→eq, eqb_refl}
 use Rattle.sets.specs.Tests.{◌and◌, ◌or◌, non, when◌then◌else◌}
-use Rattle.sets.specs.Members.{width, mem, those, some_below, least_below, is_empty, Takes}
+use Rattle.sets.specs.Members.{width, mem, those, some_below, is_empty, Takes}
 use Rattle.sets.specs.Rows.{Relation, row_at, with_row, in_row, rows_of}
 use Rattle.sets.specs.Tables.{table_at}
 use Rattle.sets.specs.declared.set.Set.{Set}
@@ -142,8 +142,6 @@ in-union F rows r hr a x la lx m t =
 pub asked-row : (asked row both : Set) (rows : List ℕ) (k : ℕ) → row ≡ row_at rows k → both ≡ those (λ x. mem asked x and mem row x)
     → both ≡ those (λ x. mem asked x and in_row rows k x)
 asked-row asked row both rows k hr = joined ◌and◌ asked row both _ _ (λ x l. refl) (is_row row rows k hr)
-
-pub ruleset losing = (lost-start, lost-turn, own_row)
 
 -- ---- a loss in turn after turn: what is gone so far, with what the turns to come will take, is the whole
 

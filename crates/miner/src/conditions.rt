@@ -5,24 +5,33 @@ ghost use Rattle.sets.specs.Tests.{◌and◌, ◌or◌, non};
 ghost use Rattle.sets.specs.Members.{mem, those};
 ghost use Rattle.sets.specs.Rows.{in_row, no_rows, rows_for};
 ghost use Rattle.sets.specs.Tables.{table_at, with_table};
-ghost use Rattle.steps.specs.Rowwise.{reduced_of, waited};
-ghost use Rattle.tally.specs.Passes.{gained_for, gains_in, forward, walked, reaches};
+ghost use Rattle.steps.specs.Rowwise.{unbroken, reduced_of, waited};
+ghost use Rattle.tally.specs.Passes.{gained_for, gains_in, forward, reaches};
 ghost use Rattle.miner.specs.Facts.{before_first, missed};
 ghost use Rattle.miner.specs.Stages.{conditions_of, ahead_of, missed_of};
+ghost use Rattle.miner.specs.Walks.{traces_of};
 
 use crate::includes::and_then;
+use crate::traces::Traces;
 use engine::Relations;
 use engine::graph::{CONDITIONS, EXCLUDES, INCLUDES};
 use sets::{Activity, Rows, Set, rows, tables};
 use steps::{reduce, relations};
 use tally::{Tally, holds, in_form, log};
 
+// Steps 2 and 8: the pairs of events that nothing broke, by the table of what breaks the rule, reduced.
+pub(crate) fn unbroken_reduced(events: Set, tally: &Tally, broken: u8) -> Rows
+    ensures { result ≡ rows_for events (reduced_of (rows_for events (unbroken events (table_at tally.now broken)))) }
+{
+    let two = relations::unbroken(events, tally, broken);
+    reduce::reduced(events, &two)
+}
+
 // The conditions of steps 2 and 8, by target.
 pub fn conditions_eight(events: Set, tally: &Tally) -> Rows
     ensures { result ≡ rows_for events (reduced_of (conditions_of events tally.now)) }
 {
-    let two = relations::unbroken(events, tally, log::UNPRECEDED);
-    reduce::reduced(events, &two)
+    unbroken_reduced(events, tally, log::UNPRECEDED)
 }
 
 pub fn put_eight(events: Set, tally: &Tally, out: &mut Relations)
@@ -115,20 +124,18 @@ fn replay_trace<'a, const WIDE: bool>(
 }
 
 // What step 9 asks of all traces.
-fn replay_log<'a, const WIDE: bool>(
-    log: &'a [u8],
-    traces: usize,
+fn replay_log<const WIDE: bool>(
+    traces: &Traces,
     events: Set,
-    held: &'a Relations,
+    held: &Relations,
     waiting: &mut Waiting,
 )
-    ensures first_after { waiting.new.first ≡ ahead_of WIDE waiting.old.first (walked log.now traces 0) }
+    ensures first_after { waiting.new.first ≡ ahead_of WIDE waiting.old.first (traces_of traces.now) }
     ensures unmet_after { waiting.new.unmet ≡ missed_of WIDE events (table_at held.now 2) (table_at held.now 3) waiting.old.unmet
-        (walked log.now traces 0) }
+        (traces_of traces.now) }
 {
-    for k in 0..traces {
-        let trace = calllog::trace::trace_at(log, k);
-        replay_trace::<WIDE>(trace, events, held, waiting);
+    for k in 0..traces.count {
+        replay_trace::<WIDE>(traces.at(k), events, held, waiting);
     }
 }
 
@@ -143,14 +150,14 @@ fn put_waited<'a>(events: Set, waiting: &'a Waiting, out: &mut Relations)
 }
 
 // Step 9, on the tables after step 8, its replay in a form.
-pub(crate) fn put_nine<const WIDE: bool>(log: &[u8], traces: usize, events: Set, out: &mut Relations)
+pub(crate) fn put_nine<const WIDE: bool>(traces: &Traces, events: Set, out: &mut Relations)
     ensures { out.new ≡ with_table out.old 0
         (rows_for events (waited events (with_table no_rows 0 (table_at out.old 0))
-        (ahead_of WIDE no_rows (walked log.now traces 0))
-        (missed_of WIDE events (table_at out.old 2) (table_at out.old 3) no_rows (walked log.now traces 0)))) }
+        (ahead_of WIDE no_rows (traces_of traces.now))
+        (missed_of WIDE events (table_at out.old 2) (table_at out.old 3) no_rows (traces_of traces.now)))) }
 {
     let mut waiting = Waiting::none();
-    replay_log::<WIDE>(log, traces, events, out, &mut waiting);
+    replay_log::<WIDE>(traces, events, out, &mut waiting);
     put_waited(events, &waiting, out);
 }
 

@@ -6,10 +6,12 @@ ghost use Rattle.sets.specs.Members.{width, mem, those};
 ghost use Rattle.sets.specs.Rows.{in_row, rows_of, turned};
 ghost use Rattle.sets.specs.Tables.{with_table};
 ghost use Rattle.rules.specs.Traces.{◌has◌};
-ghost use Rattle.tally.specs.Passes.{gained, gains, forward, walked, reaches, cut};
+ghost use Rattle.tally.specs.Passes.{gained, gains, forward, reaches, cut};
 ghost use Rattle.miner.specs.Facts.{let_in, places_from};
 ghost use Rattle.miner.specs.Stages.{chains_of, let_in_of, includes_in};
+ghost use Rattle.miner.specs.Walks.{traces_of};
 
+use crate::traces::Traces;
 use engine::Relations;
 use engine::graph::INCLUDES;
 use rules::Profile;
@@ -115,17 +117,11 @@ fn let_in_trace<'a, const WIDE: bool>(trace: &'a [u8], unfollowed: &'a Rows, out
 }
 
 // The same, of all traces.
-fn let_in_log<'a, const WIDE: bool>(
-    log: &'a [u8],
-    traces: usize,
-    unfollowed: &'a Rows,
-    out: &mut Rows,
-)
-    ensures { out.new ≡ let_in_of WIDE unfollowed.now out.old (walked log.now traces 0) }
+fn let_in_log<const WIDE: bool>(traces: &Traces, unfollowed: &Rows, out: &mut Rows)
+    ensures { out.new ≡ let_in_of WIDE unfollowed.now out.old (traces_of traces.now) }
 {
-    for k in 0..traces {
-        let trace = calllog::trace::trace_at(log, k);
-        let_in_trace::<WIDE>(trace, unfollowed, out);
+    for k in 0..traces.count {
+        let_in_trace::<WIDE>(traces.at(k), unfollowed, out);
     }
 }
 
@@ -138,21 +134,20 @@ fn includes_three(events: Set, tally: &Tally) -> Rows
 }
 
 // The includes after step 6, which asks the traces once more; the light profile leaves it out (02, 3/12).
-pub(crate) fn put_six<'a, const WIDE: bool>(
-    log: &'a [u8],
-    traces: usize,
+pub(crate) fn put_six<const WIDE: bool>(
+    traces: &Traces,
     events: Set,
-    tally: &'a Tally,
+    tally: &Tally,
     profile: Profile,
     out: &mut Relations,
 )
-    ensures { out.new ≡ with_table out.old 2 (includes_in WIDE profile events tally.now (walked log.now traces 0)) }
+    ensures { out.new ≡ with_table out.old 2 (includes_in WIDE profile events tally.now (traces_of traces.now)) }
 {
     let mut includes = includes_three(events, tally);
     match profile {
         Profile::Full => {
             let never = relations::absent(events, tally, log::FOLLOWED);
-            let_in_log::<WIDE>(log, traces, &never, &mut includes);
+            let_in_log::<WIDE>(traces, &never, &mut includes);
         }
         Profile::Light => {}
     }

@@ -6,11 +6,13 @@ ghost use Rattle.sets.specs.Tests.{◌and◌, non};
 ghost use Rattle.sets.specs.Members.{width, mem, those, some_below, is_empty};
 ghost use Rattle.sets.specs.Rows.{Relation, row_at, in_row, rows_of};
 ghost use Rattle.sets.specs.Tables.{table_at, with_table};
-ghost use Rattle.tally.specs.Passes.{walked, reaches};
+ghost use Rattle.tally.specs.Passes.{reaches};
 ghost use Rattle.tally.specs.Tallies.{before_table, later_table};
 ghost use Rattle.miner.specs.Facts.{Less, reopened_in, reopened, doubted};
 ghost use Rattle.miner.specs.Stages.{followers_of, redundant_by, seven_from};
+ghost use Rattle.miner.specs.Walks.{traces_of};
 
+use crate::traces::Traces;
 use engine::Relations;
 use engine::graph::{EXCLUDES, INCLUDES};
 use sets::activity::WORD;
@@ -21,8 +23,7 @@ use tally::{Tally, in_form, log};
 // What is asked about a pair: the log's first traces, their tally, and the tables after step 6.
 #[derive(Clone, Copy)]
 struct Sources<'a> {
-    log: &'a [u8],
-    traces: usize,
+    traces: &'a Traces<'a>,
     tally: &'a Tally,
     held: &'a Relations,
 }
@@ -94,14 +95,13 @@ impl<'a> Sources<'a> {
     fn reopen_in<const WIDE: bool>(&self, u: Activity, pairs: Pairs, doubts: &mut Rows)
         ensures { (r : Relation) → doubts.old ≡ rows_of r → (a x : ℕ) → a < width → x < width → T (mem pairs.from a and mem pairs.to x)
             → T (reaches WIDE x) → in_row doubts.new a x ≡ (r a x and non
-            (reopened (table_at self.now.held.now 2) u.0 (walked self.now.log.now self.now.traces 0) a x)) }
+            (reopened (table_at self.now.held.now 2) u.0 (traces_of self.now.traces.now) a x)) }
     {
-        for k in 0..self.traces {
+        for k in 0..self.traces.count {
             if pairs.none_doubted(doubts, k) {
                 return;
             }
-            let trace = calllog::trace::trace_at(self.log, k);
-            reopen_trace::<WIDE>(trace, u, self.held, doubts);
+            reopen_trace::<WIDE>(self.traces.at(k), u, self.held, doubts);
         }
     }
 
@@ -109,7 +109,7 @@ impl<'a> Sources<'a> {
     fn reopen_log(&self, u: Activity, pairs: Pairs, doubts: &mut Rows)
         ensures { (r : Relation) → doubts.old ≡ rows_of r → (a x : ℕ) → a < width → x < width → T (mem pairs.from a and mem pairs.to x)
             → in_row doubts.new a x ≡ (r a x and non
-            (reopened (table_at self.now.held.now 2) u.0 (walked self.now.log.now self.now.traces 0) a x)) }
+            (reopened (table_at self.now.held.now 2) u.0 (traces_of self.now.traces.now) a x)) }
     {
         if pairs.to.is_within(Set::below(WORD)) {
             self.reopen_in::<false>(u, pairs, doubts);
@@ -143,7 +143,7 @@ impl<'a> Sources<'a> {
     // Those go that no trace lets in: a copy of what is left loses what the traces let in, and what stays in the copy goes.
     fn lose_open(&self, u: Activity, pairs: Pairs, left: &mut Rows)
         ensures { Less left.old (λ a x. mem pairs.from a and mem pairs.to x and non
-            (reopened (table_at self.now.held.now 2) u.0 (walked self.now.log.now self.now.traces 0) a x)) left.new }
+            (reopened (table_at self.now.held.now 2) u.0 (traces_of self.now.traces.now) a x)) left.new }
     {
         let mut doubts = *left;
         self.reopen_log(u, pairs, &mut doubts);
@@ -155,7 +155,7 @@ impl<'a> Sources<'a> {
         ensures { Less left.old (λ a x. mem pairs.from a and mem pairs.to x and non
             (doubted (table_at self.now.tally.now before_table) (table_at self.now.held.now 2)
             (row_at (table_at self.now.tally.now later_table) u.0) a x
-            and reopened (table_at self.now.held.now 2) u.0 (walked self.now.log.now self.now.traces 0) a x)) left.new }
+            and reopened (table_at self.now.held.now 2) u.0 (traces_of self.now.traces.now) a x)) left.new }
     {
         let tally = self.tally;
         let later = tables::row(tally, log::LATER, u);
@@ -174,7 +174,7 @@ impl<'a> Sources<'a> {
     // What u makes redundant goes. Asked is only for what is left from some follower.
     fn lose_by(&self, followers: &Rows, u: Activity, left: &mut Rows)
         ensures { Less left.old (redundant_by self.now.tally.now followers.now (table_at self.now.held.now 2)
-            (table_at self.now.held.now 3) (walked self.now.log.now self.now.traces 0) u.0) left.new }
+            (table_at self.now.held.now 3) (traces_of self.now.traces.now) u.0) left.new }
     {
         let from = rows::row(followers, u);
         let to = self.shut_out(u).intersection(relations::union_of(left, 0, from));
@@ -188,7 +188,7 @@ impl<'a> Sources<'a> {
     fn lose_redundant(&self, events: Set, left: &mut Rows)
         ensures { Less left.old (λ s x. some_below width (λ u. mem events u and
             redundant_by self.now.tally.now (followers_of events self.now.tally.now) (table_at self.now.held.now 2) (table_at self.now.held.now 3)
-            (walked self.now.log.now self.now.traces 0) u s x)) left.new }
+            (traces_of self.now.traces.now) u s x)) left.new }
     {
         let followers = followers(events, self.tally);
         for u in events.members() {
@@ -207,19 +207,17 @@ fn followers(events: Set, tally: &Tally) -> Rows
 
 // Step 7, on the tables after step 6.
 pub fn put_seven<'a>(
-    log: &'a [u8],
-    traces: usize,
+    traces: &'a Traces<'a>,
     events: Set,
     tally: &'a Tally,
     out: &mut Relations,
 )
     ensures { (r : Relation) → table_at out.old 3 ≡ rows_of r → out.new ≡ with_table out.old 3
         (seven_from events tally.now (table_at out.old 2) (table_at out.old 3)
-        (walked log.now traces 0)) }
+        (traces_of traces.now)) }
 {
     let mut left = tables::taken(out, EXCLUDES);
     let sources = Sources {
-        log,
         traces,
         tally,
         held: out,

@@ -17,4 +17,4 @@ abbrev pub waiting : Bool → Set → List ℕ → List ℕ → List ℕ → Lis
 waiting wide events held r σ = forward (gains_in wide (missed events (table_at held 2) (table_at held 3))) r [] σ
 
 abbrev pub invariant-loop-k : goal.invariant-loop-k
-invariant-loop-k g l = (l.k ≤ l.traces) × Left (ahead (WIDE-type (number g.row.WIDE))) l.log l.traces l.k l.initial.waiting.first l.waiting.first × Left (waiting (WIDE-type (number g.row.WIDE)) l.events l.held) l.log l.traces l.k l.initial.waiting.unmet l.waiting.unmet
+invariant-loop-k g l = (l.k ≤ l.traces.count) × Left (ahead (WIDE-type (number g.row.WIDE))) l.traces.log.now l.traces.count l.k l.initial.waiting.first l.waiting.first × Left (waiting (WIDE-type (number g.row.WIDE)) l.events l.held) l.traces.log.now l.traces.count l.k l.initial.waiting.unmet l.waiting.unmet

@@ -12,4 +12,4 @@ abbrev pub pass : Bool → List ℕ → List ℕ → List ℕ → List ℕ
 pass wide unfollowed r σ = forward (gains (cut wide (let_in unfollowed))) r [] σ
 
 abbrev pub invariant-loop-k : goal.invariant-loop-k
-invariant-loop-k g l = (l.k ≤ l.traces) × Left (pass (WIDE-type (number g.row.WIDE)) l.unfollowed) l.log l.traces l.k l.initial.out l.out
+invariant-loop-k g l = (l.k ≤ l.traces.count) × Left (pass (WIDE-type (number g.row.WIDE)) l.unfollowed) l.traces.log.now l.traces.count l.k l.initial.out l.out

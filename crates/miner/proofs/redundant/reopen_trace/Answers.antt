@@ -1,6 +1,4 @@
-use borrow.Author.Rules.{rules}
 use native.Mathlib.Omega.{arith}
-use Rattle.std.proofs.Common.{get_or, take, drop, length, ◌≡◌, ◌+◌}
 use Rattle.std.proofs.lemmas.Grind.{common_steps}
 use Rattle.miner.proofs.Reopening.{reopen-first, reopen-none, reopen-along, reopen-end}
 use Rattle.miner.proofs.redundant.reopen_trace.Goals as goal

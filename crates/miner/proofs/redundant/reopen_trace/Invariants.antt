@@ -1,9 +1,6 @@
 use denote.Param.{number}
-use mathlib.Core.Path.{◌≡◌}
 use mathlib.Core.Bool.{true}
-use mathlib.Core.List.{List}
-use Prim.Native.Nat.{ℕ, ◌+◌}
-use lib.ListN.{drop}
+use Prim.Native.Nat.{◌+◌}
 use Rattle.sets.specs.Tables.{table_at}
 use Rattle.miner.specs.contracts.redundant.reopen_trace.{WIDE-type}
 use Rattle.miner.proofs.Reopening.{Reopens}
