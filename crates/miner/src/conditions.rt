@@ -34,7 +34,7 @@ pub fn conditions_eight(events: Set, tally: &Tally) -> Rows
     unbroken_reduced(events, tally, log::UNPRECEDED)
 }
 
-pub fn put_eight(events: Set, tally: &Tally, out: &mut Relations)
+pub(crate) fn put_eight(events: Set, tally: &Tally, out: &mut Relations)
     ensures { out.new ≡ with_table out.old 0 (rows_for events (reduced_of (conditions_of events tally.now))) }
 {
     let eight = conditions_eight(events, tally);
@@ -169,7 +169,7 @@ fn reduced_nine(events: Set, held: &Relations) -> Rows
 }
 
 // Step 10, on the conditions of step 9.
-pub fn put_ten(events: Set, out: &mut Relations)
+pub(crate) fn put_ten(events: Set, out: &mut Relations)
     ensures { out.new ≡ with_table out.old 0
         (rows_for events (reduced_of (with_table no_rows 0 (table_at out.old 0)))) }
 {

@@ -21,7 +21,7 @@ use steps::relations;
 use tally::{Tally, in_form, log};
 
 // What was seen, with e.
-pub fn and_then(seen: Set, e: Activity) -> Set
+pub(crate) fn and_then(seen: Set, e: Activity) -> Set
     ensures { result ≡ those (λ x. mem seen x or eqb x e.0) }
 {
     seen.union(Set::one(e))

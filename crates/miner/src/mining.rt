@@ -8,8 +8,7 @@ ghost use Rattle.engine.specs.Relations.{relation_count};
 ghost use Rattle.steps.specs.Rowwise.{reduced_of};
 ghost use Rattle.tally.specs.Passes.{event_in};
 ghost use Rattle.tally.specs.Tallies.{tallied_for};
-ghost use Rattle.miner.specs.Stages.{conditions_of, responses_of, includes_in, excludes_six, seven_from};
-ghost use Rattle.miner.specs.Stages.{four_tables, graph_found_in};
+ghost use Rattle.miner.specs.Stages.{responses_of, eight_in, graph_found_in};
 ghost use Rattle.miner.specs.Mine.{headed_of, mined_of};
 ghost use Rattle.miner.specs.Walks.{traces_of};
 
@@ -52,12 +51,7 @@ fn put_eight<const WIDE: bool>(
     profile: Profile,
     out: &mut Relations,
 )
-    ensures { length out.old ≡ relation_count * row_words → out.new ≡ four_tables
-        (rows_for events (reduced_of (conditions_of events tally.now)))
-        (rows_for events (reduced_of (responses_of events tally.now)))
-        (includes_in WIDE profile events tally.now (traces_of traces.now))
-        (seven_from events tally.now (includes_in WIDE profile events tally.now (traces_of traces.now))
-        (excludes_six profile events tally.now) (traces_of traces.now)) }
+    ensures { length out.old ≡ relation_count * row_words → out.new ≡ eight_in WIDE profile events tally.now (traces_of traces.now) }
 {
     includes::put_six::<WIDE>(traces, events, tally, profile, out);
     excludes::put_six(events, tally, profile, out);
@@ -73,13 +67,8 @@ fn tables_eight<const WIDE: bool>(
     out: &mut Relations,
 ) -> Set
     ensures value { result ≡ those (event_in WIDE (traces_of traces.now)) }
-    ensures out_after { length out.old ≡ relation_count * row_words → out.new ≡ four_tables
-        (rows_for result (reduced_of (conditions_of result (tallied_for WIDE (traces_of traces.now)))))
-        (rows_for result (reduced_of (responses_of result (tallied_for WIDE (traces_of traces.now)))))
-        (includes_in WIDE profile result (tallied_for WIDE (traces_of traces.now)) (traces_of traces.now))
-        (seven_from result (tallied_for WIDE (traces_of traces.now))
-        (includes_in WIDE profile result (tallied_for WIDE (traces_of traces.now)) (traces_of traces.now))
-        (excludes_six profile result (tallied_for WIDE (traces_of traces.now))) (traces_of traces.now)) }
+    ensures out_after { length out.old ≡ relation_count * row_words
+        → out.new ≡ eight_in WIDE profile result (tallied_for WIDE (traces_of traces.now)) (traces_of traces.now) }
 {
     let mut tally = log::empty();
     let events = log::note_traces_in(traces.log, traces.count, WIDE, &mut tally);

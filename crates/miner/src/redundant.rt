@@ -206,7 +206,7 @@ fn followers(events: Set, tally: &Tally) -> Rows
 }
 
 // Step 7, on the tables after step 6.
-pub fn put_seven<'a>(
+pub(crate) fn put_seven<'a>(
     traces: &'a Traces<'a>,
     events: Set,
     tally: &'a Tally,
