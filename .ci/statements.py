@@ -51,13 +51,32 @@ def contract(crate, modules, module):
     return modules[path]["Contract"]
 
 
+def impl_of(modules, module):
+    """What the checker says of the impl that a method is of, if it is of one."""
+    return modules.get(f"specs/contracts/{module.rpartition('/')[0]}/TheImpl", {}).get("ImplValues", {})
+
+
+def asks_nothing(impl):
+    """Whether a method keeps its trait's own answer to when it may be called, which is always: no impl here has another."""
+    members = impl.get("block", {}).get("of", {}).get("members", [])
+    return bool(members) and all(ghost is None for member, ghost in zip(members, impl["ghosts"]) if member.startswith("can_"))
+
+
 def public(crate):
-    """By symbol, the functions that others can call: the contract, and the modules that it has for others."""
+    """By symbol, the functions that others can call: the contract, and the modules that it has for others. Of an impl that a derive writes,
+    and of a method that an impl leaves to its trait, std says what it gives: those are not read."""
     modules, found = written(crate), {}
     for path, said in modules.items():
         if path.startswith(FACADE) and "Statement" in said.get("StandsFor", {}).get("children", []):
             module = path.removeprefix(FACADE)
+            impl = impl_of(modules, module)
+            if module.endswith("/TheImpl") or "derived" in impl:
+                continue
             of = contract(crate, modules, module)
+            if impl and not of["function"]["header"]["Reported"]["bytes"]:
+                continue
+            if asks_nothing(impl):
+                of = {**of, "requires": []}
             found.setdefault(of["function"]["symbol"], (of, set()))[1].add(module.replace("/", "."))
     return found
 

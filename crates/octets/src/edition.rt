@@ -7,6 +7,7 @@ use crate::opening::opens_with;
 use sets::Activity;
 use sets::activity::WORD;
 
+// The bytes themselves and no enum: `edition_in` gives, and `is_beyond` takes, whatever byte stands in a file (docs/STATEMENTS.md).
 pub const NARROW: u8 = 1;
 
 pub const WIDE: u8 = 2;

@@ -8,13 +8,6 @@ use crate::room;
 // How many bytes a number of a file has.
 pub const LENGTH: usize = 2;
 
-fn wide(b: u8) -> u64
-    ensures value { result ≡ b }
-    ensures upper_bound { result < 256 }
-{
-    b as u64
-}
-
 // The number in n bytes from a place on.
 pub(crate) fn value_at(bytes: &[u8], at: usize, n: usize) -> u64
     requires { (n ≤ 8) × (at + n ≤ length bytes.now) }
@@ -22,10 +15,8 @@ pub(crate) fn value_at(bytes: &[u8], at: usize, n: usize) -> u64
     ensures upper_bound { result < 256 ^ n }
 {
     let mut value: u64 = 0;
-    let mut left = n;
-    while 0 < left {
-        left -= 1;
-        value = value * 256 + wide(bytes[at + left]);
+    for i in (0..n).rev() {
+        value = value * 256 + u64::from(bytes[at + i]);
     }
     value
 }
@@ -35,12 +26,10 @@ pub(crate) fn put_value(out: &mut [u8], at: usize, n: usize, x: u64)
     requires { at + n ≤ length out.old }
     ensures { out.new ≡ sets out.old at (little_endian n x) }
 {
-    let mut i = 0;
     let mut rest = x;
-    while i < n {
+    for i in 0..n {
         out[at + i] = (rest % 256) as u8;
-        rest = rest / 256;
-        i += 1;
+        rest /= 256;
     }
 }
 
@@ -48,10 +37,7 @@ pub(crate) fn put_value(out: &mut [u8], at: usize, n: usize, x: u64)
 pub fn byte_at(bytes: &[u8], at: usize) -> u8
     ensures { result ≡ get_or bytes.now at 0 }
 {
-    if at < bytes.len() {
-        return bytes[at];
-    }
-    0
+    bytes.get(at).copied().unwrap_or(0)
 }
 
 // The number in the bytes from a place on, where a byte that is missing counts as 0.
@@ -59,7 +45,7 @@ pub fn number_at(bytes: &[u8], at: usize) -> u16
     ensures { result ≡ number_at number_length bytes.now at }
 {
     if room::too_few(bytes.len(), at, LENGTH) {
-        return byte_at(bytes, at) as u16;
+        return u16::from(byte_at(bytes, at));
     }
     value_at(bytes, at, LENGTH) as u16
 }
@@ -69,6 +55,6 @@ pub fn put_number(out: &mut [u8], at: usize, x: u16)
     ensures { out.new ≡ number_put out.old at x }
 {
     if !room::too_few(out.len(), at, LENGTH) {
-        put_value(out, at, LENGTH, x as u64);
+        put_value(out, at, LENGTH, u64::from(x));
     }
 }

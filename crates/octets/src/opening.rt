@@ -6,15 +6,5 @@ ghost use Rattle.octets.specs.Opens.{opens_with};
 pub fn opens_with<'a>(mark: &'a [u8], bytes: &'a [u8]) -> bool
     ensures { result ≡ opens_with mark.now bytes.now }
 {
-    let mut i: usize = 0;
-    while i < mark.len() {
-        if bytes.len() <= i {
-            return false;
-        }
-        if bytes[i] != mark[i] {
-            return false;
-        }
-        i += 1;
-    }
-    true
+    bytes.starts_with(mark)
 }

@@ -5,6 +5,8 @@
 -- nothing, is refused at its theorem. No public function has a `requires`. Each theorem is called after its function.
 use mathlib.Core.Path.{◌≡◌, sym, ap, ◌∙◌}
 use Rattle.sets.specs.declared.activity.Activity.{Activity}
+use Rattle.sets.specs.declared.each.Members.{Members}
+use Rattle.sets.proofs.Passing.{gives-once}
 use Rattle.sets.proofs.answer.Answer.number.Reads as Answer-number
 use Rattle.sets.proofs.answer.Answer.blocker.Reads as Answer-blocker
 use Rattle.sets.proofs.answer.Answer.is_done.Reads as Answer-is-done
@@ -21,6 +23,8 @@ use Rattle.sets.proofs.set.Set.is_within.Reads as Set-is-within
 use Rattle.sets.proofs.set.Set.count.Reads as Set-count
 use Rattle.sets.proofs.set.Set.least.Reads as Set-least
 use Rattle.sets.proofs.set.Set.without_least.Reads as Set-without-least
+use Rattle.sets.proofs.set.Set.members.Reads as Set-members
+use Rattle.sets.proofs.each.MembersIterator.next.Reads as MembersIterator-next
 use Rattle.sets.proofs.set.Set.next.Reads as Set-next
 use Rattle.sets.proofs.set.Set.end.Reads as Set-end
 use Rattle.sets.proofs.rows.empty.Reads as empty
@@ -254,6 +258,12 @@ Set-least-once κ a r r' s s' h h' = ap {B = Activity} (λ n. record { 0 = n }) 
 
 pub Set-without-least-once : Once Set-without-least.Post
 Set-without-least-once κ a r r' s s' h h' = h ∙ sym h'
+
+pub Set-members-once : Once Set-members.Post
+Set-members-once κ a r r' s s' h h' = ap {B = Members} (λ n. record { rest = n }) (h ∙ sym h')
+
+pub MembersIterator-next-once : OnceLent MembersIterator-next.Post (λ κ s. s.0.now)
+MembersIterator-next-once κ a r r' s s' h h' = gives-once a.0.now r r' s.0.now s'.0.now h.0 h'.0
 
 pub Set-next-once : Once Set-next.Post
 Set-next-once κ a r r' s s' h h' = ap {B = Activity} (λ n. record { 0 = n }) (h ∙ sym h')

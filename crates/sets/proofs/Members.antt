@@ -11,9 +11,9 @@ use lib.Pow.{pow-lt, pow_pos}
 use lib.Bits.{bit_and, bit_or, and_le_l, and_le_r, and_mask, or_lt, and_lt, or_add_and, or_zero_l}
 use lib.Count.{ones, count_trailing_zeros, count_leading_zeros, leading_of_zero, leading_top}
 use Rattle.sets.specs.Tests.{◌and◌, ◌or◌, non}
-use Rattle.sets.specs.Members.{width, word, bit, bits_of, mem, those, no_set, some_below, every_below, count_below, least_below, end_below, is_empty, within}
+use Rattle.sets.specs.Members.{width, word, bit, bits_of, mem, those, no_set, some_below, every_below, count_below, least_below, end_below, is_empty, within, Takes}
 use Rattle.sets.specs.declared.set.Set.{Set}
-use Rattle.sets.proofs.Tests.{non-or, non-non, and-true, false-and, and_l, and_r, and_i, eqb_of, T-ext, T→true, true→T, F→false, false→F, non-false, non-i, non-e, imp-i, imp-e, split, either}
+use Rattle.sets.proofs.Tests.{non-or, non-non, and-true, and-false, false-and, and_l, and_r, and_i, eqb_of, T-ext, T→true, true→T, F→false, false→F, non-false, non-i, non-e, imp-i, imp-e, split, either}
 use Rattle.sets.proofs.Bits.{is-bits_of, bits_of-ext, bits_of-bit, bits_of-lt, bit-bits_of, bit-and, bit-or, bit-non, bit-above, bit-zero, bit-pow, bit-top, bit-ones, one_shl}
 use Rattle.sets.proofs.Below.{some-ext, every-i, every-e, every-ext, every-split, non-some, none-zero, count-ext, count_less, count-split, least-is, least_lt, least-ext, least-here, least-past, end-past, end-only, ones-count, trailing-least, cleared}
 
@@ -381,6 +381,28 @@ module _ (s : Set) (hl : s.low < 2 ^ word) (hh : s.high < 2 ^ word) where
       empty : s ≡ no_set
       empty = λ i. record { low = zl i; high = zh i }
 
+  -- the same three, as one step of an iterator over the members
+  some-not : (eqb s.low 0 and eqb s.high 0) ≡ false → is_empty s ≡ false
+  some-not e = sym empty-bits ∙ or-zero s.low s.high ∙ e
+
+  pub takes-low : (s.low ≡ 0 → ⊥) → Takes s (count_trailing_zeros word s.low) (record { low = bit_and s.low (s.low - 1); high = s.high })
+  takes-low n = (
+    some-not (ap (λ (t : Bool). t and eqb s.high 0) (ne_eqb s.low 0 n) ∙ false-and _),
+    least-low n,
+    rest-low n,
+  )
+
+  pub takes-high : s.low ≡ 0 → (s.high ≡ 0 → ⊥)
+      → Takes s (word + count_trailing_zeros word s.high) (record { low = s.low; high = bit_and s.high (s.high - 1) })
+  takes-high z n = (
+    some-not (ap (λ (t : Bool). eqb s.low 0 and t) (ne_eqb s.high 0 n) ∙ and-false _),
+    least-high z,
+    rest-high z n,
+  )
+
+  pub takes-none : s.low ≡ 0 → s.high ≡ 0 → is_empty s ≡ true
+  takes-none zl zh = sym empty-bits ∙ ap₂ (λ (x y : ℕ). eqb (bit_or x y) 0) zl zh
+
 module _ (s : Set) (a : ℕ) where
   pub has-low : a < word → eqb (bit_and (s.low / 2 ^ a) 1) 1 ≡ mem s a
   unfolding bit
@@ -453,3 +475,5 @@ module _ (k : ℕ) where
         (λ a l. bit-ones word a ∙ lt-ltb a word l ∙ sym (lt-ltb (word + a) k (omega arith)))
 
 pub ruleset operations = (union-those, intersection-those, difference-those, complement-those, within-empty, empty-bits, has-low, has-high, has_above, one-low, one-high, one-above, below-low, below-high, below_all, one-pos, one-pos-high, ones-those, least-low, least-high, end_low, end-high, rest-low, rest-high, rest-none)
+
+pub ruleset taking = (takes-low, takes-high, takes-none)

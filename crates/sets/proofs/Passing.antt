@@ -10,6 +10,10 @@ use Rattle.sets.specs.Tests.{◌and◌, ◌or◌, non}
 use Rattle.sets.specs.Members.{width, mem, those, some_below, count_below, least_below, is_empty, Takes}
 use Rattle.sets.specs.Rows.{Relation, row_at, with_row, in_row, rows_of}
 use Rattle.sets.specs.declared.set.Set.{Set}
+use Rattle.sets.specs.declared.activity.Activity.{Activity}
+use Rattle.sets.specs.declared.each.Members.{Members}
+use Rattle.std.specs.Option.{MatchOption}
+use Rattle.std.proofs.Common.{Option, Some, None}
 use Rattle.sets.proofs.Tests.{and_l, and_r, and_i, or-e, or_l, or_r, non-i, non-e, T-ext, T-eq, true→T, F→false, false→F, false-and, or-false, non-false, split, either}
 use Rattle.sets.proofs.Below.{some-e, some-ext, some_more, least-is, least_lt}
 use Rattle.sets.proofs.Members.{those-ext, those-of, empty-e, empty-none, fewer}
@@ -86,6 +90,23 @@ module _ (rest rest' : Set) (r : Bool) (hr : r ≡ is_empty rest) (hn : r ≡ fa
   some-passed all h q =
       some-ext width _ _ (λ u l. ap (λ (t : Bool). t and q u) (passed-turn all h u l))
       ∙ some_more width (passed all rest) q (least_below width (mem rest)) (λ t. least-low)
+
+-- an iterator over the members has fewer left
+pub taken-fewer : (rest rest' : Set) (k : ℕ) → Takes rest k rest' → count_below width (mem rest') < count_below width (mem rest)
+taken-fewer rest rest' k t = fewer-left rest rest' _ refl t.0 t.2
+
+-- what an iterator over the members gives, and what is left: one outcome
+abbrev pub Gives : Members → Option Activity → Members → Type 0
+Gives s r t = MatchOption r ((is_empty s.rest ≡ true) × (t ≡ s)) (λ a. Takes s.rest a.0 t.rest)
+
+pub gives-once : (s : Members) (r r' : Option Activity) (t t' : Members) → Gives s r t → Gives s r' t' → (r ≡ r') × (t ≡ t')
+gives-once s None None t t' h h' = (refl, h.1 ∙ sym h'.1)
+gives-once s None (Some b) t t' h h' = absurd (false→F h'.0 (true→T h.0))
+gives-once s (Some a) None t t' h h' = absurd (false→F h.0 (true→T h'.0))
+gives-once s (Some a) (Some b) t t' h h' = (
+  ap {B = Option Activity} (λ n. Some (record { 0 = n })) (h.1 ∙ sym h'.1),
+  ap {B = Members} (λ u. record { rest = u }) (h.2 ∙ sym h'.2),
+)
 
 -- ---- rows that gain a set at each member passed
 
@@ -168,4 +189,4 @@ module _ (rows : List ℕ) (all : Set) where
       → out ≡ those (in_some rows (mem whole))
   union-whole out rest whole ho n same = union-end out rest _ ho refl n ∙ ap (λ (s : Set). those (in_some rows (mem s))) same
 
-pub ruleset members = (share-start, share-turn, share-end, union-start, union-turn, union-end, union-taken, union-whole, fewer-left)
+pub ruleset members = (share-start, share-turn, share-end, union-start, union-turn, union-end, union-taken, union-whole, fewer-left, taken-fewer)

@@ -3,7 +3,7 @@ ghost use Rattle.std.specs.Prelude.{◌≡◌, true, MatchOption};
 ghost use Rattle.std.specs.Iterator.{at_most};
 ghost use Rattle.sets.specs.Members.{width, mem, is_empty, count_below, Takes};
 
-use crate::activity::Activity;
+use crate::activity::{Activity, WORD};
 use crate::set::Set;
 
 #[derive(Clone, Copy)]
@@ -21,11 +21,15 @@ impl Iterator for Members {
 
     #[inline]
     fn next(&mut self) -> Option<Activity> {
-        let rest = self.rest;
-        if rest.is_empty() {
-            return None;
+        let Set { low, high } = self.rest;
+        if low != 0 {
+            self.rest.low = low & (low - 1);
+            return Some(Activity(u64::trailing_zeros(low) as u8));
         }
-        self.rest = rest.without_least();
-        Some(rest.least())
+        if high != 0 {
+            self.rest.high = high & (high - 1);
+            return Some(Activity(WORD + u64::trailing_zeros(high) as u8));
+        }
+        None
     }
 }

@@ -84,11 +84,9 @@ pub fn turned(rows: &Rows) -> Rows
     ensures { result ≡ rows_of (turned rows.now) }
 {
     let mut out = empty();
-    let mut x = 0;
-    while x < Activity::LIMIT {
+    for x in 0..Activity::LIMIT {
         let members = row(rows, Activity(x));
         share(&mut out, members, Set::one(Activity(x)));
-        x += 1;
     }
     out
 }

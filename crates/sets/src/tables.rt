@@ -13,10 +13,7 @@ use crate::set::Set;
 fn word_at(tables: &[u64], i: usize) -> u64
     ensures { result ≡ get_or tables.now i 0 }
 {
-    if tables.len() <= i {
-        return 0;
-    }
-    tables[i]
+    tables.get(i).copied().unwrap_or(0)
 }
 
 // Puts a word at a place; where there is none, nothing changes.
@@ -68,10 +65,8 @@ pub fn put_rows(tables: &mut [u64], table: u8, rows: &Rows)
     ensures { tables.new ≡ with_table tables.old table rows.now }
 {
     let first = table as usize * rows::WORDS;
-    let mut i: usize = 0;
-    while i < rows::WORDS {
-        put_word(tables, first + i, rows[i]);
-        i += 1;
+    for (i, &word) in rows.iter().enumerate() {
+        put_word(tables, first + i, word);
     }
 }
 
@@ -81,10 +76,8 @@ pub fn taken(tables: &[u64], table: u8) -> Rows
 {
     let first = table as usize * rows::WORDS;
     let mut out = rows::empty();
-    let mut i: usize = 0;
-    while i < rows::WORDS {
+    for i in 0..rows::WORDS {
         out[i] = word_at(tables, first + i);
-        i += 1;
     }
     out
 }

@@ -1,5 +1,5 @@
 use mathlib.Core.Path.{◌≡◌}
-use Prim.Native.Nat.{◌≤◌, ◌-◌}
+use Prim.Native.Nat.{◌≤◌}
 use Rattle.sets.specs.Members.{width}
 use Rattle.sets.specs.Rows.{rows_of}
 use Rattle.sets.specs.Rows.{turned}
@@ -8,6 +8,3 @@ use Rattle.sets.proofs.rows.turned.Given as goal
 
 abbrev pub invariant-loop-x : goal.invariant-loop-x
 invariant-loop-x l = (l.x ≤ width) × (l.out ≡ rows_of (onto (turned l.rows) l.x))
-
-abbrev pub decreases-loop-x : goal.decreases-loop-x
-decreases-loop-x l = width - l.x

@@ -1,4 +1,4 @@
-use Prim.Native.Nat.{◌-◌, ◌≤◌}
+use Prim.Native.Nat.{◌≤◌}
 use mathlib.Core.Path.{◌≡◌}
 use Rattle.sets.specs.Rows.{row_words}
 use Rattle.sets.proofs.TableLaws.{with_words_in}
@@ -6,6 +6,3 @@ use Rattle.sets.proofs.tables.put_rows.Given as goal
 
 abbrev pub invariant-loop-i : goal.invariant-loop-i
 invariant-loop-i l = (l.i ≤ row_words) × (l.tables ≡ with_words_in l.initial.tables l.table l.rows l.i)
-
-abbrev pub decreases-loop-i : goal.decreases-loop-i
-decreases-loop-i l = row_words - l.i

@@ -1,4 +1,4 @@
-use Prim.Native.Nat.{◌-◌, ◌≤◌}
+use Prim.Native.Nat.{◌≤◌}
 use mathlib.Core.Path.{◌≡◌}
 use Rattle.sets.specs.Rows.{row_words, no_rows}
 use Rattle.sets.specs.Tables.{table_at}
@@ -7,6 +7,3 @@ use Rattle.sets.proofs.tables.taken.Given as goal
 
 abbrev pub invariant-loop-i : goal.invariant-loop-i
 invariant-loop-i l = (l.i ≤ row_words) × (l.out ≡ with_words_in no_rows 0 (table_at l.tables l.table) l.i)
-
-abbrev pub decreases-loop-i : goal.decreases-loop-i
-decreases-loop-i l = row_words - l.i
