@@ -1,6 +1,6 @@
 -- The transitive reduction, by loops over the members of a row: what is known of a row while its targets are judged and its middles are
 -- tried. Assumes nothing.
-use mathlib.Core.Path.{◌≡◌, refl, sym, ◌∙◌, subst}
+use mathlib.Core.Path.{◌≡◌, refl, sym, ap, ap₂, ◌∙◌, subst}
 use mathlib.Core.Bool.{Bool, true, false}
 use mathlib.Core.List.{List}
 use Prim.Native.Nat.{ℕ, ◌-◌, ◌≤◌, ◌<◌}
@@ -9,16 +9,15 @@ use borrow.Author.Rules.{rules}
 use borrow.Author.Tests.{ltb-true, ltb-false}
 use lib.Dec.{T, eqb, eqb→eq, eqb_refl, ltb}
 use Rattle.sets.specs.Tests.{◌and◌, ◌or◌, non}
-use Rattle.sets.specs.Members.{no_set, width, mem, those, is_empty, least_below, within}
+use Rattle.sets.specs.Members.{no_set, width, word, mem, those, is_empty, least_below, within, Takes}
 use Rattle.sets.specs.Rows.{row_at, in_row}
 use Rattle.sets.specs.declared.set.Set.{Set}
 use Rattle.sets.proofs.Tests.{and_i, and_l, and_r, or-e, or_l, or_r, non-i, non-e, T-ext, T-eq, T→true, true→T, false→F, F→false, split, either}
 use Rattle.sets.proofs.Below.{some-i, some-e, least-is, least-before}
 use Rattle.sets.proofs.Members.{Whole, mem-none, none-those, those-ext, those-of, empty-e, within-e}
-use Rattle.sets.proofs.Passing.{least-low, fewer-left}
+use Rattle.sets.proofs.Passing.{least-low}
 use Rattle.sets.proofs.MadeSets.{Is, is-those, is_row}
-use Rattle.sets.proofs.Loops.{filling}
-use Rattle.steps.specs.Rowwise.{reduced_of}
+use Rattle.steps.specs.Rowwise.{reduced_of, fits}
 
 -- ---- a target, while it is the lowest of those left
 
@@ -96,6 +95,15 @@ judging-first rows s from h =
       is_set = sym (none-those (mem no_set) (λ x l. mem-none x));
     }
 
+-- a loop over the members of a row begins with all of them
+pub judging-from : (rows : List ℕ) (s : ℕ) (from rest : Set) → Is from (in_row rows s) → rest ≡ from → Judging rows s no_set from rest
+judging-from rows s from rest h e = subst (λ (m : Set). Judging rows s no_set from m) (sym e) (judging-first rows s from h)
+
+-- in the narrow form the row lies below 64
+narrow-within : (wide : Bool) (rows : List ℕ) (s : ℕ) → fits wide rows s ≡ true → wide ≡ false → within (row_at rows s) (those (λ b. ltb b word)) ≡ true
+unfolding fits ◌or◌
+narrow-within wide rows s h n = sym (ap (λ (t : Bool). t or within (row_at rows s) (those (λ b. ltb b word))) n) ∙ h
+
 -- a row that lies within a set loses nothing where it is cut to it
 pub is_cut : (rows : List ℕ) (s : ℕ) (row cut from : Set) (r : Bool) → row ≡ row_at rows s → r ≡ within row cut → r ≡ true
     → from ≡ those (λ a. mem row a and mem cut a) → Is from (in_row rows s)
@@ -104,16 +112,30 @@ is_cut rows s row cut from r e hr ht hf x l =
     ∙ T-ext _ _ (λ t. and_l _ _ t) (λ t. and_i _ _ t (within-e row cut (true→T (sym hr ∙ ht)) x l t))
     ∙ is_row row rows s e x l
 
-module _ (rows : List ℕ) (s : ℕ) (kept targets middles : Set) (r : Bool) (h : Judging rows s kept targets middles) where
+pub fits-narrow : (rows : List ℕ) (s : ℕ) (row low : Set) (r : Bool) → row ≡ row_at rows s → low ≡ those (λ b. ltb b word) → r ≡ within row low
+    → r ≡ true → fits false rows s ≡ true
+unfolding fits ◌or◌
+fits-narrow rows s row low r hw hl hr ht = ap₂ within (sym hw) (sym hl) ∙ sym hr ∙ ht
+
+pub fits-wide : (rows : List ℕ) (s : ℕ) → fits true rows s ≡ true
+unfolding fits ◌or◌
+fits-wide rows s = refl
+
+pub narrow-cut : (wide : Bool) (rows : List ℕ) (s : ℕ) (row low from : Set) → fits wide rows s ≡ true → wide ≡ false → row ≡ row_at rows s
+    → low ≡ those (λ b. ltb b word) → from ≡ those (λ a. mem row a and mem low a) → Is from (in_row rows s)
+narrow-cut wide rows s row low from h n hr hl hf =
+    is_cut rows s row low from (within row low) hr refl (ap₂ within hr hl ∙ narrow-within wide rows s h n) hf
+
+module _ (rows : List ℕ) (s : ℕ) (kept targets middles : Set) (h : Judging rows s kept targets middles) where
   -- a middle is tried: all targets that it joins go
-  pub judging-goes : (u : ℕ) (joined targets' middles' : Set) → r ≡ is_empty middles → r ≡ false → u ≡ least_below width (mem middles)
-      → joined ≡ row_at rows u → middles' ≡ those (λ b. mem middles b and non (eqb b (least_below width (mem middles))))
+  pub judging-goes : (u : ℕ) (joined targets' middles' : Set) → Takes middles u middles' → joined ≡ row_at rows u
       → targets' ≡ those (λ a. mem targets a and non (mem joined a)) → Judging rows s kept targets' middles'
   unfolding reduced_of
-  judging-goes u joined targets' middles' hr hn hu hj hm ht =
-      let first = lowest-first middles u r hr hn hu in
+  judging-goes u joined targets' middles' t hj ht =
+      let hu = t.1 in
+      let first = lowest-first middles u _ refl t.0 hu in
       let stays = is-those targets' _ ht in
-      let left = is-those middles' _ hm in
+      let left = is-those middles' _ t.2 in
       let joins = is_row joined rows u hj in
       record {
         right = h.right;
@@ -131,31 +153,31 @@ module _ (rows : List ℕ) (s : ℕ) (kept targets middles : Set) (r : Bool) (h 
       }
 
   -- no middle is left: the pair stays
-  pub judging-stays : (t : ℕ) (one same kept' targets' : Set) → r ≡ is_empty middles → r ≡ true → Lowest t targets
+  pub judging-stays : (t : ℕ) (one same kept' targets' none : Set) → is_empty middles ≡ true → none ≡ middles → Lowest t targets
       → one ≡ those (λ b. eqb b t) → kept' ≡ those (λ a. mem kept a or mem one a) → same ≡ those (λ b. eqb b t)
-      → targets' ≡ those (λ a. mem targets a and non (mem same a)) → Judging rows s kept' targets' middles
-  judging-stays t one same kept' targets' hr he lt ho hk hs ht =
+      → targets' ≡ those (λ a. mem targets a and non (mem same a)) → Judging rows s kept' targets' none
+  judging-stays t one same kept' targets' none he hn lt ho hk hs ht =
       let gains = is-those kept' _ (hk ∙ those-of one (λ b. eqb b t) (λ a q. mem kept a or q) ho) in
       let loses = is-those targets' _ (ht ∙ those-of same (λ b. eqb b t) (λ a q. mem targets a and non q) hs) in
       record {
         right = λ x l k.
             either (or-e _ _ (T-eq (gains x l) k)) (h.right x l)
             (λ e. subst (λ (n : ℕ). T (reduced_of rows s n)) (sym (eqb→eq x t e)) (h.free t lt.low lt.here
-            (λ u v m j. empty-e middles (true→T (sym hr ∙ he)) u v m)));
-        free = λ x l m. h.free x l (and_l _ _ (T-eq (loses x l) m));
+            (λ u v m j. empty-e middles (true→T he) u v m)));
+        free = λ x l m k. h.free x l (and_l _ _ (T-eq (loses x l) m)) (λ u v n. absurd (empty-e middles (true→T he) u v n));
         whole = λ x l k.
             either (or-e _ _ (h.whole x l k)) (λ m. or_l _ _ (T-eq (sym (gains x l)) (or_l _ _ m))) (λ m.
             either (split (eqb x t)) (λ e. or_l _ _ (T-eq (sym (gains x l)) (or_r _ _ e)))
             (λ d. or_r _ _ (T-eq (sym (loses x l)) (and_i _ _ m (non-i _ d)))));
-        middle = h.middle;
+        middle = λ u l m. h.middle u l (subst (λ (n : Set). T (mem n u)) hn m);
         is_set = those-of kept' _ (λ a q. q) hk ∙ sym hk;
       }
 
   -- no target is left: the row is the reduction's
-  pub judging-end : r ≡ is_empty targets → r ≡ true → kept ≡ those (reduced_of rows s)
-  judging-end hr he =
+  pub judging-end : (r : Bool) → r ≡ is_empty targets → r ≡ true → kept ≡ those (reduced_of rows s)
+  judging-end r hr he =
       sym h.is_set ∙ those-ext (mem kept) (reduced_of rows s) (λ x l. T-ext _ _ (h.right x l) (λ t.
       either (or-e _ _ (h.whole x l t)) (λ k. k) (λ k. absurd (empty-e targets (true→T (sym hr ∙ he)) x l k))))
 
--- what the needs of both functions cite
-pub ruleset reducing = (judging-first, is_row, is_cut, judging-goes, judging-stays, judging-end, lowest-first, lowest-next, goes-nearer, stays-nearer, fewer-left, filling, rules)
+-- what the goals of the loops cite
+pub ruleset reducing = (judging-goes, judging-stays, judging-end, lowest-first, lowest-next, goes-nearer, stays-nearer, rules)

@@ -1,10 +1,10 @@
 -- The steps as they are read from sets and rows: what the functions of src/relations.rt and src/reduce.rt put into the row of an event.
 -- `in_row rows a x` says that x stands in row a. That the relations so read are those of the rules is a theorem of the miner, so a reader of
 -- `mine` need not believe this file.
-use Rattle.std.specs.Prelude.{Bool, List, ℕ, eqb}
+use Rattle.std.specs.Prelude.{Bool, List, ℕ, eqb, ltb}
 use Rattle.sets.specs.Tests.{◌and◌, ◌or◌, non}
-use Rattle.sets.specs.Members.{width, mem, some_below, least_below}
-use Rattle.sets.specs.Rows.{Relation, in_row}
+use Rattle.sets.specs.Members.{width, word, mem, those, some_below, least_below, within}
+use Rattle.sets.specs.Rows.{Relation, row_at, in_row}
 use Rattle.sets.specs.declared.set.Set.{Set}
 
 -- x is another event, and does not stand in row a (steps 2 and 3, of rows that hold what breaks the rule)
@@ -45,6 +45,10 @@ in_either rows others a x = in_row rows a x or in_row others a x
 -- steps 8 and 10: a pair goes where some u leads from a to x
 unfoldable pub reduced_of : List ℕ → Relation
 reduced_of rows a x = in_row rows a x and non (some_below width (λ u. in_row rows a u and in_row rows u x))
+
+-- in the narrow form row a lies below 64
+unfoldable pub fits : Bool → List ℕ → ℕ → Bool
+fits wide rows a = wide or within (row_at rows a) (those (λ b. ltb b word))
 
 -- step 9: to the target a from x, where x is before the first a of some trace and is missed at no a
 unfoldable pub waited : Set → List ℕ → List ℕ → List ℕ → Relation

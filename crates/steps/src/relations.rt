@@ -2,11 +2,12 @@
 // each by a function of its own; all other rows stay empty.
 ghost use Rattle.std.specs.Prelude.{◌≡◌, eqb};
 ghost use Rattle.sets.specs.Tests.{◌and◌, non};
-ghost use Rattle.sets.specs.Members.{width, mem, those, some_below, least_below};
-ghost use Rattle.sets.specs.Rows.{row_at, in_row, rows_for};
+ghost use Rattle.sets.specs.Members.{width, mem, those, some_below};
+ghost use Rattle.sets.specs.Rows.{in_row, rows_for};
 ghost use Rattle.sets.specs.Tables.{table_at};
 ghost use Rattle.steps.specs.Rowwise.{unbroken, absent, excludes_itself, smallest, apart, closing, excluders, in_either, waited};
 
+use crate::rowwise::rows_at;
 use sets::{Activity, Rows, Set, rows, tables};
 
 fn others(events: Set, a: Activity) -> Set
@@ -27,14 +28,7 @@ fn unbroken_row(events: Set, tables: &[u64], broken: u8, a: Activity) -> Set
 pub fn unbroken(events: Set, tables: &[u64], broken: u8) -> Rows
     ensures { result ≡ rows_for events (unbroken events (table_at tables.now broken)) }
 {
-    let mut out = rows::empty();
-    let mut a = events.least();
-    while a.0 < Activity::LIMIT {
-        let row = unbroken_row(events, tables, broken, a);
-        rows::put(&mut out, a, row);
-        a = events.next(a);
-    }
-    out
+    rows_at(events, |a| unbroken_row(events, tables, broken, a))
 }
 
 // ---- steps 1, 3, 4 and 5: what excludes a target
@@ -102,14 +96,7 @@ pub fn excluded_by<'a>(
     ensures { result ≡ rows_for events (excluders events (table_at tables.now before) (table_at tables.now later)
         chains.now) }
 {
-    let mut out = rows::empty();
-    let mut a = events.least();
-    while a.0 < Activity::LIMIT {
-        let row = excluders(events, tables, before, later, chains, a);
-        rows::put(&mut out, a, row);
-        a = events.next(a);
-    }
-    out
+    rows_at(events, |a| excluders(events, tables, before, later, chains, a))
 }
 
 // ---- step 6
@@ -124,14 +111,7 @@ fn absent_row(events: Set, tables: &[u64], there: u8, a: Activity) -> Set
 pub fn absent(events: Set, tables: &[u64], there: u8) -> Rows
     ensures { result ≡ rows_for events (absent events (table_at tables.now there)) }
 {
-    let mut out = rows::empty();
-    let mut a = events.least();
-    while a.0 < Activity::LIMIT {
-        let row = absent_row(events, tables, there, a);
-        rows::put(&mut out, a, row);
-        a = events.next(a);
-    }
-    out
+    rows_at(events, |a| absent_row(events, tables, there, a))
 }
 
 fn united_row<'a>(rows: &'a Rows, others: &'a Rows, a: Activity) -> Set
@@ -144,34 +124,18 @@ fn united_row<'a>(rows: &'a Rows, others: &'a Rows, a: Activity) -> Set
 pub fn united<'a>(events: Set, rows: &'a Rows, others: &'a Rows) -> Rows
     ensures { result ≡ rows_for events (in_either rows.now others.now) }
 {
-    let mut out = rows::empty();
-    let mut a = events.least();
-    while a.0 < Activity::LIMIT {
-        let row = united_row(rows, others, a);
-        rows::put(&mut out, a, row);
-        a = events.next(a);
-    }
-    out
+    rows_at(events, |a| united_row(rows, others, a))
 }
 
 // ---- of some rows
-
-// A table's row of a set's least member.
-fn least_row(tables: &[u64], table: u8, s: Set) -> Set
-    ensures { result ≡ row_at (table_at tables.now table) (least_below width (mem s)) }
-{
-    tables::row(tables, table, s.least())
-}
 
 // What stands in a table's row of some member.
 pub fn union_of(tables: &[u64], table: u8, members: Set) -> Set
     ensures { result ≡ those (λ x. some_below width (λ u. mem members u and in_row (table_at tables.now table) u x)) }
 {
     let mut out = Set::EMPTY;
-    let mut rest = members;
-    while !rest.is_empty() {
-        out = out.union(least_row(tables, table, rest));
-        rest = rest.without_least();
+    for u in members.members() {
+        out = out.union(tables::row(tables, table, u));
     }
     out
 }
@@ -206,12 +170,5 @@ fn waited_row<'a>(
 pub fn waited<'a>(events: Set, conditions: &'a Rows, ahead: &'a Rows, missed: &'a Rows) -> Rows
     ensures { result ≡ rows_for events (waited events conditions.now ahead.now missed.now) }
 {
-    let mut out = rows::empty();
-    let mut a = events.least();
-    while a.0 < Activity::LIMIT {
-        let row = waited_row(events, conditions, ahead, missed, a);
-        rows::put(&mut out, a, row);
-        a = events.next(a);
-    }
-    out
+    rows_at(events, |a| waited_row(events, conditions, ahead, missed, a))
 }

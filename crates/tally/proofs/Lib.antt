@@ -1,4 +1,5 @@
 -- The modules of `proofs/` that belong to no one function.
+pub mod Backwards
 pub mod Turns
 pub mod Folds
 pub mod LookBack

@@ -1,15 +1,21 @@
 -- Looking back from a place to the last e: what stands since then. By blocks of eight places: a block without an e is passed at once, and what
 -- stands in a block stays true from place to place. Assumes nothing.
-use mathlib.Core.Path.{◌≡◌, refl, sym, ap, ap₂, ◌∙◌}
+use mathlib.Core.Path.{◌≡◌, refl, sym, ap, ap₂, ◌∙◌, subst}
 use mathlib.Core.Bool.{Bool, true, false, not}
-use mathlib.Core.List.{List, [], ◌∷◌, reverse_aux}
-use Prim.Native.Nat.{ℕ, zero, suc, ◌+◌, ◌-◌, ◌≤◌, ◌<◌, ◌*◌, ◌/◌}
+use mathlib.Core.List.{List, [], ◌∷◌, ◌++◌, reverse_aux}
+use Prim.Native.Nat.{ℕ, zero, suc, min, ◌+◌, ◌-◌, ◌≤◌, ◌<◌, ◌*◌, ◌/◌}
 use native.Mathlib.Omega.{arith}
 use native.Mathlib.Numerals.{add-one}
 use borrow.Author.Tests.{eq-eqb, ne_eqb, lt-ltb, le-ltb, ltb-true, ltb-false, eqb-true, eqb-false}
 use lib.Dec.{eqb, T, eqb→eq, ltb, lt→ltb, ltb→lt}
 use lib.ListN.{length, get_or, take, drop, length-drop}
 use lib.Seq.{drop-length, get_or-take, get_or-drop, length-take-le}
+use Rattle.std.specs.List.{push}
+use Rattle.std.specs.Int.{div_ceil}
+use Rattle.std.proofs.lemmas.Grind.{div_ceil_times}
+use Rattle.sets.specs.Sizes.{longest_trace}
+use Rattle.std.proofs.lemmas.List.{length_push, get_or_push, take_at, take_all}
+use Rattle.tally.proofs.Backwards.{First, first_all, first-longer, first-item, first-less}
 use Rattle.sets.specs.Tests.{◌and◌, ◌or◌, non, when◌then◌else◌}
 use Rattle.sets.specs.Members.{width, mem, those, is_empty, no_set, some_below}
 use Rattle.sets.specs.declared.set.Set.{Set}
@@ -22,7 +28,7 @@ use Rattle.sets.proofs.Below.{some-i, some-e, some-ext, some-last}
 use Rattle.sets.proofs.MadeSets.{Is, is-those, less}
 use Rattle.sets.proofs.RowLaws.{row-rows_of, put-rows_of, gain-rows_of, rows_of-ext, empty-rows_of}
 use Rattle.rules.specs.Traces.{◌has◌, at_some_from}
-use Rattle.tally.specs.Passes.{not_since, PassedTo, in_block}
+use Rattle.tally.specs.Passes.{not_since, PassedTo, in_block, Knows}
 use Rattle.tally.proofs.Turns.{past_at, past_next, rest-next}
 
 -- x stands in `far` with no e nearer, where `near` was passed already
@@ -182,6 +188,46 @@ module _ {past : List ℕ} {e i : ℕ} {wanted left : Set} (inv : Looked past e 
         (ap (since e a []) (ap (past_at past) (sym again) ∙ past_next past (i - 1) here) ∙ since-last e a y _ (eq-eqb e y (sym q)))))
         ∙ look-whole
 
+-- ---- the same by what is left of the places, which are passed from the last
+
+abbrev pub LookedTo : List ℕ → ℕ → Set → Set → List ℕ → Type 0
+LookedTo past e wanted left rest = First past rest × Looked past e wanted left (length rest)
+
+pub looked-start : (past : List ℕ) (e : ℕ) (wanted : Set) (rest : List ℕ) → those (mem wanted) ≡ wanted → rest ≡ past → LookedTo past e wanted wanted rest
+looked-start past e wanted rest h q = (first_all past rest q, look-start past e wanted (length rest) h (ap length (sym q)))
+
+module _ {past rest : List ℕ} {e : ℕ} {wanted left : Set} (inv : LookedTo past e wanted left rest) where
+  module _ (rest' : List ℕ) (x : ℕ) (left' one : Set) (q : rest ≡ push rest' x) (ho : one ≡ those (λ b. eqb b x))
+      (hl : left' ≡ those (λ a. mem left a and non (mem one a))) where
+    longer : length rest ≡ length rest' + 1
+    longer = first-longer rest' x inv.0 q
+
+    at : length rest - 1 ≡ length rest'
+    at = omega (arith, longer)
+
+    item : get_or past (length rest - 1) 0 ≡ x
+    item = ap (λ (n : ℕ). get_or past n 0) at ∙ first-item rest' x inv.0 q
+
+    only : one ≡ those (λ b. eqb b (get_or past (length rest - 1) 0))
+    only = ho ∙ ap (λ (y : ℕ). those (λ b. eqb b y)) (sym item)
+
+    pub looked-next : (x ≡ e → ⊥) → LookedTo past e wanted left' rest'
+    looked-next ne =
+        (
+          first-less rest' x inv.0 q,
+          subst (λ (n : ℕ). Looked past e wanted left' n) at
+          (look-next inv.1 (omega (arith, longer)) left' one only hl (λ y. ne (sym item ∙ y))),
+        )
+
+    pub looked-stop : x ≡ e → left' ≡ wanted_of e past wanted
+    looked-stop y = look_stop inv.1 (omega (arith, longer)) left' one only hl (item ∙ y)
+
+  pub looked-empty : (r : Bool) → r ≡ is_empty left → r ≡ true → left ≡ wanted_of e past wanted
+  looked-empty = look-empty inv.1
+
+  pub looked-end : length rest ≡ 0 → left ≡ wanted_of e past wanted
+  looked-end h = look-end inv.1 (omega (arith, h))
+
 -- ---- whether a block is passed
 
 pub stop-empty : (left : Set) (b r : Bool) → r ≡ is_empty left → r ≡ true → false ≡ (non (is_empty left) and b)
@@ -258,6 +304,62 @@ module _ (past : List ℕ) (e : ℕ) (wanted left : Set) (end : ℕ) (inv : Look
       is : Is block (in_block past j)
       is = is-those block (in_block past j) (hk ∙ ap (λ (rows : List ℕ). row_at rows j) hb ∙ row-rows_of (in_block past) j lj)
 
+-- a look back by blocks: those from block k on are passed, and the one before k has a place
+pub record LookedBlocks (past : List ℕ) (e : ℕ) (wanted left : Set) (k : ℕ) : Type 0 where
+  pub some : 0 < k → (k - 1) * 8 < length past
+  pub looked : Looked past e wanted left (min (length past) (k * 8))
+
+min-low : (n m : ℕ) → n ≤ m → min n m ≡ n
+min-low n m h = omega arith
+
+min-high : (n m : ℕ) → m ≤ n → min n m ≡ m
+min-high n m h = omega arith
+
+pub blocks-start : (past : List ℕ) (e : ℕ) (wanted : Set) (k : ℕ) → those (mem wanted) ≡ wanted → k ≡ div_ceil (length past) 8
+    → LookedBlocks past e wanted wanted k
+blocks-start past e wanted k h q =
+    record {
+      some = λ l. omega (arith, q, near, l);
+      looked = look-start past e wanted _ h (sym (min-low (length past) (k * 8) (omega (arith, q, near))));
+    }
+  where
+    near : (length past ≤ div_ceil (length past) 8 * 8) × (div_ceil (length past) 8 * 8 < length past + 8)
+    near = div_ceil_times (length past) 8 (omega arith)
+
+module _ {past : List ℕ} {e k : ℕ} {wanted left : Set} (inv : LookedBlocks past e wanted left k) where
+  pub blocks-passed : (n : ℕ) → n ≡ min (length past) (k * 8) → PassedTo past e wanted left n
+  blocks-passed n q = subst (λ (m : ℕ). PassedTo past e wanted left m) (sym q) (look-passed inv.looked)
+
+  pub blocks-end : k ≤ 0 → PassedTo past e wanted left 0
+  blocks-end h = blocks-passed 0 (omega arith)
+
+  module _ (here : 0 < k) where
+    pub blocks-here : (n : ℕ) → n ≡ min (length past) ((k - 1 + 1) * 8) → PassedTo past e wanted left n
+    blocks-here n q = let same : k - 1 + 1 ≡ k = omega arith in blocks-passed n (q ∙ ap (λ (m : ℕ). min (length past) (m * 8)) same)
+
+    pub blocks-turn : (blocks : List ℕ) (block left' : Set) (r : Bool) → length past ≤ longest_trace → e < width → Knows blocks past
+        → block ≡ row_at blocks (k - 1) → r ≡ (non (is_empty left) and non (mem block e)) → r ≡ true
+        → left' ≡ those (λ a. mem left a and non (mem block a)) → LookedBlocks past e wanted left' (k - 1)
+    blocks-turn blocks block left' r hn le hb hk hr ht hl =
+        record {
+          some = λ l. omega (arith, inv.some here);
+          looked =
+              subst (λ (n : ℕ). Looked past e wanted left' n) (ap (λ (n : ℕ). n * 8) at ∙ sym (min-high (length past) ((k - 1) * 8) (omega (arith, inv.some here))))
+              (look-block past e wanted left end inv.looked some-place blocks block left' r low le hb (hk ∙ ap (row_at blocks) (sym at)) hr ht hl);
+        }
+      where
+        end : ℕ
+        end = min (length past) (k * 8)
+
+        some-place : 0 < end
+        some-place = omega (arith, inv.some here)
+
+        at : (end - 1) / 8 ≡ k - 1
+        at = omega (arith, inv.some here)
+
+        low : (end - 1) / 8 < width
+        low = omega (arith, inv.some here)
+
 -- ---- a place is put down
 
 module _ (blocks : List ℕ) (e at : ℕ) where
@@ -298,6 +400,31 @@ blocks-next σ i h =
     ∙ sym (block-taken σ (i + 1) j x (omega arith)
     ∙ ap (λ (n : ℕ). some_below n (λ p. eqb (p / 8) j and eqb x (get_or σ p 0))) (add-one i)
     ∙ some-last i (λ p. eqb (p / 8) j and eqb x (get_or σ p 0))))
+
+-- the blocks of a past know one place more
+known-next : (past : List ℕ) (e : ℕ) → rows_of (λ j x. in_block past j x or eqb j (length past / 8) and eqb x e) ≡ rows_of (in_block (past ++ e ∷ []))
+known-next past e =
+    ap₂ (λ (l : List ℕ) (y : ℕ). rows_of (λ j x. in_block l j x or eqb j (length l / 8) and eqb x y)) (sym (take_at past (e ∷ []) n refl))
+    (sym (get_or_push past e 0 n refl))
+    ∙ blocks-next all n (omega (arith, longer))
+    ∙ ap (λ (l : List ℕ). rows_of (in_block l)) (take_all (n + 1) all (omega (arith, longer)))
+  where
+    n : ℕ
+    n = length past
+
+    all : List ℕ
+    all = past ++ e ∷ []
+
+    longer : length all ≡ n + 1
+    longer = length_push past e
+
+pub put-known : (blocks : List ℕ) (past : List ℕ) (e : ℕ) (blocks' : List ℕ) (one : Set) → one ≡ those (λ b. eqb b e)
+    → blocks' ≡ with_row blocks (length past / 8) (those (λ b. mem (row_at blocks (length past / 8)) b or mem one b))
+    → Knows blocks past → Knows blocks' (past ++ e ∷ [])
+put-known blocks past e blocks' one ho h k = put-in-block blocks e (length past) blocks' one ho h (in_block past) k ∙ known-next past e
+
+pub far-known : (blocks : List ℕ) (past : List ℕ) (e : ℕ) → width * 8 ≤ length past → Knows blocks past → Knows blocks (past ++ e ∷ [])
+far-known blocks past e h k = put-nowhere blocks e (length past) h (in_block past) k ∙ known-next past e
 
 -- ---- the blocks of a trace are taken up: those before j are empty again
 

@@ -4,7 +4,7 @@ use Rattle.std.specs.Prelude.{◌≡◌, Bool, ℕ, zero, suc, ◌/◌, ◌≤�
 use mathlib.Core.List.{List, [], ◌∷◌, reverse_aux}
 use Rattle.sets.specs.Tests.{◌and◌, ◌or◌, non, when◌then◌else◌}
 use Rattle.sets.specs.Members.{word, mem, those, some_below}
-use Rattle.sets.specs.Rows.{Relation, row_at, with_row}
+use Rattle.sets.specs.Rows.{Relation, row_at, with_row, rows_of}
 use Rattle.sets.specs.Tables.{table_at, with_row_in}
 use Rattle.sets.specs.declared.set.Set.{Set}
 use Rattle.calllog.specs.Logs.{part_at}
@@ -107,6 +107,10 @@ gains_in wide p rows e past rest = gained_for wide rows e (cut wide p e past res
 -- x stands in block j: at one of the eight places from 8 j on
 unfoldable pub in_block : List ℕ → Relation
 in_block past j x = some_below (length past) (λ p. eqb (p / 8) j and eqb x (get_or past p 0))
+
+-- the rows of blocks know what stands in each of them
+abbrev pub Knows : List ℕ → List ℕ → Type 0
+Knows blocks past = blocks ≡ rows_of (in_block past)
 
 -- a look back for what is wanted since the last e has come to place n: there it looks for what is left
 abbrev pub PassedTo : List ℕ → ℕ → Set → Set → ℕ → Type 0

@@ -1,17 +1,17 @@
 // The tally of a log: what steps 1 to 7 ask of it. It keeps what was seen, or what breaks a rule, over all activities of the width: all of
 // it only grows, so the facts of two logs join by union.
-ghost use Rattle.std.specs.Prelude.{◌≡◌};
+ghost use Rattle.std.specs.Prelude.{◌≡◌, []};
 ghost use Rattle.sets.specs.Tests.{◌and◌, ◌or◌};
 ghost use Rattle.sets.specs.Members.{mem, those};
-ghost use Rattle.sets.specs.Rows.{no_rows};
 ghost use Rattle.sets.specs.Tables.{no_tables};
 ghost use Rattle.rules.specs.Traces.{◌has◌};
-ghost use Rattle.tally.specs.Passes.{through, walked, reaches, event_in};
+ghost use Rattle.tally.specs.Passes.{through, walked, reaches, event_in, Knows};
 ghost use Rattle.tally.specs.Tallies.{table_count, noted_for};
 
+use crate::look_back::Blocks;
 use crate::passes;
 use sets::rows::WORDS;
-use sets::{Rows, Set, rows};
+use sets::Set;
 
 // Row t: what stands before some t.
 pub const BEFORE: u8 = 0;
@@ -38,35 +38,46 @@ pub fn empty() -> Tally
     [0; 7 * WORDS]
 }
 
-// The facts of one trace. The rows of its blocks are lent, so that not each trace clears them all. It gives the events so far with those of the trace that the form holds.
-fn note_trace(trace: &[u8], events: Set, wide: bool, blocks: &mut Rows, tally: &mut Tally) -> Set
-    requires { blocks.old ≡ no_rows }
-    ensures value { result ≡ those (λ x. mem events x or reaches wide x and trace.now has x) }
-    ensures blocks_after { blocks.new ≡ no_rows }
-    ensures tally_after { tally.new ≡ noted_for wide tally.old trace.now }
+// The facts of one trace. The rows of its blocks are lent, so that not each trace clears them all. It gives the events so far with those of
+// the trace that the form holds.
+fn note_trace<const WIDE: bool>(
+    trace: &[u8],
+    events: Set,
+    blocks: &mut Blocks,
+    tally: &mut Tally,
+) -> Set
+    requires { Knows blocks.old.rows [] }
+    ensures value { result ≡ those (λ x. mem events x or reaches WIDE x and trace.now has x) }
+    ensures blocks_after { Knows blocks.new.rows [] }
+    ensures tally_after { tally.new ≡ noted_for WIDE tally.old trace.now }
 {
-    if wide {
-        let seen = passes::forward(trace, blocks, tally);
-        passes::backward(trace, true, tally);
-        return events.union(seen);
-    }
-    let seen = passes::forward_narrow(trace, blocks, tally);
-    passes::backward(trace, false, tally);
+    let seen = passes::forward::<WIDE>(trace, blocks, tally);
+    passes::backward::<WIDE>(trace, tally);
     events.union(seen)
 }
 
-// The facts of a log's first traces, in a form. It gives their events, as far as the form holds them.
+// The facts of a log's first traces, in the form. It gives their events, as far as the form holds them.
+fn note_traces<const WIDE: bool>(log: &[u8], traces: usize, tally: &mut Tally) -> Set
+    ensures value { result ≡ those (event_in WIDE (walked log.now traces 0)) }
+    ensures tally_after { tally.new ≡ through (noted_for WIDE) tally.old (walked log.now traces 0) }
+{
+    let mut blocks = Blocks::empty();
+    let mut events = Set::EMPTY;
+    for k in 0..traces {
+        let trace = calllog::trace::trace_at(log, k);
+        events = note_trace::<WIDE>(trace, events, &mut blocks, tally);
+    }
+    events
+}
+
+// The same in the form that is asked for.
 pub fn note_traces_in(log: &[u8], traces: usize, wide: bool, tally: &mut Tally) -> Set
     ensures value { result ≡ those (event_in wide (walked log.now traces 0)) }
     ensures tally_after { tally.new ≡ through (noted_for wide) tally.old (walked log.now traces 0) }
 {
-    let mut blocks = rows::empty();
-    let mut events = Set::EMPTY;
-    let mut k: usize = 0;
-    while k < traces {
-        let trace = calllog::trace::trace_at(log, k);
-        events = note_trace(trace, events, wide, &mut blocks, tally);
-        k += 1;
+    if wide {
+        note_traces::<true>(log, traces, tally)
+    } else {
+        note_traces::<false>(log, traces, tally)
     }
-    events
 }

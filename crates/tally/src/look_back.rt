@@ -1,12 +1,11 @@
 // Looking back from a place of a trace for what stands since the last e. What stands in each eight places of the trace is kept as a row, so
 // that eight places without an e are passed at once.
-ghost use Rattle.std.specs.Prelude.{◌≡◌, ℕ, ◌/◌, ◌≤◌, ◌<◌, eqb, length};
-ghost use mathlib.Core.List.{List, [], reverse_aux};
-ghost use Rattle.sets.specs.Tests.{◌and◌, ◌or◌, non};
+ghost use Rattle.std.specs.Prelude.{◌≡◌, [], ◌∷◌, ◌++◌, ◌≤◌, ◌<◌, length};
+ghost use mathlib.Core.List.{reverse_aux};
+ghost use Rattle.sets.specs.Tests.{◌and◌, non};
 ghost use Rattle.sets.specs.Members.{width, mem, those, is_empty};
-ghost use Rattle.sets.specs.Rows.{Relation, no_rows, rows_of};
 ghost use Rattle.sets.specs.Sizes.{longest_trace};
-ghost use Rattle.tally.specs.Passes.{not_since, in_block, PassedTo};
+ghost use Rattle.tally.specs.Passes.{not_since, Knows, PassedTo};
 ghost use Rattle.tally.specs.Tallies.{since_by};
 
 use crate::form::in_form;
@@ -26,19 +25,57 @@ fn unmet(past: &[u8], e: Activity, wanted: Set) -> Set
     ensures { result ≡ those (λ x. mem wanted x and not_since e.0 (reverse_aux past.now []) [] x) }
 {
     let mut left = wanted;
-    let mut i = past.len();
-    while 0 < i {
+    for &x in past.iter().rev() {
         if left.is_empty() {
             return left;
         }
-        i -= 1;
-        let x = past[i];
         left = left.difference(Set::one(Activity(x)));
         if x == e.0 {
             return left;
         }
     }
     left
+}
+
+// What stands in each eight places of a past: row j is of block j.
+#[derive(Drop)]
+pub(crate) struct Blocks {
+    rows: Rows,
+}
+
+impl Blocks {
+    // Of no place.
+    pub(crate) fn empty() -> Blocks
+        ensures { Knows result.rows [] }
+    {
+        Blocks {
+            rows: rows::empty(),
+        }
+    }
+
+    // One place more: its block gains e. Past the last row nothing changes.
+    pub(crate) fn put_down(&mut self, past: &[u8], e: Activity)
+        requires { Knows self.old.rows past.now }
+        ensures { Knows self.new.rows (past.now ++ e.0 ∷ []) }
+    {
+        let at = past.len();
+        if at < PLACES {
+            rows::join(&mut self.rows, Activity((at / BLOCK) as u8), Set::one(e));
+        }
+    }
+
+    // The rows that a trace put down are empty again: a short trace has few.
+    pub(crate) fn take_up(&mut self, trace: &[u8])
+        requires { Knows self.old.rows trace.now }
+        ensures { Knows self.new.rows [] }
+    {
+        for j in 0..WIDTH {
+            if trace.len() <= j * BLOCK {
+                return;
+            }
+            rows::put(&mut self.rows, Activity(j as u8), Set::EMPTY);
+        }
+    }
 }
 
 // How far a look back has come: what is still wanted, and how many places are before it.
@@ -58,86 +95,62 @@ fn is_passed(block: Set, e: Activity, left: Set) -> bool
     !block.has(e)
 }
 
-// Back to a block that is not passed, or to the start, of places that the rows know all of.
-fn pass_blocks(blocks: &Rows, places: usize, e: Activity, wanted: Set) -> Reached
-    requires places_le_longest_trace { places ≤ longest_trace }
-    requires e_lt_width { e.0 < width }
-    ensures { (past : List ℕ) → blocks.now ≡ rows_of (in_block past) → length past ≡ places
-        → PassedTo past e.0 wanted result.left result.places }
-{
-    let mut left = wanted;
-    let mut end = places;
-    while 0 < end {
-        let j = (end - 1) / BLOCK;
-        let block = rows::row(blocks, Activity(j as u8));
-        if !is_passed(block, e, left) {
-            return Reached { left, places: end };
+// The past of a place, with blocks that know all of it.
+#[derive(Clone, Copy)]
+pub(crate) struct Past<'a> {
+    pub(crate) places: &'a [u8],
+    pub(crate) blocks: &'a Blocks,
+    ghost known: { Knows blocks.now.rows places.now },
+}
+
+impl<'a> Past<'a> {
+    // Back to a block that is not passed, or to the start.
+    fn pass_blocks(self, e: Activity, wanted: Set) -> Reached
+        requires places_le_longest_trace { length self.places.now ≤ longest_trace }
+        requires e_lt_width { e.0 < width }
+        ensures { PassedTo self.entry.places.now e.0 wanted result.left result.places }
+    {
+        let places = self.places.len();
+        let mut left = wanted;
+        for j in (0..places.div_ceil(BLOCK)).rev() {
+            let block = rows::row(&self.blocks.rows, Activity(j as u8));
+            if !is_passed(block, e, left) {
+                return Reached {
+                    left,
+                    places: places.min((j + 1) * BLOCK),
+                };
+            }
+            left = left.difference(block);
         }
-        left = left.difference(block);
-        end = j * BLOCK;
+        Reached { left, places: 0 }
     }
-    Reached { left, places: end }
-}
 
-// As `unmet`; row j is what stands in block j.
-fn unmet_by<'a>(past: &'a [u8], blocks: &'a Rows, e: Activity, wanted: Set) -> Set
-    requires blocks_value { blocks.now ≡ rows_of (in_block past.now) }
-    requires e_lt_width { e.0 < width }
-    ensures { result ≡ those (λ x. mem wanted x and not_since e.0 (reverse_aux past.now []) [] x) }
-{
-    if Place::LIMIT < past.len() {
-        return unmet(past, e, wanted);
+    // As `unmet`, by blocks first.
+    fn unmet(self, e: Activity, wanted: Set) -> Set
+        requires { e.0 < width }
+        ensures { result ≡ those (λ x. mem wanted x and not_since e.0 (reverse_aux self.entry.places.now []) [] x) }
+    {
+        if Place::LIMIT < self.places.len() {
+            return unmet(self.places, e, wanted);
+        }
+        let at = self.pass_blocks(e, wanted);
+        unmet(&self.places[0..at.places], e, at.left)
     }
-    let at = pass_blocks(blocks, past.len(), e, wanted);
-    let end = at.places;
-    unmet(&past[0..end], e, at.left)
-}
 
-// One place: what does not stand since the last e. At the first e of a trace that is what was not seen. A row that has all can gain
-// nothing, and that is the first question, since the answer is mostly the same.
-pub(crate) fn note_since<'a>(
-    past: &'a [u8],
-    blocks: &'a Rows,
-    e: Activity,
-    seen: Set,
-    wide: bool,
-    tally: &mut Tally,
-)
-    requires { blocks.now ≡ rows_of (in_block past.now) }
-    ensures { tally.new ≡ since_by wide tally.old e.0 past.now seen }
-{
-    let wanted = in_form(tables::row(tally, UNALTERNATED, e).complement(), wide);
-    if wanted.is_empty() {
-        return;
-    }
-    if seen.has(e) {
-        let left = unmet_by(past, blocks, e, wanted);
-        tables::join(tally, UNALTERNATED, e, left);
-    } else {
-        tables::join(tally, UNALTERNATED, e, in_form(seen.complement(), wide));
-    }
-}
-
-// The row of the place's block gains e. Past the last row nothing changes.
-pub(crate) fn put_down(blocks: &mut Rows, e: Activity, at: usize)
-    ensures { (r : Relation) → blocks.old ≡ rows_of r → blocks.new ≡ rows_of (λ j x. r j x or eqb j (at / 8) and eqb x e.0) }
-{
-    if at < PLACES {
-        let j = at / BLOCK;
-        rows::join(blocks, Activity(j as u8), Set::one(e));
-    }
-}
-
-// The rows that a trace of so many places put down are empty again: a short trace has few.
-pub(crate) fn take_up(blocks: &mut Rows, places: usize)
-    ensures { (past : List ℕ) → blocks.old ≡ rows_of (in_block past) → length past ≡ places → blocks.new ≡ no_rows }
-{
-    let mut j: usize = 0;
-    while j < WIDTH {
-        if places <= j * BLOCK {
+    // One place: what does not stand since the last e. At the first e of a trace that is what was not seen. A row that has all can gain
+    // nothing, and that is the first question, since the answer is mostly the same.
+    pub(crate) fn note_since<const WIDE: bool>(self, e: Activity, seen: Set, tally: &mut Tally)
+        ensures { tally.new ≡ since_by WIDE tally.old e.0 self.entry.places.now seen }
+    {
+        let wanted = in_form(tables::row(tally, UNALTERNATED, e).complement(), WIDE);
+        if wanted.is_empty() {
             return;
         }
-        rows::put(blocks, Activity(j as u8), Set::EMPTY);
-        j += 1;
+        if seen.has(e) {
+            let left = self.unmet(e, wanted);
+            tables::join(tally, UNALTERNATED, e, left);
+        } else {
+            tables::join(tally, UNALTERNATED, e, in_form(seen.complement(), WIDE));
+        }
     }
 }

@@ -1,8 +1,5 @@
-use Rattle.tally.proofs.LookBack.{Looked}
+use Rattle.tally.proofs.LookBack.{LookedTo}
 use Rattle.tally.proofs.look_back.unmet.Given as goal
 
-abbrev pub invariant-loop-i : goal.invariant-loop-i
-invariant-loop-i l = Looked l.past l.e.0 l.initial.left l.left l.i
-
-abbrev pub decreases-loop-i : goal.decreases-loop-i
-decreases-loop-i l = l.i
+abbrev pub invariant-loop-x : goal.invariant-loop-x
+invariant-loop-x l = LookedTo l.past l.e.0 l.initial.left l.left l.x-iterator.iter.rest.now

@@ -1,8 +1,6 @@
-use Rattle.tally.proofs.Loops.{Homeward}
+use Rattle.std.specs.Prelude.{not, ◌==◌}
+use Rattle.tally.proofs.Loops.{HomewardTo}
 use Rattle.tally.proofs.passes.backward.Given as goal
 
-abbrev pub invariant-loop-i : goal.invariant-loop-i
-invariant-loop-i l = Homeward l.wide l.trace l.initial.tally l.tally l.after l.next l.i
-
-abbrev pub decreases-loop-i : goal.decreases-loop-i
-decreases-loop-i l = l.i
+abbrev pub invariant-loop-e : goal.invariant-loop-e
+invariant-loop-e g l = HomewardTo (not (g.row.WIDE == 0)) l.trace l.initial.tally l.tally l.after l.next l.e-iterator.iter.rest.now

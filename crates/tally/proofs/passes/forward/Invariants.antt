@@ -1,11 +1,6 @@
-use mathlib.Core.Bool.{true}
-use Prim.Native.Nat.{◌-◌}
-use lib.ListN.{length}
+use Rattle.std.specs.Prelude.{not, ◌==◌}
 use Rattle.tally.proofs.Loops.{Onward}
 use Rattle.tally.proofs.passes.forward.Given as goal
 
 abbrev pub invariant-loop-i : goal.invariant-loop-i
-invariant-loop-i l = Onward true l.trace l.initial.tally l.tally l.blocks l.seen l.last l.i
-
-abbrev pub decreases-loop-i : goal.decreases-loop-i
-decreases-loop-i l = length l.trace - l.i
+invariant-loop-i g l = Onward (not (g.row.WIDE == 0)) l.trace l.initial.tally l.tally l.blocks.rows l.seen l.last l.i

@@ -3,4 +3,4 @@ use Rattle.tally.proofs.Turns.{past-put}
 use Rattle.tally.proofs.passes.note_past.Goals as goal
 
 pub returns : goal.returns
-returns c = search (past-put, rules)
+returns g c = search (past-put, rules)
