@@ -27,8 +27,8 @@ use Rattle.rules.specs.declared.Profile.{Profile}
 use Rattle.rules.specs.declared.Profile.TheVariants.{Full, Light}
 use Rattle.rules.specs.Traces.{Traces}
 use Rattle.steps.specs.Rowwise.{in_either, reduced_of, waited}
-use Rattle.tally.specs.Passes.{through, event_in, cut}
-use Rattle.tally.specs.Tallies.{table_count, noted_for, tallied_for}
+use Rattle.tally.specs.Passes.{event_in, cut}
+use Rattle.tally.specs.Tallies.{tallied_for}
 use Rattle.tally.proofs.Folds.{forward-rows_of, through-rows_of}
 use Rattle.miner.specs.Stages.{four_tables, conditions_of, chains_of, responses_of, never_of, five_of, followers_of, redundant_by, seven_from}
 use Rattle.miner.specs.Stages.{includes_in, excludes_six, waited_in, ahead_of, missed_of, tables_in, graph_found_in}
@@ -124,14 +124,6 @@ module _ (c r i x : List ℕ) (lc : length c ≡ row_words) (lr : length r ≡ r
       same (suc (suc (suc zero))) l = h.excludes ∙ sym held-four.excludes
       same (suc (suc (suc (suc k)))) l = absurd (omega arith)
 
--- step 9: what is waited for
-pub nine-by : (wide : Bool) (L : Traces) (events : Set) (eight includes excludes t t' first₀ unmet₀ first unmet : List ℕ)
-    → t' ≡ with_table t 0 (rows_for events (waited events eight first unmet))
-    → first ≡ ahead_of wide first₀ L → unmet ≡ missed_of wide events includes excludes unmet₀ L → first₀ ≡ no_rows → unmet₀ ≡ no_rows
-    → t' ≡ with_table t 0
-    (rows_for events (waited events eight (ahead_of wide no_rows L) (missed_of wide events includes excludes no_rows L)))
-nine-by wide L events eight includes excludes t t' first₀ unmet₀ first unmet h hf hu h₀ k₀ = rw (h, hf, hu, h₀, k₀)
-
 -- step 7: what is left of the excludes
 pub seven-by : (L : Traces) (events : Set) (tally t left₀ left t' : List ℕ) → left₀ ≡ with_table no_rows 0 (table_at t 3)
     → Less left₀ (λ s x. some_below width (λ u. mem events u
@@ -189,15 +181,6 @@ module _ (wide : Bool) (L : Traces) (events : Set) (tally : List ℕ) where
         let eight = held-c _ _ _ _ _ t₄ _ seven (length-for events _) h₄ in
         held-is _ _ _ _ (length-for events _) (length-for events _) (length-includes p) (length-rows_of _) t₅
         (held-r _ _ _ _ _ t₅ _ eight (length-for events _) h₅)
-
--- from the tally of the traces
-pub tally-by : (wide : Bool) (L : Traces) (events : Set) (p : Profile) (none tally t t' : List ℕ) → none ≡ no_tables table_count → tally ≡ through (noted_for wide) none L
-    → (length t ≡ relation_count * row_words → t'
-    ≡ four_tables (eight_of wide L events tally p) (answers_of wide L events tally p) (includes_in wide p events tally L) (after_seven wide L events tally p))
-    → length t ≡ relation_count * row_words → t'
-    ≡ four_tables (eight_of wide L events (tallied_for wide L) p) (answers_of wide L events (tallied_for wide L) p) (includes_in wide p events (tallied_for wide L) L)
-    (after_seven wide L events (tallied_for wide L) p)
-tally-by wide L events p none tally t t' h₀ ht h long = rw (h long, ht, h₀)
 
 -- steps 9 and 10, and the head
 module _ (wide : Bool) (A : ℕ) (L : Traces) (p : Profile) (events : Set) (t t₁ t₂ t₃ : List ℕ) (s : State) (opening : Marking) where

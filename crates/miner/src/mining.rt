@@ -61,11 +61,7 @@ fn put_eight<const WIDE: bool>(
 }
 
 // The same of a log's first traces; it gives their events, as far as the form holds them. The tally, the largest of all, is gone when it returns.
-fn tables_eight<const WIDE: bool>(
-    traces: &Traces,
-    profile: Profile,
-    out: &mut Relations,
-) -> Set
+fn tables_eight<const WIDE: bool>(traces: &Traces, profile: Profile, out: &mut Relations) -> Set
     ensures value { result ≡ those (event_in WIDE (traces_of traces.now)) }
     ensures out_after { length out.old ≡ relation_count * row_words
         → out.new ≡ eight_in WIDE profile result (tallied_for WIDE (traces_of traces.now)) (traces_of traces.now) }
@@ -98,12 +94,7 @@ fn graph_in<const WIDE: bool>(
 }
 
 // The same in the form that the activities ask for. Where all are below 64, the passes keep one word of each set.
-fn graph_found(
-    traces: &Traces,
-    activities: u8,
-    profile: Profile,
-    found: &mut Relations,
-) -> Head
+fn graph_found(traces: &Traces, activities: u8, profile: Profile, found: &mut Relations) -> Head
     requires { found.old ≡ no_tables relation_count }
     ensures value { result ≡ (graph_found_in (ltb word activities) activities (traces_of traces.now) profile).head }
     ensures found_after { found.new ≡ (graph_found_in (ltb word activities) activities (traces_of traces.now) profile).relations }
