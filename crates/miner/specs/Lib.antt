@@ -1,3 +1,4 @@
+pub mod Walks
 pub mod Facts
 pub mod Stages
 pub mod Mine

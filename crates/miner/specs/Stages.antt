@@ -118,6 +118,16 @@ abbrev pub waited_in : Bool → Set → List ℕ → List ℕ → List ℕ → T
 waited_in wide events eight includes excludes L =
     rows_for events (reduced_of (rows_for events (waited events eight (ahead_of wide no_rows L) (missed_of wide events includes excludes no_rows L))))
 
+-- the tables after step 8
+abbrev pub eight_in : Bool → Profile → Set → List ℕ → Traces → List ℕ
+eight_in wide p events tally L =
+    four_tables
+    (rows_for events (reduced_of (conditions_of events tally)))
+    (rows_for events (reduced_of (responses_of events tally)))
+    (includes_in wide p events tally L)
+    (seven_from events tally (includes_in wide p events tally L) (excludes_six p events tally) L)
+
+-- the tables after step 10
 abbrev pub tables_in : Bool → Traces → Set → List ℕ → Profile → List ℕ
 tables_in wide L events tally p =
     four_tables
