@@ -8,7 +8,8 @@ ghost use Rattle.marks.specs.Marks.{is_yes, judged_marks, marks_of, judged_guess
 ghost use Rattle.marks.specs.Replays.{part_replay};
 
 use crate::counts::Counts;
-use crate::{counts, labels, replays};
+use crate::replays::Replaying;
+use crate::{labels, replays};
 use calllog::MOST_TRACES;
 use engine::{Head, Relations};
 use sets::Answer;
@@ -24,23 +25,17 @@ pub struct Marked {
 const IN_ORDER: u8 = 1;
 
 // The counts of the traces that have labels, by the graph's verdicts.
-fn count_verdicts<'a>(
-    head: Head,
-    relations: &'a Relations,
-    log: &'a [u8],
-    labels: &'a [u8],
-) -> Counts
+fn count_verdicts(replaying: &Replaying, labels: &[u8]) -> Counts
     requires { length labels.now ≤ most_traces }
-    ensures { result ≡ counts_of (length labels.now) (λ k. is_yes (part_replay head relations.now log.now k)) (says_yes labels.now) }
+    ensures { result ≡ counts_of (length labels.now)
+        (λ k. is_yes (part_replay replaying.now.head replaying.now.relations.now replaying.now.log.now k)) (says_yes labels.now) }
 {
-    let mut c = Counts::NONE;
-    let mut k: usize = 0;
-    while k < labels.len() {
-        let yes = replays::verdict(head, relations, log, k);
-        c = counts::counted(c, yes, labels[k] == IN_ORDER);
-        k += 1;
+    let mut counts = Counts::NONE;
+    for (k, &label) in labels.iter().enumerate() {
+        let yes = replaying.verdict(k);
+        counts = counts.with(yes, label == IN_ORDER);
     }
-    c
+    counts
 }
 
 // The same by guesses.
@@ -49,13 +44,11 @@ fn count_guesses<'a>(guesses: &'a [u8], labels: &'a [u8]) -> Counts
     requires guesses_len { length guesses.now ≡ length labels.now }
     ensures { result ≡ counts_of (length labels.now) (says_yes guesses.now) (says_yes labels.now) }
 {
-    let mut c = Counts::NONE;
-    let mut k: usize = 0;
-    while k < labels.len() {
-        c = counts::counted(c, guesses[k] == IN_ORDER, labels[k] == IN_ORDER);
-        k += 1;
+    let mut counts = Counts::NONE;
+    for (&guess, &label) in guesses.iter().zip(labels) {
+        counts = counts.with(guess == IN_ORDER, label == IN_ORDER);
     }
-    c
+    counts
 }
 
 // The refusals of the log, of the graph, then of the labels.
@@ -82,9 +75,14 @@ pub fn mark<'a>(head: Head, relations: &'a Relations, log: &'a [u8], labels: &'a
             counts: Counts::NONE,
         };
     }
+    let replaying = Replaying {
+        head,
+        relations,
+        log,
+    };
     Marked {
         answer,
-        counts: count_verdicts(head, relations, log, labels),
+        counts: count_verdicts(&replaying, labels),
     }
 }
 

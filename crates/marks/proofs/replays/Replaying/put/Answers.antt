@@ -1,6 +1,6 @@
 use borrow.Author.Rules.{rules}
 use Rattle.marks.proofs.Replaying.{byte-by-byte}
-use Rattle.marks.proofs.replays.put_replays.Goals as goal
+use Rattle.marks.proofs.replays.Replaying.put.Goals as goal
 
 pub loop-k-init : goal.loop-k-init
 loop-k-init c = search (byte-by-byte, rules)
