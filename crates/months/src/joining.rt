@@ -1,16 +1,10 @@
 // Two tallies in one (02, 12/12): into the first, so that a year needs one buffer beside the month at hand.
-ghost use Rattle.std.specs.Prelude.{◌≡◌, ◌++◌, ◌≤◌, max, length, take, drop};
+ghost use Rattle.std.specs.Prelude.{◌≡◌, ◌++◌, ◌≤◌, length, take, drop};
 ghost use Rattle.months.specs.Layout.{tally_length};
 ghost use Rattle.months.specs.Months.{join_answer, bytes_or, joined_of};
 
 use crate::layout;
 use sets::Answer;
-
-fn larger(a: u8, b: u8) -> u8
-    ensures { result ≡ max a b }
-{
-    if a < b { b } else { a }
-}
 
 // Byte by byte the bits of either.
 fn join_bytes(tally: &mut [u8], other: &[u8])
@@ -18,10 +12,8 @@ fn join_bytes(tally: &mut [u8], other: &[u8])
     ensures { tally.new ≡ bytes_or (take tally_length tally.old) (take tally_length other.now)
         ++ drop tally_length tally.old }
 {
-    let mut i: usize = 0;
-    while i < layout::LENGTH {
-        tally[i] = tally[i] | other[i];
-        i += 1;
+    for (i, &byte) in other[..layout::LENGTH].iter().enumerate() {
+        tally[i] |= byte;
     }
 }
 
@@ -36,7 +28,7 @@ pub fn join(tally: &mut [u8], other: &[u8]) -> Answer
     if other.len() < layout::LENGTH {
         return Answer::BufferTooSmall;
     }
-    let activities = larger(tally[0], other[0]);
+    let activities = tally[0].max(other[0]);
     if layout::LIMIT < activities {
         return Answer::AboveLimit;
     }

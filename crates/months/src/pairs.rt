@@ -51,9 +51,7 @@ fn join_back<'a>(tally: &mut [u8], s: Activity, firsts: &'a Firsts, gaps: &'a Ro
         and walk_back (back_to firsts.now count) gaps.now (mem no_set) u v) tally.new }
 {
     let mut since = Set::EMPTY;
-    let mut j = count;
-    while 0 < j {
-        j -= 1;
+    for j in (0..count).rev() {
         since = since.union(gap(gaps, j));
         join_pair(tally, Activity(firsts[j]), s, since);
     }
@@ -140,13 +138,11 @@ fn note_along<'a>(trace: &'a [u8], last: &'a Places, tally: &mut [u8])
         set: Set::EMPTY,
         count: 0,
     };
-    let mut i: usize = 0;
-    while i < trace.len() {
-        let e = Activity(trace[i]);
+    for (i, &activity) in trace.iter().enumerate() {
+        let e = Activity(activity);
         join_last(tally, last, Place(i), e, &firsts, &gaps, seen.count);
         widen(&mut gaps, seen.count, e);
         seen = and_now(&mut firsts, seen, e);
-        i += 1;
     }
 }
 
@@ -163,10 +159,8 @@ fn note_trace(trace: &[u8], tally: &mut [u8])
 pub fn note_log(log: &[u8], traces: usize, tally: &mut [u8])
     ensures { Gained tally.old (λ u s v. between (walked log.now traces 0) u v s) tally.new }
 {
-    let mut k: usize = 0;
-    while k < traces {
+    for k in 0..traces {
         let trace = calllog::trace::trace_at(log, k);
         note_trace(trace, tally);
-        k += 1;
     }
 }

@@ -37,10 +37,8 @@ fn rows_in(tally: &[u8], k: u8) -> Rows
     ensures { result ≡ rows_of (λ a x. ltb a tally_width and mem (set_in tally.now (row_set k a)) x) }
 {
     let mut out = rows::empty();
-    let mut i: u8 = 0;
-    while i < layout::LIMIT {
+    for i in 0..layout::LIMIT {
         rows::put(&mut out, Activity(i), layout::row(tally, k, Activity(i)));
-        i += 1;
     }
     out
 }
@@ -50,11 +48,9 @@ fn tables_in(tally: &[u8]) -> Tally
     ensures { result ≡ tables_in tally.now }
 {
     let mut out = log::empty();
-    let mut k: u8 = 0;
-    while k < layout::TABLES {
+    for k in 0..layout::TABLES {
         let rows = rows_in(tally, k);
         tables::put_rows(&mut out, k, &rows);
-        k += 1;
     }
     out
 }
@@ -66,10 +62,8 @@ fn let_in(tally: &[u8], members: Set, t: Activity) -> Set
     ensures { result ≡ those (λ x. some_below width (λ s. mem members s and mem (set_in tally.now (pair_set s t.0)) x)) }
 {
     let mut out = Set::EMPTY;
-    let mut rest = members;
-    while !rest.is_empty() {
-        out = out.union(layout::between(tally, rest.least(), t));
-        rest = rest.without_least();
+    for s in members.members() {
+        out = out.union(layout::between(tally, s, t));
     }
     out
 }
@@ -92,11 +86,9 @@ fn includers<'a>(events: Set, tally: &'a [u8], chains: &'a Rows, never: &'a Rows
     ensures { result ≡ rows_for events (includers events chains.now never.now (between_in tally.now)) }
 {
     let mut out = rows::empty();
-    let mut a = events.least();
-    while a.0 < Activity::LIMIT {
+    for a in events.members() {
         let row = includers_row(events, tally, chains, never, a);
         rows::put(&mut out, a, row);
-        a = events.next(a);
     }
     out
 }
@@ -167,10 +159,8 @@ fn redundant_row<'a>(
         (between_in tally.now) u s.0 x)) }
 {
     let mut out = Set::EMPTY;
-    let mut rest = members;
-    while !rest.is_empty() {
-        out = out.union(redundant_by(tally, includes, excludes, rest.least(), s));
-        rest = rest.without_least();
+    for u in members.members() {
+        out = out.union(redundant_by(tally, includes, excludes, u, s));
     }
     out
 }
@@ -201,11 +191,9 @@ fn excluded<'a>(
         (between_in tally.now)) }
 {
     let mut out = rows::empty();
-    let mut a = events.least();
-    while a.0 < Activity::LIMIT {
+    for a in events.members() {
         let row = excluded_row(tally, alternating, includes, excludes, a);
         rows::put(&mut out, a, row);
-        a = events.next(a);
     }
     out
 }

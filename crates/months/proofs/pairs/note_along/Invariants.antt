@@ -5,6 +5,3 @@ use Rattle.months.proofs.pairs.note_along.Given as goal
 
 abbrev pub invariant-loop-i : goal.invariant-loop-i
 invariant-loop-i l = Along l.trace l.initial.tally l.tally l.firsts l.gaps l.seen l.i
-
-abbrev pub decreases-loop-i : goal.decreases-loop-i
-decreases-loop-i l = length l.trace - l.i
