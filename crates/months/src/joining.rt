@@ -1,19 +1,18 @@
 // Two tallies in one (02, 12/12): into the first, so that a year needs one buffer beside the month at hand.
-ghost use Rattle.std.specs.Prelude.{◌≡◌, ◌++◌, ◌≤◌, length, take, drop};
-ghost use Rattle.months.specs.Layout.{tally_length};
+ghost use Rattle.std.specs.Prelude.{◌≡◌, length};
 ghost use Rattle.months.specs.Months.{join_answer, bytes_or, joined_of};
 
 use crate::layout;
 use sets::Answer;
 
 // Byte by byte the bits of either.
-fn join_bytes(tally: &mut [u8], other: &[u8])
-    requires { (tally_length ≤ length tally.old) × (tally_length ≤ length other.now) }
-    ensures { tally.new ≡ bytes_or (take tally_length tally.old) (take tally_length other.now)
-        ++ drop tally_length tally.old }
+fn join_bytes(bytes: &mut [u8], other: &[u8])
+    requires { length bytes.old ≡ length other.now }
+    ensures { bytes.new ≡ bytes_or bytes.old other.now }
 {
-    for (i, &byte) in other[..layout::LENGTH].iter().enumerate() {
-        tally[i] |= byte;
+    // Not over both at once: a proof knows nothing of what is written through a `zip` of `iter_mut`.
+    for (i, &byte) in other.iter().enumerate() {
+        bytes[i] |= byte;
     }
 }
 
@@ -32,7 +31,7 @@ pub fn join(tally: &mut [u8], other: &[u8]) -> Answer
     if layout::LIMIT < activities {
         return Answer::AboveLimit;
     }
-    join_bytes(tally, other);
+    join_bytes(&mut tally[..layout::LENGTH], &other[..layout::LENGTH]);
     tally[0] = activities;
     Answer::Done
 }

@@ -1,6 +1,6 @@
 use borrow.Author.Rules.{rules}
 use Rattle.months.proofs.FromTally.{fill-start, fill-turn, fill-end}
-use Rattle.months.proofs.reading.excluded.Goals as goal
+use Rattle.months.proofs.reading.Exclusions.excluded.Goals as goal
 
 pub loop-a-init : goal.loop-a-init
 loop-a-init c = fill-start _ _ _ c.empty-out.ensures

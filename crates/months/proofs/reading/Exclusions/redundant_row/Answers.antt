@@ -1,6 +1,6 @@
 use borrow.Author.Rules.{rules}
 use Rattle.months.proofs.FromTally.{gather-start, gather-turn, gather-end}
-use Rattle.months.proofs.reading.redundant_row.Goals as goal
+use Rattle.months.proofs.reading.Exclusions.redundant_row.Goals as goal
 
 pub loop-u-init : goal.loop-u-init
 loop-u-init c = gather-start _ _

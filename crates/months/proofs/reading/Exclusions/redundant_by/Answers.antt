@@ -1,5 +1,5 @@
 use Rattle.months.proofs.FromTally.{redundant-is}
-use Rattle.months.proofs.reading.redundant_by.Goals as goal
+use Rattle.months.proofs.reading.Exclusions.redundant_by.Goals as goal
 
 pub returns : goal.returns
 returns c = redundant-is _ _ _ _ _ _ _ _ _ _ _ c.row.ensures c.row-2.ensures c.difference-shut.ensures

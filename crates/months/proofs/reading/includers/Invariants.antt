@@ -1,6 +1,0 @@
-use Rattle.months.specs.Readings.{between_in, includers}
-use Rattle.months.proofs.FromTally.{FilledFrom}
-use Rattle.months.proofs.reading.includers.Given as goal
-
-abbrev pub invariant-loop-a : goal.invariant-loop-a
-invariant-loop-a l = FilledFrom (includers l.fn.events l.chains l.never (between_in l.tally)) l.initial.a-iterator.rest l.out l.a-iterator.rest

@@ -1,6 +1,0 @@
-use Rattle.months.specs.Readings.{between_in, redundant_by}
-use Rattle.months.proofs.FromTally.{GatheredFrom}
-use Rattle.months.proofs.reading.redundant_row.Given as goal
-
-abbrev pub invariant-loop-u : goal.invariant-loop-u
-invariant-loop-u l = GatheredFrom (λ u x. redundant_by l.includes l.excludes (between_in l.tally) u l.s.0 x) l.initial.u-iterator.rest l.out l.u-iterator.rest
