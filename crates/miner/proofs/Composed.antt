@@ -124,12 +124,6 @@ module _ (c r i x : List ℕ) (lc : length c ≡ row_words) (lr : length r ≡ r
       same (suc (suc (suc zero))) l = h.excludes ∙ sym held-four.excludes
       same (suc (suc (suc (suc k)))) l = absurd (omega arith)
 
--- step 6, of the includes
-pub let-in-by : (wide : Bool) (L : Traces) (t t' never never' held held' includes : List ℕ) → t' ≡ with_table t 2 includes
-    → includes ≡ let_in_of wide never held L → never ≡ never' → held ≡ held'
-    → t' ≡ with_table t 2 (let_in_of wide never' held' L)
-let-in-by wide L t t' never never' held held' includes h hi hn hh = rw (h, hi, hn, hh)
-
 -- step 9: what is waited for
 pub nine-by : (wide : Bool) (L : Traces) (events : Set) (eight includes excludes t t' first₀ unmet₀ first unmet : List ℕ)
     → t' ≡ with_table t 0 (rows_for events (waited events eight first unmet))
@@ -171,51 +165,6 @@ module _ (wide : Bool) (L : Traces) (events : Set) (tally : List ℕ) where
   excludes-some Full = ((λ a x. mem events a and in_either (five_of events tally) (never_of events tally) a x), refl)
   excludes-some Light = (_, refl)
 
-  -- ---- step 6
-  module _ (t t₁ t₂ t₃ : List ℕ) (h₁ : t₁ ≡ with_table t 1 (never_of events tally))
-      (h₂ : t₂ ≡ with_table t₁ 2 (let_in_of wide (with_table no_rows 0 (table_at t₁ 1)) (with_table no_rows 0 (table_at t₁ 2)) L))
-      (h₃ : t₃ ≡ with_table t₂ 3 (rows_for events (in_either (with_table no_rows 0 (table_at t₂ 3)) (with_table no_rows 0 (table_at t₂ 1))))) where
-    abbrev never : List ℕ
-    never = never_of events tally
-
-    abbrev let-in_lem : List ℕ → List ℕ
-    let-in_lem rows = let_in_of wide never rows L
-
-    pub six-length : length t₃ ≡ length t
-    six-length = put-long t₂ t₃ 3 _ h₃ ∙ put-long t₁ t₂ 2 _ h₂ ∙ put-long t t₁ 1 _ h₁
-
-    module _ (p : Profile) (e : p ≡ Full) (long : length t ≡ relation_count * row_words) (hi : table_at t 2 ≡ includes_in wide Light events tally L) where
-      six-held : Held t₃ (table_at t 0) never (let-in_lem (table_at t 2)) (rows_for events (in_either (table_at t 3) never))
-      six-held =
-          let li = ap (λ (x : List ℕ). length (let-in_lem x)) hi ∙ length-includes Full in
-          let one = held-r _ _ _ _ _ t₁ never (held_any t long) (length-for events _) h₁ in
-          let two = held-i _ _ _ _ _ t₂ (let-in_lem (table_at t 2)) one li
-          (h₂
-          ∙ (λ i. with_table t₁ 2 (let_in_of wide (taken-from t₁ 1 never one.responses (length-for events _) i)
-          (taken-from t₁ 2 (table_at t 2) one.includes (length-table relation_count t 2 long (omega arith)) i) L))) in
-          held_x _ _ _ _ _ t₃ _ two (length-for events _)
-          (h₃
-          ∙ (λ i. with_table t₂ 3 (rows_for events (in_either
-          (taken-from t₂ 3 (table_at t 3) two.excludes (length-table relation_count t 3 long (omega arith)) i)
-          (taken-from t₂ 1 never two.responses (length-for events _) i)))))
-
-      pub six-includes : table_at t₃ 2 ≡ includes_in wide p events tally L
-      six-includes = six-held.includes ∙ ap let-in_lem hi ∙ ap (λ (q : Profile). includes_in wide q events tally L) (sym e)
-
-      pub six-excludes : table_at t 3 ≡ excludes_six Light events tally → table_at t₃ 3 ≡ excludes_six p events tally
-      six-excludes hx =
-          six-held.excludes
-          ∙ ap (λ (x : List ℕ). rows_for events (in_either x never)) hx
-          ∙ ap (λ (q : Profile). excludes_six q events tally) (sym e)
-
-  module _ (t : List ℕ) (p : Profile) (e : p ≡ Light) (long : length t ≡ relation_count * row_words)
-      (hi : table_at t 2 ≡ includes_in wide Light events tally L) where
-    pub light-includes : table_at t 2 ≡ includes_in wide p events tally L
-    light-includes = hi ∙ ap (λ (q : Profile). includes_in wide q events tally L) (sym e)
-
-    pub light-excludes_lem : table_at t 3 ≡ excludes_six Light events tally → table_at t 3 ≡ excludes_six p events tally
-    light-excludes_lem hx = hx ∙ ap (λ (q : Profile). excludes_six q events tally) (sym e)
-
   -- ---- the tables after step 8
   module _ (p : Profile) where
     abbrev eight_of : List ℕ
@@ -227,36 +176,19 @@ module _ (wide : Bool) (L : Traces) (events : Set) (tally : List ℕ) where
     abbrev after_seven : List ℕ
     after_seven = seven_from events tally (includes_in wide p events tally L) (excludes_six p events tally) L
 
-    abbrev excluded_of : List ℕ
-    excluded_of = rows_for events (excluders events (table_at tally before_table) (table_at tally later_table) (chains_of events tally))
-
-    pub eight-by : (t t₁ t₂ t₃ t₄ t₅ t₆ t₇ : List ℕ) → t₁ ≡ with_table t 2 (rows_of (turned (chains_of events tally)))
-        → t₂ ≡ with_table t₁ 3 excluded_of → t₃ ≡ with_table t₂ 3 (rows_of (turned (with_table no_rows 0 (table_at t₂ 3))))
-        → length t₄ ≡ length t₃
-        → (length t₃ ≡ relation_count * row_words → table_at t₃ 2 ≡ includes_in wide Light events tally L → table_at t₄ 2 ≡ includes_in wide p events tally L)
-        → (length t₃ ≡ relation_count * row_words → table_at t₃ 2 ≡ includes_in wide Light events tally L
-        → table_at t₃ 3 ≡ excludes_six Light events tally → table_at t₄ 3 ≡ excludes_six p events tally)
-        → ((r : Relation) → table_at t₄ 3 ≡ rows_of r → t₅ ≡ with_table t₄ 3 (seven_from events tally (table_at t₄ 2) (table_at t₄ 3) L))
-        → t₆ ≡ with_table t₅ 0 eight_of → t₇ ≡ with_table t₆ 1 answers_of
-        → length t ≡ relation_count * row_words → t₇ ≡ four_tables eight_of answers_of (includes_in wide p events tally L) after_seven
-    eight-by t t₁ t₂ t₃ t₄ t₅ t₆ t₇ h₁ h₂ h₃ l₄ i₄ x₄ h₅ h₆ h₇ long =
-        let three = held-i _ _ _ _ _ t₁ _ (held_any t long) (length-rows_of _) h₁ in
-        let excluded = held_x _ _ _ _ _ t₂ _ three (length-for events _) h₂ in
-        let five = held_x _ _ _ _ _ t₃ (five_of events tally) excluded (length-rows_of _)
-        (h₃ ∙ ap (λ (x : List ℕ). with_table t₂ 3 (rows_of (turned x))) (taken-from t₂ 3 excluded_of excluded.excludes (length-for events _))) in
-        let six : Held t₄ (table_at t₄ 0) (table_at t₄ 1) (includes_in wide p events tally L) (excludes_six p events tally) = record {
-          long = l₄ ∙ five.long;
-          conditions = refl;
-          responses = refl;
-          includes = i₄ five.long five.includes;
-          excludes = x₄ five.long five.includes five.excludes;
-        } in
-        let seven = held_x _ _ _ _ _ t₅ after_seven six (length-rows_of _)
-        (h₅ (excludes-some p).0 (six.excludes ∙ (excludes-some p).1)
-        ∙ ap₂ (λ (i x : List ℕ). with_table t₄ 3 (seven_from events tally i x L)) six.includes six.excludes) in
-        let eight = held-c _ _ _ _ _ t₆ _ seven (length-for events _) h₆ in
-        held-is _ _ _ _ (length-for events _) (length-for events _) (length-includes p) (length-rows_of _) t₇
-        (held-r _ _ _ _ _ t₇ _ eight (length-for events _) h₇)
+    pub eight-by : (t t₁ t₂ t₃ t₄ t₅ : List ℕ) → t₁ ≡ with_table t 2 (includes_in wide p events tally L) → t₂ ≡ with_table t₁ 3 (excludes_six p events tally)
+        → ((r : Relation) → table_at t₂ 3 ≡ rows_of r → t₃ ≡ with_table t₂ 3 (seven_from events tally (table_at t₂ 2) (table_at t₂ 3) L))
+        → t₄ ≡ with_table t₃ 0 eight_of → t₅ ≡ with_table t₄ 1 answers_of
+        → length t ≡ relation_count * row_words → t₅ ≡ four_tables eight_of answers_of (includes_in wide p events tally L) after_seven
+    eight-by t t₁ t₂ t₃ t₄ t₅ h₁ h₂ h₃ h₄ h₅ long =
+        let rows = excludes-some p in
+        let included = held-i _ _ _ _ _ t₁ _ (held_any t long) (length-includes p) h₁ in
+        let six = held_x _ _ _ _ _ t₂ _ included (ap length rows.1 ∙ length-rows_of _) h₂ in
+        let seven = held_x _ _ _ _ _ t₃ after_seven six (length-rows_of _)
+        (h₃ rows.0 (six.excludes ∙ rows.1) ∙ ap₂ (λ (i x : List ℕ). with_table t₂ 3 (seven_from events tally i x L)) six.includes six.excludes) in
+        let eight = held-c _ _ _ _ _ t₄ _ seven (length-for events _) h₄ in
+        held-is _ _ _ _ (length-for events _) (length-for events _) (length-includes p) (length-rows_of _) t₅
+        (held-r _ _ _ _ _ t₅ _ eight (length-for events _) h₅)
 
 -- from the tally of the traces
 pub tally-by : (wide : Bool) (L : Traces) (events : Set) (p : Profile) (none tally t t' : List ℕ) → none ≡ no_tables table_count → tally ≡ through (noted_for wide) none L

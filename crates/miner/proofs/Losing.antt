@@ -7,7 +7,7 @@ use Prim.Native.Nat.{ℕ, ◌<◌}
 use borrow.Author.Tests.{eqb-true}
 use lib.Dec.{T, eqb, eqb→eq, eqb_refl}
 use Rattle.sets.specs.Tests.{◌and◌, ◌or◌, non, when◌then◌else◌}
-use Rattle.sets.specs.Members.{width, mem, those, some_below, least_below, is_empty}
+use Rattle.sets.specs.Members.{width, mem, those, some_below, least_below, is_empty, Takes}
 use Rattle.sets.specs.Rows.{Relation, row_at, with_row, in_row, rows_of}
 use Rattle.sets.specs.Tables.{table_at}
 use Rattle.sets.specs.declared.set.Set.{Set}
@@ -90,24 +90,23 @@ module _ (P : ℕ → Relation) where
             (λ a x la lx. F→false _ (λ t. let u = some-e width _ t in false→F (passed_none all u.0) (and_l _ _ u.2)));
       }
 
-  pub lost-turn : (rows left left' : List ℕ) (all rest rest' : Set) (k : ℕ) (r : Bool) → Lost rows all rest left → r ≡ is_empty rest → r ≡ false
-      → k ≡ least_below width (mem rest) → Less left (P k) left' → rest' ≡ those (λ b. mem rest b and non (eqb b (least_below width (mem rest))))
+  pub lost-turn : (rows left left' : List ℕ) (all rest rest' : Set) (k : ℕ) → Lost rows all rest left → Takes rest k rest' → Less left (P k) left'
       → Lost rows all rest' left'
-  lost-turn rows left left' all rest rest' k r inv hr hn hk hs hm =
+  lost-turn rows left left' all rest rest' k inv t hs =
       record {
-        part = part-turn rest rest' r hr hn hm all inv.part;
+        part = part-turn rest rest' _ refl t.0 t.2 all inv.part;
         less =
             less_as rows left' _ _
             (λ a x la lx.
-            sym (some-passed rest rest' r hr hn hm all inv.part (λ u. P u a x) ∙ ap (λ (n : ℕ). by_passed all rest a x or P n a x) (sym hk)))
+            sym (some-passed rest rest' _ refl t.0 t.2 all inv.part (λ u. P u a x) ∙ ap (λ (n : ℕ). by_passed all rest a x or P n a x) (sym t.1)))
             (less-more rows left left' _ _ inv.less hs);
       }
 
-  pub lost-end : (rows left : List ℕ) (all rest : Set) (r : Bool) → Lost rows all rest left → r ≡ is_empty rest → r ≡ true
-      → Less rows (λ a x. some_below width (λ u. mem all u and P u a x)) left
-  lost-end rows left all rest r inv hr hn =
+  pub lost-end : (rows left : List ℕ) (all rest whole : Set) → Lost rows all rest left → is_empty rest ≡ true → all ≡ whole
+      → Less rows (λ a x. some_below width (λ u. mem whole u and P u a x)) left
+  lost-end rows left all rest whole inv n same =
       less_as rows left _ _
-      (λ a x la lx. some-ext width _ _ (λ u l. ap (λ (b : Bool). b and P u a x) (passed-all all rest r hr hn u l))) inv.less
+      (λ a x la lx. some-ext width _ _ (λ u l. ap (λ (b : Bool). b and P u a x) (passed-all all rest _ refl n u l ∙ ap (λ (s : Set). mem s u) same))) inv.less
 
 -- where the row of each member loses what a relation says of it
 abbrev pub own : Relation → ℕ → Relation
@@ -119,18 +118,18 @@ module _ (p : Relation) (rows left : List ℕ) where
   own_row k row hr hl =
       less_as rows left _ _ (λ a x la lx. ap (λ (b : Bool). eqb a k and b) (is-those row _ hr x lx) ∙ at_same a k (λ n. p n x)) (less-row rows left k row hl)
 
-  pub own-end : (all rest : Set) (r : Bool) → Lost (own p) rows all rest left → r ≡ is_empty rest → r ≡ true
-      → Less rows (λ a x. mem all a and p a x) left
-  own-end all rest r inv hr hn =
+  pub own-end : (all rest whole : Set) → Lost (own p) rows all rest left → is_empty rest ≡ true → all ≡ whole
+      → Less rows (λ a x. mem whole a and p a x) left
+  own-end all rest whole inv n same =
       less_as rows left _ _
       (λ a x la lx.
-      T-ext _ (mem all a and p a x)
+      T-ext _ (mem whole a and p a x)
       (λ t.
-      let u = some-e width (λ v. mem all v and (eqb a v and p a x)) t in
+      let u = some-e width (λ v. mem whole v and (eqb a v and p a x)) t in
       let same = eqb→eq a u.0 (and_l _ _ (and_r _ _ u.2)) in
-      and_i _ _ (subst (λ (n : ℕ). T (mem all n)) (sym same) (and_l _ _ u.2)) (and_r _ _ (and_r _ _ u.2)))
-      (λ t. some-i width (λ v. mem all v and (eqb a v and p a x)) a la (and_i _ _ (and_l _ _ t) (and_i _ _ (eqb_refl a) (and_r _ _ t)))))
-      (lost-end (own p) rows left all rest r inv hr hn)
+      and_i _ _ (subst (λ (n : ℕ). T (mem whole n)) (sym same) (and_l _ _ u.2)) (and_r _ _ (and_r _ _ u.2)))
+      (λ t. some-i width (λ v. mem whole v and (eqb a v and p a x)) a la (and_i _ _ (and_l _ _ t) (and_i _ _ (eqb_refl a) (and_r _ _ t)))))
+      (lost-end (own p) rows left all rest whole inv n same)
 
 -- what a row of a member has, the union of their rows has
 pub in-union : (F : Set) (rows : List ℕ) (r : Relation) → rows ≡ rows_of r → (a x : ℕ) → a < width → x < width → T (mem F a) → T (r a x)

@@ -103,10 +103,10 @@ module _ (tally followers includes excludes : List ℕ) (L : Traces) (u : ℕ) (
       (less_none rows rows _ refl
       (λ a x la lx. F→false _ (λ t. empty-e asked (true→T (sym hb ∙ n)) x lx (and_r _ _ (and_l _ _ t)))))
 
-pub redundant-end : (tally followers includes excludes : List ℕ) (L : Traces) (rows left : List ℕ) (all rest : Set) (b : Bool)
-    → followers ≡ followers_of all tally
-    → Lost (redundant_by tally followers includes excludes L) rows all rest left → b ≡ is_empty rest → b ≡ true
-    → Less rows (λ a x. some_below width (λ u. mem all u and redundant_by tally (followers_of all tally) includes excludes L u a x)) left
-redundant-end tally followers includes excludes L rows left all rest b hf l hb n =
-    subst (λ (f : List ℕ). Less rows (λ a x. some_below width (λ u. mem all u and redundant_by tally f includes excludes L u a x)) left) hf
-    (lost-end (redundant_by tally followers includes excludes L) rows left all rest b l hb n)
+pub redundant-end : (tally followers includes excludes : List ℕ) (L : Traces) (rows left : List ℕ) (all rest whole : Set)
+    → followers ≡ followers_of whole tally
+    → Lost (redundant_by tally followers includes excludes L) rows all rest left → is_empty rest ≡ true → all ≡ whole
+    → Less rows (λ a x. some_below width (λ u. mem whole u and redundant_by tally (followers_of whole tally) includes excludes L u a x)) left
+redundant-end tally followers includes excludes L rows left all rest whole hf l n same =
+    subst (λ (f : List ℕ). Less rows (λ a x. some_below width (λ u. mem whole u and redundant_by tally f includes excludes L u a x)) left) hf
+    (lost-end (redundant_by tally followers includes excludes L) rows left all rest whole l n same)

@@ -43,134 +43,115 @@ fn at_first(seen: Set, e: Activity) -> Set
 }
 
 // The row of e gains a set, where the form can hold e.
-fn gain(rows: &mut Rows, e: Activity, s: Set, wide: bool)
-    ensures { rows.new ≡ gained_for wide rows.old e.0 (mem s) }
+fn gain<const WIDE: bool>(rows: &mut Rows, e: Activity, s: Set)
+    ensures { rows.new ≡ gained_for WIDE rows.old e.0 (mem s) }
 {
-    if holds(e, wide) {
+    if holds(e, WIDE) {
         rows::join(rows, e, s);
     }
 }
 
-// One place of e: its row of `first` gains what stands before its first place, its row of `unmet` what is included and not executed.
-fn note_waiting(
-    e: Activity,
-    seen: Set,
-    included: Set,
-    wide: bool,
-    first: &mut Rows,
-    unmet: &mut Rows,
-)
-    ensures before { first.new ≡ gained_for wide first.old e.0 (λ x. reaches wide x and (mem seen x and non (mem seen e.0))) }
-    ensures left { unmet.new ≡ gained_for wide unmet.old e.0 (λ x. mem included x and non (mem seen x)) }
-{
-    let early = in_form(at_first(seen, e), wide);
-    gain(first, e, early, wide);
-    let waiting = included.difference(seen);
-    gain(unmet, e, waiting, wide);
+// What the replay waits for. Row e of `first`: what stands before the first e of some trace. Row e of `unmet`: what is included and not
+// executed at some e.
+#[derive(Drop)]
+struct Waiting {
+    first: Rows,
+    unmet: Rows,
+}
+
+impl Waiting {
+    fn none() -> Waiting
+        ensures { result ≡ record { first = no_rows; unmet = no_rows } }
+    {
+        Waiting {
+            first: rows::empty(),
+            unmet: rows::empty(),
+        }
+    }
+
+    // One place of e: what was seen before it, and what is included.
+    fn note<const WIDE: bool>(&mut self, e: Activity, seen: Set, included: Set)
+        ensures before { self.new.first ≡ gained_for WIDE self.old.first e.0 (λ x. reaches WIDE x and (mem seen x and non (mem seen e.0))) }
+        ensures left { self.new.unmet ≡ gained_for WIDE self.old.unmet e.0 (λ x. mem included x and non (mem seen x)) }
+    {
+        let early = in_form(at_first(seen, e), WIDE);
+        gain::<WIDE>(&mut self.first, e, early);
+        let waiting = included.difference(seen);
+        gain::<WIDE>(&mut self.unmet, e, waiting);
+    }
 }
 
 // What is included after e, by the includes and excludes of the tables alone: e's excludes go, then its includes come, as far as the form
 // holds them.
-fn included_after(included: Set, held: &Relations, e: Activity, wide: bool) -> Set
+fn included_after<const WIDE: bool>(included: Set, held: &Relations, e: Activity) -> Set
     ensures { result ≡ those (λ x. mem included x and non (in_row (table_at held.now 3) e.0 x)
-        or reaches wide x and in_row (table_at held.now 2) e.0 x) }
+        or reaches WIDE x and in_row (table_at held.now 2) e.0 x) }
 {
     let kept = included.difference(tables::row(held, EXCLUDES, e));
-    kept.union(in_form(tables::row(held, INCLUDES, e), wide))
+    kept.union(in_form(tables::row(held, INCLUDES, e), WIDE))
 }
 
-// Replays the trace by includes and excludes alone, with all events included at first. The row of each event gains, in `first`, what
-// stands before its first place, and in `unmet` what is included and not executed at one of its places.
-fn replay_trace<'a>(
+// Replays the trace by includes and excludes alone, with all events included at first.
+fn replay_trace<'a, const WIDE: bool>(
     trace: &'a [u8],
     events: Set,
     held: &'a Relations,
-    wide: bool,
-    first: &mut Rows,
-    unmet: &mut Rows,
+    waiting: &mut Waiting,
 )
-    ensures before { first.new ≡ forward (gains_in wide before_first) first.old [] trace.now }
-    ensures left { unmet.new ≡ forward
-        (gains_in wide (missed events (table_at held.now 2) (table_at held.now 3)))
-        unmet.old [] trace.now }
+    ensures before { waiting.new.first ≡ forward (gains_in WIDE before_first) waiting.old.first [] trace.now }
+    ensures left { waiting.new.unmet ≡ forward
+        (gains_in WIDE (missed events (table_at held.now 2) (table_at held.now 3)))
+        waiting.old.unmet [] trace.now }
 {
     let mut seen = Set::EMPTY;
-    let mut included = in_form(events, wide);
-    let mut i: usize = 0;
-    while i < trace.len() {
-        let e = Activity(trace[i]);
-        let then = included_after(included, held, e, wide);
-        note_waiting(e, seen, included, wide, first, unmet);
+    let mut included = in_form(events, WIDE);
+    for &n in trace {
+        let e = Activity(n);
+        let then = included_after::<WIDE>(included, held, e);
+        waiting.note::<WIDE>(e, seen, included);
         included = then;
         seen = and_then(seen, e);
-        i += 1;
-    }
-}
-
-// The same, the form written out in either call: the compiler then makes a loop for each.
-fn replay_in<'a>(
-    trace: &'a [u8],
-    events: Set,
-    held: &'a Relations,
-    wide: bool,
-    first: &mut Rows,
-    unmet: &mut Rows,
-)
-    ensures before { first.new ≡ forward (gains_in wide before_first) first.old [] trace.now }
-    ensures left { unmet.new ≡ forward
-        (gains_in wide (missed events (table_at held.now 2) (table_at held.now 3)))
-        unmet.old [] trace.now }
-{
-    if wide {
-        replay_trace(trace, events, held, true, first, unmet);
-    } else {
-        replay_trace(trace, events, held, false, first, unmet);
     }
 }
 
 // What step 9 asks of all traces.
-fn replay_log<'a>(
+fn replay_log<'a, const WIDE: bool>(
     log: &'a [u8],
     traces: usize,
     events: Set,
     held: &'a Relations,
-    wide: bool,
-    first: &mut Rows,
-    unmet: &mut Rows,
+    waiting: &mut Waiting,
 )
-    ensures first_after { first.new ≡ ahead_of wide first.old (walked log.now traces 0) }
-    ensures unmet_after { unmet.new ≡ missed_of wide events (table_at held.now 2) (table_at held.now 3) unmet.old
+    ensures first_after { waiting.new.first ≡ ahead_of WIDE waiting.old.first (walked log.now traces 0) }
+    ensures unmet_after { waiting.new.unmet ≡ missed_of WIDE events (table_at held.now 2) (table_at held.now 3) waiting.old.unmet
         (walked log.now traces 0) }
 {
-    let mut k: usize = 0;
-    while k < traces {
+    for k in 0..traces {
         let trace = calllog::trace::trace_at(log, k);
-        replay_in(trace, events, held, wide, first, unmet);
-        k += 1;
+        replay_trace::<WIDE>(trace, events, held, waiting);
     }
 }
 
 // The conditions, and those that are waited for.
-fn put_waited<'a>(events: Set, first: &'a Rows, unmet: &'a Rows, out: &mut Relations)
+fn put_waited<'a>(events: Set, waiting: &'a Waiting, out: &mut Relations)
     ensures { out.new ≡ with_table out.old 0
-        (rows_for events (waited events (with_table no_rows 0 (table_at out.old 0)) first.now unmet.now)) }
+        (rows_for events (waited events (with_table no_rows 0 (table_at out.old 0)) waiting.now.first waiting.now.unmet)) }
 {
     let eight = tables::taken(out, CONDITIONS);
-    let nine = relations::waited(events, &eight, first, unmet);
+    let nine = relations::waited(events, &eight, &waiting.first, &waiting.unmet);
     tables::put_rows(out, CONDITIONS, &nine);
 }
 
 // Step 9, on the tables after step 8, its replay in a form.
-pub fn put_nine(log: &[u8], traces: usize, events: Set, wide: bool, out: &mut Relations)
+pub(crate) fn put_nine<const WIDE: bool>(log: &[u8], traces: usize, events: Set, out: &mut Relations)
     ensures { out.new ≡ with_table out.old 0
         (rows_for events (waited events (with_table no_rows 0 (table_at out.old 0))
-        (ahead_of wide no_rows (walked log.now traces 0))
-        (missed_of wide events (table_at out.old 2) (table_at out.old 3) no_rows (walked log.now traces 0)))) }
+        (ahead_of WIDE no_rows (walked log.now traces 0))
+        (missed_of WIDE events (table_at out.old 2) (table_at out.old 3) no_rows (walked log.now traces 0)))) }
 {
-    let mut first = rows::empty();
-    let mut unmet = rows::empty();
-    replay_log(log, traces, events, out, wide, &mut first, &mut unmet);
-    put_waited(events, &first, &unmet, out);
+    let mut waiting = Waiting::none();
+    replay_log::<WIDE>(log, traces, events, out, &mut waiting);
+    put_waited(events, &waiting, out);
 }
 
 fn reduced_nine(events: Set, held: &Relations) -> Rows

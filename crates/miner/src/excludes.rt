@@ -1,14 +1,14 @@
-// The excludes of steps 1 to 6, put into the tables that are lent: a stage takes its rows from there and leaves its own, so no stage holds
-// another's.
+// The excludes of steps 1 to 6.
 ghost use Rattle.std.specs.Prelude.{◌≡◌};
-ghost use Rattle.sets.specs.Rows.{no_rows, rows_of, rows_for, turned};
+ghost use Rattle.sets.specs.Rows.{rows_for};
 ghost use Rattle.sets.specs.Tables.{table_at, with_table};
-ghost use Rattle.steps.specs.Rowwise.{excluders, in_either};
+ghost use Rattle.steps.specs.Rowwise.{excluders};
 ghost use Rattle.tally.specs.Tallies.{before_table, later_table};
-ghost use Rattle.miner.specs.Stages.{chains_of};
+ghost use Rattle.miner.specs.Stages.{chains_of, five_of, excludes_six};
 
 use engine::Relations;
-use engine::graph::{EXCLUDES, RESPONSES};
+use engine::graph::EXCLUDES;
+use rules::Profile;
 use sets::{Rows, Set, rows, tables};
 use steps::relations;
 use tally::{Tally, log};
@@ -22,30 +22,31 @@ pub fn excluded_five(events: Set, tally: &Tally) -> Rows
     relations::excluded_by(events, tally, log::BEFORE, log::LATER, &chains)
 }
 
-pub fn put_excluded(events: Set, tally: &Tally, out: &mut Relations)
-    ensures { out.new ≡ with_table out.old 3 (rows_for events (excluders events
-        (table_at tally.now before_table) (table_at tally.now later_table) (chains_of events tally.now))) }
+// The same by source.
+fn excludes_five(events: Set, tally: &Tally) -> Rows
+    ensures { result ≡ five_of events tally.now }
 {
     let excluded = excluded_five(events, tally);
-    tables::put_rows(out, EXCLUDES, &excluded);
+    rows::turned(&excluded)
 }
 
-// The excludes, turned round where they stand.
-pub fn turn(out: &mut Relations)
-    ensures { out.new ≡ with_table out.old 3 (rows_of (turned (with_table no_rows 0 (table_at out.old 3)))) }
+// The excludes after step 6, which adds what never directly follows; the light profile leaves it out (02, 3/12).
+pub fn excludes_six(events: Set, tally: &Tally, profile: Profile) -> Rows
+    ensures { result ≡ excludes_six profile events tally.now }
 {
-    let excluded = tables::taken(out, EXCLUDES);
-    let excludes = rows::turned(&excluded);
+    let five = excludes_five(events, tally);
+    match profile {
+        Profile::Full => {
+            let never = relations::absent(events, tally, log::FOLLOWED);
+            relations::united(events, &five, &never)
+        }
+        Profile::Light => five,
+    }
+}
+
+pub(crate) fn put_six(events: Set, tally: &Tally, profile: Profile, out: &mut Relations)
+    ensures { out.new ≡ with_table out.old 3 (excludes_six profile events tally.now) }
+{
+    let excludes = excludes_six(events, tally, profile);
     tables::put_rows(out, EXCLUDES, &excludes);
-}
-
-// Step 6: the excludes gain what never directly follows, which stands where the responses will.
-pub fn put_six(events: Set, out: &mut Relations)
-    ensures { out.new ≡ with_table out.old 3 (rows_for events (in_either
-        (with_table no_rows 0 (table_at out.old 3)) (with_table no_rows 0 (table_at out.old 1)))) }
-{
-    let five = tables::taken(out, EXCLUDES);
-    let never = tables::taken(out, RESPONSES);
-    let six = relations::united(events, &five, &never);
-    tables::put_rows(out, EXCLUDES, &six);
 }

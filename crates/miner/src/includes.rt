@@ -1,17 +1,18 @@
-// The includes of steps 3 and 6, put into the tables that are lent. What step 6 lets in needs the pairs that never follow, so it is asked of
+// The includes of steps 3 and 6, put into a table that is lent. What step 6 lets in needs the pairs that never follow, so it is asked of
 // the log in a pass of its own: over each trace from the first place to the last.
 ghost use Rattle.std.specs.Prelude.{◌≡◌, cond, [], ℕ, ◌+◌, ◌<◌, eqb, ltb, length, get_or, set, drop};
 ghost use Rattle.sets.specs.Tests.{◌and◌, ◌or◌, non};
 ghost use Rattle.sets.specs.Members.{width, mem, those};
-ghost use Rattle.sets.specs.Rows.{in_row, no_rows, rows_of, turned};
-ghost use Rattle.sets.specs.Tables.{table_at, with_table};
+ghost use Rattle.sets.specs.Rows.{in_row, rows_of, turned};
+ghost use Rattle.sets.specs.Tables.{with_table};
 ghost use Rattle.rules.specs.Traces.{◌has◌};
 ghost use Rattle.tally.specs.Passes.{gained, gains, forward, walked, reaches, cut};
 ghost use Rattle.miner.specs.Facts.{let_in, places_from};
-ghost use Rattle.miner.specs.Stages.{chains_of, let_in_of};
+ghost use Rattle.miner.specs.Stages.{chains_of, let_in_of, includes_in};
 
 use engine::Relations;
-use engine::graph::{INCLUDES, RESPONSES};
+use engine::graph::INCLUDES;
+use rules::Profile;
 use sets::activity::WIDTH;
 use sets::{Activity, Place, Rows, Set, rows, tables};
 use steps::relations;
@@ -43,12 +44,10 @@ pub fn last_places(trace: &[u8], last: &mut Places) -> Set
     ensures places { last.new ≡ places_from last.old 0 trace.now }
 {
     let mut all = Set::EMPTY;
-    let mut i: usize = 0;
-    while i < trace.len() {
-        let e = Activity(trace[i]);
+    for (i, &n) in trace.iter().enumerate() {
+        let e = Activity(n);
         put_place(last, e, Place(i));
         all = and_then(all, e);
-        i += 1;
     }
     all
 }
@@ -67,92 +66,95 @@ fn left_after(after: Set, last: &Places, e: Activity, at: Place) -> Set
 }
 
 // One place of e: its row gains what comes later and is barred. Then what never directly follows e is barred too, as far as the form holds it.
-fn let_in_here(
+fn let_in_here<const WIDE: bool>(
     e: Activity,
     after: Set,
     barred: Set,
     unfollowed: &Rows,
-    wide: bool,
     out: &mut Rows,
 ) -> Set
     ensures row { out.new ≡ gained out.old e.0 (λ x. mem after x and mem barred x) }
-    ensures next { result ≡ those (λ x. mem barred x or reaches wide x and in_row unfollowed.now e.0 x) }
+    ensures next { result ≡ those (λ x. mem barred x or reaches WIDE x and in_row unfollowed.now e.0 x) }
 {
     let back = after.intersection(barred);
     rows::join(out, e, back);
-    let never = in_form(rows::row(unfollowed, e), wide);
+    let never = in_form(rows::row(unfollowed, e), WIDE);
     barred.union(never)
 }
 
 // The forward pass, with the last places known. `barred` is what never directly follows something that was seen.
-fn let_in_along<'a>(
+fn let_in_along<'a, const WIDE: bool>(
     trace: &'a [u8],
     unfollowed: &'a Rows,
     last: &'a Places,
     all: Set,
-    wide: bool,
     out: &mut Rows,
 )
     requires all_value { all ≡ those (λ x. trace.now has x) }
     requires by_index { (i : ℕ) → i < length trace.now → get_or trace.now i 0 < width → eqb (get_or last.now (get_or trace.now i 0) 0) i
         ≡ non (drop (i + 1) trace.now has get_or trace.now i 0) }
-    ensures { out.new ≡ forward (gains (cut wide (let_in unfollowed.now))) out.old [] trace.now }
+    ensures { out.new ≡ forward (gains (cut WIDE (let_in unfollowed.now))) out.old [] trace.now }
 {
     let mut after = all;
     let mut barred = Set::EMPTY;
-    let mut i: usize = 0;
-    while i < trace.len() {
-        let e = Activity(trace[i]);
-        let later = left_after(after, last, e, Place(i));
-        barred = let_in_here(e, later, barred, unfollowed, wide, out);
-        after = later;
-        i += 1;
+    for (i, &n) in trace.iter().enumerate() {
+        let e = Activity(n);
+        after = left_after(after, last, e, Place(i));
+        barred = let_in_here::<WIDE>(e, after, barred, unfollowed, out);
     }
 }
 
 // Step 6: the row of each event gains what comes later in the trace and never directly follows something that stands before the event;
-// row s of `unfollowed` has what never directly follows s. The form is written out in either call: the compiler then makes a loop for each.
-fn let_in_trace<'a>(trace: &'a [u8], unfollowed: &'a Rows, wide: bool, out: &mut Rows)
-    ensures { out.new ≡ forward (gains (cut wide (let_in unfollowed.now))) out.old [] trace.now }
+// row s of `unfollowed` has what never directly follows s.
+fn let_in_trace<'a, const WIDE: bool>(trace: &'a [u8], unfollowed: &'a Rows, out: &mut Rows)
+    ensures { out.new ≡ forward (gains (cut WIDE (let_in unfollowed.now))) out.old [] trace.now }
 {
     let mut last = [0usize; WIDTH];
     let all = last_places(trace, &mut last);
-    if wide {
-        let_in_along(trace, unfollowed, &last, all, true, out);
-    } else {
-        let_in_along(trace, unfollowed, &last, all, false, out);
-    }
+    let_in_along::<WIDE>(trace, unfollowed, &last, all, out);
 }
 
 // The same, of all traces.
-fn let_in_log<'a>(log: &'a [u8], traces: usize, unfollowed: &'a Rows, wide: bool, out: &mut Rows)
-    ensures { out.new ≡ let_in_of wide unfollowed.now out.old (walked log.now traces 0) }
+fn let_in_log<'a, const WIDE: bool>(
+    log: &'a [u8],
+    traces: usize,
+    unfollowed: &'a Rows,
+    out: &mut Rows,
+)
+    ensures { out.new ≡ let_in_of WIDE unfollowed.now out.old (walked log.now traces 0) }
 {
-    let mut k: usize = 0;
-    while k < traces {
+    for k in 0..traces {
         let trace = calllog::trace::trace_at(log, k);
-        let_in_trace(trace, unfollowed, wide, out);
-        k += 1;
+        let_in_trace::<WIDE>(trace, unfollowed, out);
     }
 }
 
 // Step 3: what a chain leads to, turned round.
-pub fn put_three(events: Set, tally: &Tally, out: &mut Relations)
-    ensures { out.new ≡ with_table out.old 2 (rows_of (turned (chains_of events tally.now))) }
+fn includes_three(events: Set, tally: &Tally) -> Rows
+    ensures { result ≡ rows_of (turned (chains_of events tally.now)) }
 {
     let chains = relations::unbroken(events, tally, log::UNCHAINED);
-    let includes = rows::turned(&chains);
-    tables::put_rows(out, INCLUDES, &includes);
+    rows::turned(&chains)
 }
 
-// Step 6: the includes gain what is let in. What never directly follows stands where the responses will.
-pub fn put_six(log: &[u8], traces: usize, wide: bool, out: &mut Relations)
-    ensures { out.new ≡ with_table out.old 2
-        (let_in_of wide (with_table no_rows 0 (table_at out.old 1)) (with_table no_rows 0 (table_at out.old 2))
-        (walked log.now traces 0)) }
+// The includes after step 6, which asks the traces once more; the light profile leaves it out (02, 3/12).
+pub(crate) fn put_six<'a, const WIDE: bool>(
+    log: &'a [u8],
+    traces: usize,
+    events: Set,
+    tally: &'a Tally,
+    profile: Profile,
+    out: &mut Relations,
+)
+    ensures { out.new ≡ with_table out.old 2 (includes_in WIDE profile events tally.now (walked log.now traces 0)) }
 {
-    let mut includes = tables::taken(out, INCLUDES);
-    let never = tables::taken(out, RESPONSES);
-    let_in_log(log, traces, &never, wide, &mut includes);
+    let mut includes = includes_three(events, tally);
+    match profile {
+        Profile::Full => {
+            let never = relations::absent(events, tally, log::FOLLOWED);
+            let_in_log::<WIDE>(log, traces, &never, &mut includes);
+        }
+        Profile::Light => {}
+    }
     tables::put_rows(out, INCLUDES, &includes);
 }

@@ -5,11 +5,10 @@ ghost use Rattle.sets.specs.Members.{word, those};
 ghost use Rattle.sets.specs.Rows.{row_words, rows_for};
 ghost use Rattle.sets.specs.Tables.{no_tables, table_at, with_table};
 ghost use Rattle.engine.specs.Relations.{relation_count};
-ghost use Rattle.rules.specs.declared.Profile.TheVariants.{Light};
 ghost use Rattle.steps.specs.Rowwise.{reduced_of};
 ghost use Rattle.tally.specs.Passes.{walked, event_in};
 ghost use Rattle.tally.specs.Tallies.{tallied_for};
-ghost use Rattle.miner.specs.Stages.{conditions_of, responses_of, never_of, includes_in, excludes_six, seven_from};
+ghost use Rattle.miner.specs.Stages.{conditions_of, responses_of, includes_in, excludes_six, seven_from};
 ghost use Rattle.miner.specs.Stages.{four_tables, graph_found_in};
 ghost use Rattle.miner.specs.Mine.{headed_of, mined_of};
 
@@ -45,94 +44,74 @@ fn put_responses(events: Set, tally: &Tally, out: &mut Relations)
     tables::put_rows(out, RESPONSES, &eight);
 }
 
-// What never directly follows, for step 6. It stands where the responses will: they come last.
-fn put_never(events: Set, tally: &Tally, out: &mut Relations)
-    ensures { out.new ≡ with_table out.old 1 (never_of events tally.now) }
-{
-    let never = relations::absent(events, tally, log::FOLLOWED);
-    tables::put_rows(out, RESPONSES, &never);
-}
-
-// Step 6, which asks the traces once more; the light profile leaves it out (02, 3/12).
-fn put_six<'a>(
-    bytes: &'a [u8],
-    traces: usize,
-    events: Set,
-    tally: &'a Tally,
-    wide: bool,
-    profile: Profile,
-    out: &mut Relations,
-)
-    ensures out_len_unchanged { length out.new ≡ length out.old }
-    ensures out_after { length out.old ≡ relation_count * row_words
-        → table_at out.old 2 ≡ includes_in wide Light events tally.now (walked bytes.now traces 0)
-        → table_at out.new 2 ≡ includes_in wide profile events tally.now (walked bytes.now traces 0) }
-    ensures out_after_2 { length out.old ≡ relation_count * row_words
-        → table_at out.old 2 ≡ includes_in wide Light events tally.now (walked bytes.now traces 0)
-        → table_at out.old 3 ≡ excludes_six Light events tally.now
-        → table_at out.new 3 ≡ excludes_six profile events tally.now }
-{
-    match profile {
-        Profile::Full => {
-            put_never(events, tally, out);
-            includes::put_six(bytes, traces, wide, out);
-            excludes::put_six(events, out);
-        }
-        Profile::Light => {}
-    }
-}
-
 // The tables after step 8 that a tally gives, with the traces that it is of.
-fn put_eight<'a>(
+fn put_eight<'a, const WIDE: bool>(
     bytes: &'a [u8],
     traces: usize,
     events: Set,
     tally: &'a Tally,
-    wide: bool,
     profile: Profile,
     out: &mut Relations,
 )
     ensures { length out.old ≡ relation_count * row_words → out.new ≡ four_tables
         (rows_for events (reduced_of (conditions_of events tally.now)))
         (rows_for events (reduced_of (responses_of events tally.now)))
-        (includes_in wide profile events tally.now (walked bytes.now traces 0))
-        (seven_from events tally.now (includes_in wide profile events tally.now (walked bytes.now traces 0))
+        (includes_in WIDE profile events tally.now (walked bytes.now traces 0))
+        (seven_from events tally.now (includes_in WIDE profile events tally.now (walked bytes.now traces 0))
         (excludes_six profile events tally.now) (walked bytes.now traces 0)) }
 {
-    includes::put_three(events, tally, out);
-    excludes::put_excluded(events, tally, out);
-    excludes::turn(out);
-    put_six(bytes, traces, events, tally, wide, profile, out);
+    includes::put_six::<WIDE>(bytes, traces, events, tally, profile, out);
+    excludes::put_six(events, tally, profile, out);
     redundant::put_seven(bytes, traces, events, tally, out);
     conditions::put_eight(events, tally, out);
     put_responses(events, tally, out);
 }
 
 // The same of a log's first traces; it gives their events, as far as the form holds them. The tally, the largest of all, is gone when it returns.
-fn tables_eight(
+fn tables_eight<const WIDE: bool>(
     bytes: &[u8],
     traces: usize,
-    wide: bool,
     profile: Profile,
     out: &mut Relations,
 ) -> Set
-    ensures value { result ≡ those (event_in wide (walked bytes.now traces 0)) }
+    ensures value { result ≡ those (event_in WIDE (walked bytes.now traces 0)) }
     ensures out_after { length out.old ≡ relation_count * row_words → out.new ≡ four_tables
-        (rows_for result (reduced_of (conditions_of result (tallied_for wide (walked bytes.now traces 0)))))
-        (rows_for result (reduced_of (responses_of result (tallied_for wide (walked bytes.now traces 0)))))
-        (includes_in wide profile result (tallied_for wide (walked bytes.now traces 0)) (walked bytes.now traces 0))
-        (seven_from result (tallied_for wide (walked bytes.now traces 0))
-        (includes_in wide profile result (tallied_for wide (walked bytes.now traces 0)) (walked bytes.now traces 0))
-        (excludes_six profile result (tallied_for wide (walked bytes.now traces 0))) (walked bytes.now traces 0)) }
+        (rows_for result (reduced_of (conditions_of result (tallied_for WIDE (walked bytes.now traces 0)))))
+        (rows_for result (reduced_of (responses_of result (tallied_for WIDE (walked bytes.now traces 0)))))
+        (includes_in WIDE profile result (tallied_for WIDE (walked bytes.now traces 0)) (walked bytes.now traces 0))
+        (seven_from result (tallied_for WIDE (walked bytes.now traces 0))
+        (includes_in WIDE profile result (tallied_for WIDE (walked bytes.now traces 0)) (walked bytes.now traces 0))
+        (excludes_six profile result (tallied_for WIDE (walked bytes.now traces 0))) (walked bytes.now traces 0)) }
 {
     let mut tally = log::empty();
-    let events = log::note_traces_in(bytes, traces, wide, &mut tally);
-    put_eight(bytes, traces, events, &tally, wide, profile, out);
+    let events = log::note_traces_in(bytes, traces, WIDE, &mut tally);
+    put_eight::<WIDE>(bytes, traces, events, &tally, profile, out);
     events
 }
 
-// The graph of a log's first traces: its head, and its relations in tables that are lent empty. Where all activities are below 64, the passes
-// keep one word of each set.
+// The graph of a log's first traces, its passes in a form: its head, and its relations in tables that are lent empty.
+fn graph_in<const WIDE: bool>(
+    bytes: &[u8],
+    activities: u8,
+    traces: usize,
+    profile: Profile,
+    found: &mut Relations,
+) -> Head
+    requires { found.old ≡ no_tables relation_count }
+    ensures value { result ≡ (graph_found_in WIDE activities (walked bytes.now traces 0) profile).head }
+    ensures found_after { found.new ≡ (graph_found_in WIDE activities (walked bytes.now traces 0) profile).relations }
+{
+    let events = tables_eight::<WIDE>(bytes, traces, profile, found);
+    conditions::put_nine::<WIDE>(bytes, traces, events, found);
+    conditions::put_ten(events, found);
+    Head {
+        activities,
+        events,
+        opening: enabled::marked(events, found, State::opening(events)),
+    }
+}
+
+// The same in the form that the activities ask for. Where all are below 64, the passes keep one word of each set.
 fn graph_found(
     bytes: &[u8],
     activities: u8,
@@ -144,15 +123,10 @@ fn graph_found(
     ensures value { result ≡ (graph_found_in (ltb word activities) activities (walked bytes.now traces 0) profile).head }
     ensures found_after { found.new ≡ (graph_found_in (ltb word activities) activities (walked bytes.now traces 0) profile).relations }
 {
-    let wide = WORD < activities;
-    let events = tables_eight(bytes, traces, wide, profile, found);
-    conditions::put_nine(bytes, traces, events, wide, found);
-    conditions::put_ten(events, found);
-    Head {
-        activities,
-        events,
-        opening: enabled::marked(events, found, State::opening(events)),
+    if WORD < activities {
+        return graph_in::<true>(bytes, activities, traces, profile, found);
     }
+    graph_in::<false>(bytes, activities, traces, profile, found)
 }
 
 // What mining gives beside the relations: the log's answer, and the head of its graph.

@@ -126,6 +126,7 @@ use Rattle.tally.proofs.holds.Reads as holds
 use Rattle.tally.proofs.log.note_traces_in.Reads as log-note-traces-in
 use Rattle.miner.proofs.conditions_eight.Reads as conditions-eight
 use Rattle.miner.proofs.excluded_five.Reads as excluded-five
+use Rattle.miner.proofs.excludes_six.Reads as excludes-six
 use Rattle.miner.proofs.last_places.Reads as last-places
 use Rattle.miner.proofs.mining.responses_eight.Reads as responses-eight
 use Rattle.miner.proofs.mining.mine.Reads as mine
@@ -625,6 +626,9 @@ responses-eight-once κ a r r' s s' h h' = h ∙ sym h'
 
 pub excluded-five-once : Once excluded-five.Post
 excluded-five-once κ a r r' s s' h h' = h ∙ sym h'
+
+pub excludes-six-once : Once excludes-six.Post
+excludes-six-once κ a r r' s s' h h' = h ∙ sym h'
 
 pub last-places-once : OnceLent last-places.Post (λ κ s. s.1.0.now)
 last-places-once κ a r r' s s' h h' = (h.0 ∙ sym h'.0, h.1 ∙ sym h'.1)

@@ -5,8 +5,8 @@ use Rattle.miner.proofs.conditions.gain.Goals as goal
 
 pub returns-then-holds : goal.returns-then-holds
 unfolding gained gained_for
-returns-then-holds c = taken _ _ _ _ (is-so _ _ _ c.holds.ensures c.if-holds.true) c.join.ensures
+returns-then-holds g c = taken _ _ _ _ (is-so _ _ _ c.holds.ensures c.if-holds.true) c.join.ensures
 
 pub returns-else-holds : goal.returns-else-holds
 unfolding gained_for
-returns-else-holds c = passed-by _ _ _ _ (is-so _ _ _ c.holds.ensures c.if-holds.false) refl
+returns-else-holds g c = passed-by _ _ _ _ (is-so _ _ _ c.holds.ensures c.if-holds.false) refl

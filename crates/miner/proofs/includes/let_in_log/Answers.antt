@@ -4,7 +4,7 @@ use Rattle.miner.proofs.includes.let_in_log.Invariants.{pass}
 use Rattle.miner.proofs.includes.let_in_log.Goals as goal
 
 pub loop-k-preserved : goal.loop-k-preserved
-loop-k-preserved c = (search rules, search (through-next, rules))
+loop-k-preserved g c = (search rules, search (through-next, rules))
 
 pub returns : goal.returns
-returns c = through-end (pass _ _) _ _ _ _ _ c.loop-k-test.false c.loop-k.invariant.1
+returns g c = through-end (pass _ _) _ _ _ _ _ c.loop-k-test.false c.loop-k.invariant.1

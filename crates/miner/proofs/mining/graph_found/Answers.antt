@@ -1,17 +1,8 @@
-use mathlib.Core.Path.{ap}
-use Rattle.engine.specs.declared.graph.Graph.{Graph}
-use Rattle.tally.specs.Passes.{walked}
-use Rattle.miner.proofs.Composed.{found-by}
+use borrow.Author.Rules.{rules}
 use Rattle.miner.proofs.mining.graph_found.Goals as goal
 
-pub returns-clause-value : goal.returns-clause-value
-returns-clause-value c = let found = found-by _ _ (walked c.args.bytes.now c.args.traces 0) c.args.profile _ _ _ _ _ _ _
-    c.tables_eight-events.ensures.value c.tables_eight-events.ensures.out_after c.put_nine.ensures c.put_ten.ensures c.requires
-    c.opening.ensures c.marked.ensures in
-    ap (λ (g : Graph). g.head) found
+pub returns-then-activities-gt-WORD-clause-value : goal.returns-then-activities-gt-WORD-clause-value
+returns-then-activities-gt-WORD-clause-value c = search rules
 
-pub returns-clause-found_after : goal.returns-clause-found_after
-returns-clause-found_after c = let found = found-by _ _ (walked c.args.bytes.now c.args.traces 0) c.args.profile _ _ _ _ _ _ _
-    c.tables_eight-events.ensures.value c.tables_eight-events.ensures.out_after c.put_nine.ensures c.put_ten.ensures c.requires
-    c.opening.ensures c.marked.ensures in
-    ap (λ (g : Graph). g.relations) found
+pub returns-then-activities-gt-WORD-clause-found_after : goal.returns-then-activities-gt-WORD-clause-found_after
+returns-then-activities-gt-WORD-clause-found_after c = search rules

@@ -3,4 +3,4 @@ use Rattle.miner.proofs.Composed.{eight-by}
 use Rattle.miner.proofs.mining.put_eight.Goals as goal
 
 pub returns : goal.returns
-returns c = search (eight-by, rules)
+returns g c = search (eight-by, rules)
