@@ -120,29 +120,13 @@ impl Reading<'_> {
         }
     }
 
-    // The excludes after step 6, made or skipped.
-    fn excludes_six(&self, profile: Profile) -> Rows
-        ensures { result ≡ excludes_six profile self.now.events self.now.tables.now }
-    {
-        let tables = self.tables;
-        let excluded = miner::excluded_five(self.events, tables);
-        let five = rows::turned(&excluded);
-        match profile {
-            Profile::Full => {
-                let never = relations::absent(self.events, tables, log::FOLLOWED);
-                relations::united(self.events, &five, &never)
-            }
-            Profile::Light => five,
-        }
-    }
-
     // The excludes after step 7.
     fn excludes_seven(&self, includes: &Rows, profile: Profile) -> Rows
         ensures { result ≡ excludes_from self.now.events self.now.tables.now includes.now
             (excludes_six profile self.now.events self.now.tables.now) (between_in self.now.tally.now) }
     {
-        let six = self.excludes_six(profile);
         let tables = self.tables;
+        let six = miner::excludes_six(self.events, tables, profile);
         let alternating = relations::absent(self.events, tables, log::UNALTERNATED);
         let asked = Exclusions {
             tally: self.tally,
