@@ -94,8 +94,6 @@ module _ (t o : List ℕ) where
                 ∙ sym (ap (λ (b : Bool). when b then joined (take tally_length t) (take tally_length o) ++ drop tally_length t else t) (ap is_done answer)),
           )
 
-pub ruleset join-ways = (join-few, join-few-other, join-above, join-done)
-
 -- ---- fill
 
 module _ (log t : List ℕ) (j : Judged) (hj : j ≡ judged_of log) (r : Bool) (hr : r ≡ is_done j.answer) where
@@ -146,8 +144,6 @@ module _ (log t : List ℕ) (j : Judged) (hj : j ≡ judged_of log) (r : Bool) (
                 ∙ ap (λ (L : Traces). tally_of (log_of log).activities L ++ drop tally_length t) (walk-all log)
                 ∙ sym (ap (λ (b : Bool). when b then tally_of (log_of log).activities (log_of log).traces ++ drop tally_length t else t) (ap is_done answer)),
           )
-
-pub ruleset fill-ways = (fill-refused, fill-few, fill-above, fill_done)
 
 -- ---- relations
 

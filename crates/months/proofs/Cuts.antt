@@ -263,10 +263,6 @@ pub first-put : (firsts : List ℕ) (count e : ℕ) → count < tally_width → 
 unfolding with_first
 first-put firsts count e l = sym (ap (λ (t : Bool). when t then set firsts count e else firsts) (lt-ltb count tally_width l))
 
-pub first-full : (firsts : List ℕ) (count e : ℕ) → tally_width ≤ count → firsts ≡ with_first firsts count e
-unfolding with_first
-first-full firsts count e l = sym (ap (λ (t : Bool). when t then set firsts count e else firsts) (le-ltb count tally_width l))
-
 module _ (firsts : List ℕ) (seen : Seen) (e : ℕ) where
   old-stays : is_new seen e ≡ false → (seen ≡ seen_with seen e) × (firsts ≡ firsts_with firsts seen e)
   unfolding seen_with firsts_with

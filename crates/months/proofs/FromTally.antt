@@ -197,45 +197,7 @@ excluded-is tally alternate includes excludes s m gone x r hm hg hx h =
 
 -- ---- the stages
 
-module _ (events : Set) (tables : List ℕ) (p : Profile) (by five : List ℕ)
-    (hb : by ≡ rows_for events (excluders events (table_at tables before_table) (table_at tables later_table) (chains_of events tables)))
-    (hf : five ≡ rows_of (turned by)) where
-  pub excludes-light-is : p ≡ Light → five ≡ excludes_six p events tables
-  excludes-light-is e = hf ∙ ap (λ (l : List ℕ). rows_of (turned l)) hb ∙ ap (λ (q : Profile). excludes_six q events tables) (sym e)
-
-  pub excludes-full-is : (never out : List ℕ) → p ≡ Full → never ≡ rows_for events (absent events (table_at tables followed_table))
-      → out ≡ rows_for events (in_either five never) → out ≡ excludes_six p events tables
-  excludes-full-is never out e hn h =
-      h ∙ ap₂ (λ (x y : List ℕ). rows_for events (in_either x y)) (hf ∙ ap (λ (l : List ℕ). rows_of (turned l)) hb) hn
-      ∙ ap (λ (q : Profile). excludes_six q events tables) (sym e)
-
 module _ (events : Set) (tally tables : List ℕ) where
-  pub full_is : (chains never unf by out : List ℕ) → never ≡ rows_for events (absent events (table_at tables followed_table)) → unf ≡ rows_of (turned never)
-      → by ≡ rows_for events (includers events chains unf (between_in tally)) → out ≡ rows_of (turned by)
-      → out ≡ rows_of (turned (rows_for events (includers events chains (unfollowing events tables) (between_in tally))))
-  full_is chains never unf by out hn hu hb h =
-      h ∙ ap (λ (l : List ℕ). rows_of (turned l)) (hb ∙ ap (λ (l : List ℕ). rows_for events (includers events chains l (between_in tally)))
-      (hu ∙ ap (λ (l : List ℕ). rows_of (turned l)) hn))
-
-  module _ (p : Profile) (chains out : List ℕ) (hc : chains ≡ rows_for events (unbroken events (table_at tables unchained_table))) where
-    pub includes-full-is : p ≡ Full
-        → out ≡ rows_of (turned (rows_for events (includers events chains (unfollowing events tables) (between_in tally))))
-        → out ≡ includes_in p events tables (between_in tally)
-    includes-full-is e h =
-        h ∙ ap (λ (l : List ℕ). rows_of (turned (rows_for events (includers events l (unfollowing events tables) (between_in tally))))) hc
-        ∙ ap (λ (q : Profile). includes_in q events tables (between_in tally)) (sym e)
-
-    pub includes-light-is : p ≡ Light → out ≡ rows_of (turned chains) → out ≡ includes_in p events tables (between_in tally)
-    includes-light-is e h =
-        h ∙ ap (λ (l : List ℕ). rows_of (turned l)) hc ∙ ap (λ (q : Profile). includes_in q events tables (between_in tally)) (sym e)
-
-  pub seven_is : (p : Profile) (includes six alternate out : List ℕ) → six ≡ excludes_six p events tables
-      → alternate ≡ rows_for events (absent events (table_at tables unalternated_table))
-      → out ≡ rows_for events (excluded alternate includes six (between_in tally))
-      → out ≡ excludes_from events tables includes (excludes_six p events tables) (between_in tally)
-  seven_is p includes six alternate out h6 ha h =
-      h ∙ ap₂ (λ (x y : List ℕ). rows_for events (excluded x includes y (between_in tally))) ha h6
-
   pub eight_is : (p : Profile) (none c r i x t₁ t₂ t₃ t₄ : List ℕ) → none ≡ no_tables 4 → c ≡ rows_for events (reduced_of (conditions_of events tables))
       → t₁ ≡ with_table none 0 c → r ≡ rows_for events (reduced_of (responses_of events tables)) → t₂ ≡ with_table t₁ 1 r
       → i ≡ includes_in p events tables (between_in tally) → t₃ ≡ with_table t₂ 2 i
