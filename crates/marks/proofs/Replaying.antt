@@ -63,7 +63,7 @@ module _ (r : Walked) (q : Replayed) (b : Bool) (e : r ≡ walked_of q) (h : b �
       ∙ ap (λ (x : Walked). number_of x.answer) e
       ∙ sym (ap (λ (x : Bool). when x then 128 else number_of q.answer) (sym verdict-is ∙ t))
 
-pub ruleset judging-one = (part-ended, no-yes, then-accepting, verdict-is, byte-yes, byte-other)
+pub ruleset judging_one = (part-ended, no-yes, then-accepting, verdict-is, byte-yes, byte-other)
 
 -- ---- one byte after another
 
@@ -92,7 +92,7 @@ bytes_next f out₀ out k n b l m e h =
     (ap (λ (x : ℕ). list_from k 0 f ++ (f x ∷ [])) (sym (zero-add k)) ∙ sym (list-last k 0 f))
     ∙ ap (λ (x : ℕ). bytes_put f x out₀) (sym (add-one k))
 
-pub ruleset byte-by-byte = (bytes-first, bytes_next)
+pub ruleset byte_by_byte = (bytes-first, bytes_next)
 
 -- ---- the parts of a log that is not refused are its traces, and its graph need not be judged again
 

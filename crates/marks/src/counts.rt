@@ -64,6 +64,7 @@ impl Counts {
     }
 
     // The counts with one trace more, by its verdict and its label.
+    #[tactic(auto, using(crate::proofs::Counting::kinds))]
     pub(crate) fn with(self, verdict: bool, label: bool) -> Counts
         requires { Few self }
         ensures { result ≡ counted_of self verdict label }

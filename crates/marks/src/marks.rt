@@ -25,6 +25,7 @@ pub struct Marked {
 const IN_ORDER: u8 = 1;
 
 // The counts of the traces that have labels, by the graph's verdicts.
+#[tactic(auto, using(crate::proofs::Counting::counting))]
 fn count_verdicts(replaying: &Replaying, labels: &[u8]) -> Counts
     requires { length labels.now ≤ most_traces }
     ensures { result ≡ counts_of (length labels.now)
@@ -52,6 +53,7 @@ fn count_guesses<'a>(guesses: &'a [u8], labels: &'a [u8]) -> Counts
 }
 
 // The refusals of the log, of the graph, then of the labels.
+#[tactic(auto, using(crate::proofs::Asking::judging))]
 fn judge_marks<'a>(head: Head, relations: &'a Relations, log: &'a [u8], labels: &'a [u8]) -> Answer
     ensures { result ≡ judged_marks (graph_of head relations.now) log.now labels.now }
 {
@@ -65,6 +67,7 @@ fn judge_marks<'a>(head: Head, relations: &'a Relations, log: &'a [u8], labels: 
 }
 
 // Marks a graph on a log by the labels of its traces.
+#[tactic(auto, using(crate::proofs::Marking::marking))]
 pub fn mark<'a>(head: Head, relations: &'a Relations, log: &'a [u8], labels: &'a [u8]) -> Marked
     ensures { result ≡ marks_of (graph_of head relations.now) log.now labels.now }
 {
@@ -87,6 +90,7 @@ pub fn mark<'a>(head: Head, relations: &'a Relations, log: &'a [u8], labels: &'a
 }
 
 // The refusals of labels and guesses.
+#[tactic(auto, using(crate::proofs::Asking::guessing))]
 fn judge_guesses<'a>(guesses: &'a [u8], labels: &'a [u8]) -> Answer
     ensures { result ≡ judged_guesses guesses.now labels.now }
 {
@@ -101,6 +105,7 @@ fn judge_guesses<'a>(guesses: &'a [u8], labels: &'a [u8]) -> Answer
 }
 
 // Marks guesses by labels.
+#[tactic(auto, using(crate::proofs::Marking::marking_guesses))]
 pub fn mark_guesses<'a>(guesses: &'a [u8], labels: &'a [u8]) -> Marked
     ensures { result ≡ guesses_of guesses.now labels.now }
 {

@@ -34,6 +34,7 @@ pub(crate) fn judge_after(first: Answer, head: Head, relations: &Relations) -> A
 }
 
 // Yes where it is done and accepting.
+#[tactic(auto, using(crate::proofs::Replaying::judging_one))]
 fn is_yes(r: Walked) -> bool
     ensures { result ≡ (is_done r.answer and r.accepting) }
 {
@@ -62,6 +63,7 @@ impl Replaying<'_> {
     }
 
     // The verdict on part k.
+    #[tactic(auto, using(crate::proofs::Replaying::judging_one))]
     pub fn verdict(&self, k: usize) -> bool
         ensures { result ≡ is_yes (part_replay self.now.head self.now.relations.now self.now.log.now k) }
     {
@@ -70,6 +72,7 @@ impl Replaying<'_> {
     }
 
     // The byte of part k.
+    #[tactic(auto, using(crate::proofs::Replaying::judging_one))]
     fn byte(&self, k: usize) -> u8
         ensures { result ≡ replay_byte (part_replay self.now.head self.now.relations.now self.now.log.now k) }
     {
@@ -82,6 +85,7 @@ impl Replaying<'_> {
     }
 
     // The bytes of as many parts as there is room for.
+    #[tactic(auto, using(crate::proofs::Replaying::byte_by_byte))]
     fn put(&self, out: &mut [u8])
         ensures { out.new ≡ list_from (length out.old) 0 (λ k. replay_byte (part_replay self.now.head self.now.relations.now self.now.log.now k)) }
     {
@@ -92,6 +96,7 @@ impl Replaying<'_> {
 }
 
 // Replays a log on a graph: the log's refusals, the graph's, 7 where the buffer has fewer bytes than there are traces.
+#[tactic(auto, using(crate::proofs::Replaying::writing))]
 pub fn write_replays<'a, 'w>(
     head: Head,
     relations: &'a Relations,
