@@ -10,5 +10,3 @@ pub loop-i-preserved : goal.loop-i-preserved
 loop-i-preserved c =
     or_turn c.args.bytes.now c.args.other.now c.loop-i.i (omega arith) (omega arith) c.loop-i.bytes _ c.loop-i.invariant refl
 
-pub returns : goal.returns
-returns c = or-end c.args.bytes.now c.args.other.now c.loop-i.i c.loop-i.bytes c.requires c.loop-i-test.false c.loop-i.invariant
