@@ -57,17 +57,6 @@ as_many traces bytes d = same (eqb (length bytes) traces) refl
     same true e n = eqb→eq (length bytes) traces (true→T e)
     same false e n = absurd (true→T (sym n))
 
--- ---- one question, then another
-
-module _ (a b : Answer) (d : Bool) (hd : d ≡ is_done a) where
-  pub first-refused : d ≡ false → a ≡ then_ask a b
-  first-refused n = refused a a d refl hd b n
-
-  pub second-asked : (x : Answer) → d ≡ true → x ≡ b → x ≡ then_ask a b
-  second-asked x n e = e ∙ sym (passed a a d refl hd b n)
-
-pub ruleset in-turn = (first-refused, second-asked)
-
 -- ---- log and graph, then what comes after
 
 module _ (log : List ℕ) (g : Graph) (j : Judged) (a : Answer) (d : Bool) (hj : j ≡ judged_of log) (ha : a ≡ then_ask j.answer (judged g))

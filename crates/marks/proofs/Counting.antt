@@ -1,9 +1,11 @@
 -- The counts, one trace after another. Assumes nothing.
 use mathlib.Core.Path.{◌≡◌, refl, sym, ap, ap₂, subst, ◌∙◌}
 use mathlib.Core.Bool.{Bool, true, false}
+use mathlib.Core.List.{List, [], ◌∷◌, ◌++◌}
 use Prim.Native.Nat.{ℕ, suc, ◌+◌, ◌≤◌, ◌<◌}
 use native.Mathlib.Numerals.{add-one}
 use native.Mathlib.Omega.{arith}
+use lib.ListN.{length, length-append}
 use Rattle.sets.specs.Tests.{◌and◌, non}
 use Rattle.sets.specs.Sizes.{most_traces}
 use Rattle.sets.specs.Members.{digit, count_below}
@@ -73,10 +75,14 @@ module _ (v l : ℕ → Bool) (k : ℕ) (c : Counts) (e : c ≡ counts_of k v l)
       (count-on k (λ a. non (v a) and l a) i) (count-on k (λ a. non (v a) and non (l a)) i))
       ∙ ap (λ (n : ℕ). counts_of n v l) (sym (add-one k))
 
-  pub count-end : (n : ℕ) → k ≤ n → n ≤ k → c ≡ counts_of n v l
-  count-end n a b = let same : k ≡ n = omega arith in e ∙ ap (λ (m : ℕ). counts_of m v l) same
+pub ruleset counting = (count-first, few, count_turn)
 
-pub ruleset counting = (count-first, few, count_turn, count-end)
+-- the same where a loop has yielded xs
+pub count-yielded : {A : Type 0} (xs : List A) (x : A) (v l : ℕ → Bool) (c c' : Counts) (b : Bool) → c ≡ counts_of (length xs) v l
+    → b ≡ v (length xs) → c' ≡ counted_of c b (l (length xs)) → c' ≡ counts_of (length (xs ++ (x ∷ []))) v l
+count-yielded xs x v l c c' b e eb h =
+    let next : length xs + 1 ≡ length (xs ++ (x ∷ [])) = omega (arith, length-append xs (x ∷ [])) in
+    count_turn v l (length xs) c e b c' eb h ∙ ap (λ (n : ℕ). counts_of n v l) next
 
 -- ---- the same tests below n give the same counts
 

@@ -89,4 +89,4 @@ module _ (guesses labels : List ℕ) (a : Answer) (d : Bool) (ha : a ≡ judged_
     unfolding guesses_of
     guess-done c h = marked-as a _ (counts_of (length labels) (says_yes guesses) (says_yes labels)) c true ha (sym hd ∙ n) h
 
-pub ruleset marking-guesses = (guess-refused, guess-few, guess-many, guess-done)
+pub ruleset marking_guesses = (guess-refused, guess-few, guess-many, guess-done)

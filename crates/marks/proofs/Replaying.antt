@@ -63,7 +63,7 @@ module _ (r : Walked) (q : Replayed) (b : Bool) (e : r ≡ walked_of q) (h : b �
       ∙ ap (λ (x : Walked). number_of x.answer) e
       ∙ sym (ap (λ (x : Bool). when x then 128 else number_of q.answer) (sym verdict-is ∙ t))
 
-pub ruleset judging-one = (part-ended, no-yes, then-accepting, verdict-is, byte-yes, byte-other)
+pub ruleset judging_one = (part-ended, no-yes, then-accepting, verdict-is, byte-yes, byte-other)
 
 -- ---- one byte after another
 
@@ -92,13 +92,7 @@ bytes_next f out₀ out k n b l m e h =
     (ap (λ (x : ℕ). list_from k 0 f ++ (f x ∷ [])) (sym (zero-add k)) ∙ sym (list-last k 0 f))
     ∙ ap (λ (x : ℕ). bytes_put f x out₀) (sym (add-one k))
 
-pub bytes-end : (f : ℕ → ℕ) (out₀ out : List ℕ) (k n : ℕ) → k ≤ n → n ≤ k → out ≡ bytes_put f k out₀ → out ≡ bytes_put f n out₀
-bytes-end f out₀ out k n a b e = let same : k ≡ n = omega arith in e ∙ ap (λ (x : ℕ). bytes_put f x out₀) same
-
-pub still-long : (out : List ℕ) (k b n : ℕ) → length out ≡ n → length (set out k b) ≡ n
-still-long out k b n e = length-set out k b ∙ e
-
-pub ruleset byte-by-byte = (bytes-first, bytes_next, still-long, bytes-end)
+pub ruleset byte_by_byte = (bytes-first, bytes_next)
 
 -- ---- the parts of a log that is not refused are its traces, and its graph need not be judged again
 

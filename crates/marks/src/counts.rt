@@ -62,26 +62,20 @@ impl Counts {
             whole: agreed + differed,
         }
     }
-}
 
-// The counts with one trace more, by its verdict and its label.
-pub(crate) fn counted(c: Counts, verdict: bool, label: bool) -> Counts
-    requires { Few c }
-    ensures { result ≡ counted_of c verdict label }
-{
-    let mut r = c;
-    if verdict {
-        if label {
-            r.true_positives += 1;
-        } else {
-            r.false_positives += 1;
+    // The counts with one trace more, by its verdict and its label.
+    #[tactic(auto, using(crate::proofs::Counting::kinds))]
+    pub(crate) fn with(self, verdict: bool, label: bool) -> Counts
+        requires { Few self }
+        ensures { result ≡ counted_of self verdict label }
+    {
+        let mut more = self;
+        match (verdict, label) {
+            (true, true) => more.true_positives += 1,
+            (true, false) => more.false_positives += 1,
+            (false, true) => more.false_negatives += 1,
+            (false, false) => more.true_negatives += 1,
         }
-    } else {
-        if label {
-            r.false_negatives += 1;
-        } else {
-            r.true_negatives += 1;
-        }
+        more
     }
-    r
 }

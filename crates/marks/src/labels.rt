@@ -6,6 +6,7 @@ use calllog::judge::all_below;
 use sets::Answer;
 
 // 18 where there are not as many as traces, then 19 for one above 1.
+#[tactic(auto, using(crate::proofs::Asking::labelling))]
 pub fn judge_labels(labels: &[u8], traces: usize) -> Answer
     ensures { result ≡ judged_labels traces labels.now }
 {

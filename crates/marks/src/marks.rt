@@ -8,7 +8,8 @@ ghost use Rattle.marks.specs.Marks.{is_yes, judged_marks, marks_of, judged_guess
 ghost use Rattle.marks.specs.Replays.{part_replay};
 
 use crate::counts::Counts;
-use crate::{counts, labels, replays};
+use crate::replays::Replaying;
+use crate::{labels, replays};
 use calllog::MOST_TRACES;
 use engine::{Head, Relations};
 use sets::Answer;
@@ -24,23 +25,18 @@ pub struct Marked {
 const IN_ORDER: u8 = 1;
 
 // The counts of the traces that have labels, by the graph's verdicts.
-fn count_verdicts<'a>(
-    head: Head,
-    relations: &'a Relations,
-    log: &'a [u8],
-    labels: &'a [u8],
-) -> Counts
+#[tactic(auto, using(crate::proofs::Counting::counting))]
+fn count_verdicts(replaying: &Replaying, labels: &[u8]) -> Counts
     requires { length labels.now ≤ most_traces }
-    ensures { result ≡ counts_of (length labels.now) (λ k. is_yes (part_replay head relations.now log.now k)) (says_yes labels.now) }
+    ensures { result ≡ counts_of (length labels.now)
+        (λ k. is_yes (part_replay replaying.now.head replaying.now.relations.now replaying.now.log.now k)) (says_yes labels.now) }
 {
-    let mut c = Counts::NONE;
-    let mut k: usize = 0;
-    while k < labels.len() {
-        let yes = replays::verdict(head, relations, log, k);
-        c = counts::counted(c, yes, labels[k] == IN_ORDER);
-        k += 1;
+    let mut counts = Counts::NONE;
+    for (k, &label) in labels.iter().enumerate() {
+        let yes = replaying.verdict(k);
+        counts = counts.with(yes, label == IN_ORDER);
     }
-    c
+    counts
 }
 
 // The same by guesses.
@@ -49,16 +45,15 @@ fn count_guesses<'a>(guesses: &'a [u8], labels: &'a [u8]) -> Counts
     requires guesses_len { length guesses.now ≡ length labels.now }
     ensures { result ≡ counts_of (length labels.now) (says_yes guesses.now) (says_yes labels.now) }
 {
-    let mut c = Counts::NONE;
-    let mut k: usize = 0;
-    while k < labels.len() {
-        c = counts::counted(c, guesses[k] == IN_ORDER, labels[k] == IN_ORDER);
-        k += 1;
+    let mut counts = Counts::NONE;
+    for (&guess, &label) in guesses.iter().zip(labels) {
+        counts = counts.with(guess == IN_ORDER, label == IN_ORDER);
     }
-    c
+    counts
 }
 
 // The refusals of the log, of the graph, then of the labels.
+#[tactic(auto, using(crate::proofs::Asking::judging))]
 fn judge_marks<'a>(head: Head, relations: &'a Relations, log: &'a [u8], labels: &'a [u8]) -> Answer
     ensures { result ≡ judged_marks (graph_of head relations.now) log.now labels.now }
 {
@@ -72,6 +67,7 @@ fn judge_marks<'a>(head: Head, relations: &'a Relations, log: &'a [u8], labels: 
 }
 
 // Marks a graph on a log by the labels of its traces.
+#[tactic(auto, using(crate::proofs::Marking::marking))]
 pub fn mark<'a>(head: Head, relations: &'a Relations, log: &'a [u8], labels: &'a [u8]) -> Marked
     ensures { result ≡ marks_of (graph_of head relations.now) log.now labels.now }
 {
@@ -82,13 +78,19 @@ pub fn mark<'a>(head: Head, relations: &'a Relations, log: &'a [u8], labels: &'a
             counts: Counts::NONE,
         };
     }
+    let replaying = Replaying {
+        head,
+        relations,
+        log,
+    };
     Marked {
         answer,
-        counts: count_verdicts(head, relations, log, labels),
+        counts: count_verdicts(&replaying, labels),
     }
 }
 
 // The refusals of labels and guesses.
+#[tactic(auto, using(crate::proofs::Asking::guessing))]
 fn judge_guesses<'a>(guesses: &'a [u8], labels: &'a [u8]) -> Answer
     ensures { result ≡ judged_guesses guesses.now labels.now }
 {
@@ -103,6 +105,7 @@ fn judge_guesses<'a>(guesses: &'a [u8], labels: &'a [u8]) -> Answer
 }
 
 // Marks guesses by labels.
+#[tactic(auto, using(crate::proofs::Marking::marking_guesses))]
 pub fn mark_guesses<'a>(guesses: &'a [u8], labels: &'a [u8]) -> Marked
     ensures { result ≡ guesses_of guesses.now labels.now }
 {

@@ -33,15 +33,8 @@ pub(crate) fn judge_after(first: Answer, head: Head, relations: &Relations) -> A
     engine::judge::judge_for(head, relations, 0)
 }
 
-// Where the replay of part k of a log ends. The caller has judged log and graph.
-fn replay_part<'a>(head: Head, relations: &'a Relations, log: &'a [u8], k: usize) -> Walked
-    ensures { result ≡ walked_of (part_replay head relations.now log.now k) }
-{
-    let trace = calllog::trace::trace_at(log, k);
-    replay::walk(head.events, relations, head.opening.state, trace)
-}
-
 // Yes where it is done and accepting.
+#[tactic(auto, using(crate::proofs::Replaying::judging_one))]
 fn is_yes(r: Walked) -> bool
     ensures { result ≡ (is_done r.answer and r.accepting) }
 {
@@ -52,45 +45,58 @@ fn is_yes(r: Walked) -> bool
     r.accepting
 }
 
-// The verdict on part k.
-pub(crate) fn verdict<'a>(head: Head, relations: &'a Relations, log: &'a [u8], k: usize) -> bool
-    ensures { result ≡ is_yes (part_replay head relations.now log.now k) }
-{
-    let ended = replay_part(head, relations, log, k);
-    is_yes(ended)
+// A log and the graph to replay it on. The caller has judged both.
+#[derive(Clone, Copy)]
+pub(crate) struct Replaying<'a> {
+    pub head: Head,
+    pub relations: &'a Relations,
+    pub log: &'a [u8],
 }
 
-// The byte of part k.
-fn replay_byte<'a>(head: Head, relations: &'a Relations, log: &'a [u8], k: usize) -> u8
-    ensures { result ≡ replay_byte (part_replay head relations.now log.now k) }
-{
-    let ended = replay_part(head, relations, log, k);
-    if is_yes(ended) {
-        return YES;
+impl Replaying<'_> {
+    // Where the replay of part k of the log ends.
+    fn ended(&self, k: usize) -> Walked
+        ensures { result ≡ walked_of (part_replay self.now.head self.now.relations.now self.now.log.now k) }
+    {
+        let trace = calllog::trace::trace_at(self.log, k);
+        replay::walk(self.head.events, self.relations, self.head.opening.state, trace)
     }
-    let answer = ended.answer;
-    answer.number()
-}
 
-// The bytes of the first traces.
-fn put_replays<'a, 'w>(
-    head: Head,
-    relations: &'a Relations,
-    log: &'a [u8],
-    traces: usize,
-    out: &'w mut [u8],
-)
-    requires { traces ≤ length out.old }
-    ensures { out.new ≡ list_from traces 0 (λ k. replay_byte (part_replay head relations.now log.now k)) ++ drop traces out.old }
-{
-    let mut k: usize = 0;
-    while k < traces {
-        out[k] = replay_byte(head, relations, log, k);
-        k += 1;
+    // The verdict on part k.
+    #[tactic(auto, using(crate::proofs::Replaying::judging_one))]
+    pub fn verdict(&self, k: usize) -> bool
+        ensures { result ≡ is_yes (part_replay self.now.head self.now.relations.now self.now.log.now k) }
+    {
+        let ended = self.ended(k);
+        is_yes(ended)
+    }
+
+    // The byte of part k.
+    #[tactic(auto, using(crate::proofs::Replaying::judging_one))]
+    fn byte(&self, k: usize) -> u8
+        ensures { result ≡ replay_byte (part_replay self.now.head self.now.relations.now self.now.log.now k) }
+    {
+        let ended = self.ended(k);
+        if is_yes(ended) {
+            return YES;
+        }
+        let answer = ended.answer;
+        answer.number()
+    }
+
+    // The bytes of as many parts as there is room for.
+    #[tactic(auto, using(crate::proofs::Replaying::byte_by_byte))]
+    fn put(&self, out: &mut [u8])
+        ensures { out.new ≡ list_from (length out.old) 0 (λ k. replay_byte (part_replay self.now.head self.now.relations.now self.now.log.now k)) }
+    {
+        for (k, byte) in out.iter_mut().enumerate() {
+            *byte = self.byte(k);
+        }
     }
 }
 
 // Replays a log on a graph: the log's refusals, the graph's, 7 where the buffer has fewer bytes than there are traces.
+#[tactic(auto, using(crate::proofs::Replaying::writing))]
 pub fn write_replays<'a, 'w>(
     head: Head,
     relations: &'a Relations,
@@ -113,6 +119,11 @@ pub fn write_replays<'a, 'w>(
             traces: 0,
         };
     }
-    put_replays(head, relations, log, traces, out);
+    let replaying = Replaying {
+        head,
+        relations,
+        log,
+    };
+    replaying.put(&mut out[..traces]);
     Replays { answer, traces }
 }

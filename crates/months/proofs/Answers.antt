@@ -76,10 +76,10 @@ module _ (t o : List ℕ) where
           join-stays AboveLimit
           (join_by false true enough (sym (many (get_or t 0 0) (get_or o 0 0)) ∙ ap (ltb tally_width) (sym hm) ∙ lt-ltb tally_width m g)) refl
 
-      pub join-done : (t₁ t₂ : List ℕ) → m ≤ tally_width → t₁ ≡ bytes_or (take tally_length t) (take tally_length o) ++ drop tally_length t
-          → t₂ ≡ set t₁ 0 m → (Done ≡ join_answer t o) × (t₂ ≡ joined_of t o)
+      pub join-done : (bytes t₂ : List ℕ) → m ≤ tally_width → bytes ≡ bytes_or (take tally_length t) (take tally_length o)
+          → t₂ ≡ set (bytes ++ drop tally_length t) 0 m → (Done ≡ join_answer t o) × (t₂ ≡ joined_of t o)
       unfolding joined_of joined
-      join-done t₁ t₂ g h₁ h₂ =
+      join-done bytes t₂ g h₁ h₂ =
           let answer = join_by false false enough (sym (many (get_or t 0 0) (get_or o 0 0)) ∙ ap (ltb tally_width) (sym hm) ∙ le-ltb tally_width m g) in
           let both = bytes_or (take tally_length t) (take tally_length o) in
           let first : get_or (take tally_length t) 0 0 ≡ get_or t 0 0 = get_or-take tally_length t 0 0 (omega arith) in
@@ -88,13 +88,11 @@ module _ (t o : List ℕ) where
           let two = length-take-le tally_length o k in (
             sym answer,
             h₂
-                ∙ ap (λ (x : List ℕ). set x 0 m) h₁
+                ∙ ap (λ (x : List ℕ). set (x ++ drop tally_length t) 0 m) h₁
                 ∙ set-append_left both (drop tally_length t) 0 m (omega (arith, length-or (take tally_length t) (take tally_length o) (one ∙ sym two)))
                 ∙ ap (λ (n : ℕ). set both 0 n ++ drop tally_length t) (hm ∙ sym (ap₂ max first second))
                 ∙ sym (ap (λ (b : Bool). when b then joined (take tally_length t) (take tally_length o) ++ drop tally_length t else t) (ap is_done answer)),
           )
-
-pub ruleset join-ways = (join-few, join-few-other, join-above, join-done)
 
 -- ---- fill
 
@@ -146,8 +144,6 @@ module _ (log t : List ℕ) (j : Judged) (hj : j ≡ judged_of log) (r : Bool) (
                 ∙ ap (λ (L : Traces). tally_of (log_of log).activities L ++ drop tally_length t) (walk-all log)
                 ∙ sym (ap (λ (b : Bool). when b then tally_of (log_of log).activities (log_of log).traces ++ drop tally_length t else t) (ap is_done answer)),
           )
-
-pub ruleset fill-ways = (fill-refused, fill-few, fill-above, fill_done)
 
 -- ---- relations
 

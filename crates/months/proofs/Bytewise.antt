@@ -1,13 +1,12 @@
--- Two tallies joined byte by byte: one byte further, and the ways out. Assumes nothing.
+-- Two lists joined byte by byte: one byte further, and all of them. Assumes nothing.
 use mathlib.Core.Path.{◌≡◌, refl, sym, ap, ap₂, ◌∙◌}
-use mathlib.Core.List.{List, [], ◌∷◌, ◌++◌, append_assoc}
+use mathlib.Core.List.{List, [], ◌∷◌, ◌++◌, append_assoc, append-nil}
 use Prim.Native.Nat.{ℕ, suc, ◌+◌, ◌≤◌, ◌<◌}
 use native.Mathlib.Numerals.{add-one}
 use native.Mathlib.Omega.{arith}
 use lib.Bits.{bit_or}
-use lib.ListN.{length, get_or, set, take, drop}
-use lib.Seq.{take-suc, drop-cons, length-take-le, set_at, get_or_at}
-use Rattle.months.specs.Layout.{tally_length}
+use lib.ListN.{length, get_or, set, take, drop, drop_of_length-le}
+use lib.Seq.{take_all, take-suc, drop-cons, length-take-le, set_at, get_or_at}
 use Rattle.months.specs.Months.{bytes_or}
 
 pub length-or : (xs ys : List ℕ) → length xs ≡ length ys → length (bytes_or xs ys) ≡ length xs
@@ -53,6 +52,9 @@ module _ (t₀ o : List ℕ) (i : ℕ) (h : i < length t₀) (k : i < length o) 
       ∙ ap₂ bytes_or (sym (take-suc t₀ i 0 h)) (sym (take-suc o i 0 k)))
       ∙ ap (or_to t₀ o) (sym (add-one i))
 
-pub or-end : (t o : List ℕ) (i : ℕ) (out : List ℕ) → tally_length ≤ i → i ≤ tally_length → out ≡ or_to t o i
-    → out ≡ bytes_or (take tally_length t) (take tally_length o) ++ drop tally_length t
-or-end t o i out g l h = let same : i ≡ tally_length = omega arith in h ∙ ap (or_to t o) same
+-- all of them
+pub or-end : (t o : List ℕ) (i : ℕ) (out : List ℕ) → length t ≡ length o → length o ≤ i → out ≡ or_to t o i → out ≡ bytes_or t o
+or-end t o i out e g h =
+    h
+    ∙ (λ j. bytes_or (take_all i t (omega arith) j) (take_all i o g j) ++ drop_of_length-le t {i = i} (omega arith) j)
+    ∙ append-nil (bytes_or t o)

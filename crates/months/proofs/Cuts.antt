@@ -5,15 +5,17 @@ use mathlib.Core.List.{List, [], ◌∷◌, reverse_aux}
 use Prim.Native.Nat.{ℕ, zero, suc, ◌+◌, ◌-◌, ◌*◌, ◌≤◌, ◌<◌}
 use native.Mathlib.Numerals.{add-one}
 use native.Mathlib.Omega.{arith}
-use borrow.Author.Tests.{lt-ltb, le-ltb}
-use lib.Dec.{eqb, ltb}
-use lib.ListN.{length, get_or, set, length-set}
-use lib.Seq.{get_or-set_same, take-set-le}
+use borrow.Author.Tests.{lt-ltb, le-ltb, eqb-true, eqb-false}
+use lib.Arith.{lt_of_le-ne}
+use lib.Dec.{eqb, ltb, eqb_refl}
+use lib.ListN.{length, get_or, set, length-set, length-replicate}
+use lib.Seq.{get_or-set_same, get_or-set_other, take-set-le}
 use Rattle.sets.specs.Tests.{◌and◌, ◌or◌, non, when◌then◌else◌}
-use Rattle.sets.specs.Members.{width, mem, those, no_set}
-use Rattle.sets.specs.Rows.{row_words, row_at, with_row, in_row}
+use Rattle.sets.specs.Members.{width, mem, those, no_set, count_below}
+use Rattle.sets.specs.Rows.{row_words, no_rows, row_at, with_row, in_row}
 use Rattle.sets.specs.declared.set.Set.{Set}
-use Rattle.sets.proofs.Tests.{or_assoc, and-false, false-and}
+use Rattle.sets.proofs.Tests.{T→true, true→T, or_assoc, or-true, or-false, and-true, and-false, false-and}
+use Rattle.sets.proofs.Below.{count-ext, count_less, count-le}
 use Rattle.sets.proofs.Tautologies.{by3, by5}
 use Rattle.sets.proofs.Members.{mem-none, mem-those}
 use Rattle.sets.proofs.MadeSets.{is-those}
@@ -200,15 +202,66 @@ widen-walk (x ∷ F) gaps e u v lv lg lc =
     ∙ ap (λ (b : Bool). mem (row_at gaps i) v or b) (mem-those (λ b. eqb b e) v lv))
     (λ j l. ap (λ (s : Set). mem s v) (row-put-other gaps i (gained_by gaps i e) j (λ q. omega arith)))
 
+-- ---- as many first places as activities that were seen
+
+kept-none_count : count_below tally_width (λ x. false) ≡ 0
+unfolding count_below
+kept-none_count = refl
+
+pub kept-none : (firsts gaps : List ℕ) → length firsts ≡ tally_width → gaps ≡ no_rows
+    → (0 ≡ count_below tally_width (mem no_set)) × Kept firsts gaps 0
+kept-none firsts gaps hf hg = (
+  sym (count-ext tally_width (mem no_set) (λ x. false) (λ x l. mem-none x) ∙ kept-none_count),
+  (omega arith, hf, ap length hg ∙ length-replicate {A = ℕ} row_words 0, λ j l. absurd (omega arith)),
+)
+
+pub kept-wide : (firsts gaps gaps' : List ℕ) (count e : ℕ) → Kept firsts gaps count → gaps' ≡ widened gaps count e → Kept firsts gaps' count
+kept-wide firsts gaps gaps' count e kept h = (kept.0, kept.1, ap length h ∙ widen-long gaps count e ∙ kept.2, kept.3)
+
+-- one more: e
+module _ (seen : Seen) (e : ℕ) (h : seen.count ≡ count_below tally_width (mem seen.set)) (new : mem seen.set e ≡ false) (low : e < tally_width) where
+  pub counted-more : (both : Set) → both ≡ those (λ x. mem seen.set x or eqb x e) → seen.count + 1 ≡ count_below tally_width (mem both)
+  unfolding non
+  counted-more both hb =
+      let has-e : mem both e ≡ true =
+      is-those both _ hb e (omega arith) ∙ ap (λ (b : Bool). mem seen.set e or b) (T→true _ (eqb_refl e)) ∙ or-true (mem seen.set e) in
+      add-one seen.count
+      ∙ ap suc h
+      ∙ sym (count_less tally_width (mem both) e low (true→T has-e)
+      ∙ ap suc (count-ext tally_width _ _
+      (λ x l. ap (λ (b : Bool). b and non (eqb x e)) (is-those both _ hb x (omega arith)) ∙ by x (eqb x e) refl)))
+    where
+      by : (x : ℕ) (b : Bool) → eqb x e ≡ b → ((mem seen.set x or b) and non b) ≡ mem seen.set x
+      by x true q = and-false _ ∙ sym (ap (mem seen.set) (eqb-true x e q) ∙ new)
+      by x false q = and-true _ ∙ or-false (mem seen.set x)
+
+  pub room-more : seen.count < tally_width
+  room-more =
+      let most = count-le tally_width (mem (those (λ x. mem seen.set x or eqb x e))) in
+      let more = counted-more (those (λ x. mem seen.set x or eqb x e)) refl in
+      omega (arith, most, more)
+
+  module _ (firsts gaps : List ℕ) (kept : Kept firsts gaps seen.count) where
+    inside : seen.count < length firsts
+    inside = omega (arith, room-more, kept.1)
+
+    low-more : (j : ℕ) → j < seen.count + 1 → (b : Bool) → eqb j seen.count ≡ b → get_or (set firsts seen.count e) j 0 < tally_width
+    low-more j l true q =
+        subst (λ (n : ℕ). n < tally_width)
+        (sym (ap (λ (n : ℕ). get_or (set firsts seen.count e) n 0) (eqb-true j seen.count q) ∙ get_or-set_same firsts seen.count e 0 inside)) low
+    low-more j l false q =
+        let ne = eqb-false j seen.count q in
+        let less : j < seen.count = lt_of_le-ne (omega arith) ne in
+        subst (λ (n : ℕ). n < tally_width) (sym (get_or-set_other firsts seen.count j e 0 ne)) (kept.3 j less)
+
+    pub kept-more : Kept (set firsts seen.count e) gaps (seen.count + 1)
+    kept-more = (omega (arith, room-more), length-set firsts seen.count e ∙ kept.1, kept.2, λ j l. low-more j l (eqb j seen.count) refl)
+
 -- ---- a first place
 
 pub first-put : (firsts : List ℕ) (count e : ℕ) → count < tally_width → set firsts count e ≡ with_first firsts count e
 unfolding with_first
 first-put firsts count e l = sym (ap (λ (t : Bool). when t then set firsts count e else firsts) (lt-ltb count tally_width l))
-
-pub first-full : (firsts : List ℕ) (count e : ℕ) → tally_width ≤ count → firsts ≡ with_first firsts count e
-unfolding with_first
-first-full firsts count e l = sym (ap (λ (t : Bool). when t then set firsts count e else firsts) (le-ltb count tally_width l))
 
 module _ (firsts : List ℕ) (seen : Seen) (e : ℕ) where
   old-stays : is_new seen e ≡ false → (seen ≡ seen_with seen e) × (firsts ≡ firsts_with firsts seen e)

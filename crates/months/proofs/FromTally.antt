@@ -8,17 +8,17 @@ use borrow.Author.Tests.{lt-ltb, le-ltb, eqb-true, eqb-false}
 use lib.Dec.{eqb, ltb, lt→ltb, ltb→lt}
 use lib.ListN.{get_or}
 use Rattle.sets.specs.Tests.{◌and◌, ◌or◌, non, when◌then◌else◌}
-use Rattle.sets.specs.Members.{width, mem, those, no_set, some_below, least_below, is_empty}
+use Rattle.sets.specs.Members.{width, mem, those, no_set, some_below, is_empty, Takes}
 use Rattle.sets.specs.Rows.{Relation, row_words, no_rows, row_at, with_row, in_row, rows_of, rows_for, turned}
 use Rattle.sets.specs.Tables.{no_tables, table_at, with_table, tables_of}
 use Rattle.sets.specs.declared.set.Set.{Set}
-use Rattle.sets.proofs.Tests.{T-ext, true-and, false-and}
+use Rattle.sets.proofs.Tests.{T-ext, true-and, false-and, or-true, or-false}
 use Rattle.sets.proofs.Below.{some-ext}
 use Rattle.sets.proofs.Members.{Whole, those-ext}
 use Rattle.sets.proofs.MadeSets.{is-those, is_row, joined, less}
 use Rattle.sets.proofs.RowLaws.{row-in_lem, row-rows_of, in-rows_of, rows_of-ext, empty-rows_of, put-rows_of}
 use Rattle.sets.proofs.TableLaws.{table-row-is, tables_of-ext, empty-tables_of, fill-tables_of}
-use Rattle.sets.proofs.Passing.{Part, passed, in_some, union-start, union-turn, union-end, least-low}
+use Rattle.sets.proofs.Passing.{Part, passed, passed_none, passed-all, passed-turn, part-turn, in_some, union-start, union-turn, union-whole, least-low}
 use Rattle.octets.specs.Sets.{set_length}
 use Rattle.octets.proofs.Codec.{Bytes}
 use Rattle.octets.proofs.SetLaws.{set-whole}
@@ -96,18 +96,54 @@ module _ (R : Relation) (all : Set) where
   pub gather-start : GatheredFrom R all no_set all
   gather-start = union-start (rows_of R) all
 
-  pub gather-turn : (out out' row rest rest' : Set) (k : ℕ) (r : Bool) → GatheredFrom R all out rest → r ≡ is_empty rest → r ≡ false
-      → k ≡ least_below width (mem rest) → row ≡ those (R k) → out' ≡ those (λ a. mem out a or mem row a)
-      → rest' ≡ those (λ b. mem rest b and non (eqb b (least_below width (mem rest)))) → GatheredFrom R all out' rest'
-  gather-turn out out' row rest rest' k r inv hr hn hk hw hu hm =
-      union-turn (rows_of R) all out out' row rest rest' r inv.0 inv.1 hr hn
-      (hw ∙ ap (λ (n : ℕ). those (R n)) hk ∙ sym (row-rows_of R _ (least-low rest rest' r hr hn hm))) hu hm
+  pub gather-turn : (out out' row rest rest' : Set) (k : ℕ) → GatheredFrom R all out rest → Takes rest k rest' → row ≡ those (R k)
+      → out' ≡ those (λ a. mem out a or mem row a) → GatheredFrom R all out' rest'
+  gather-turn out out' row rest rest' k inv t hw hu =
+      union-turn (rows_of R) all out out' row rest rest' _ inv.0 inv.1 refl t.0
+      (hw ∙ ap (λ (n : ℕ). those (R n)) t.1 ∙ sym (row-rows_of R _ (least-low rest rest' _ refl t.0 t.2))) hu t.2
 
-  pub gather-end : (out rest : Set) (r : Bool) → GatheredFrom R all out rest → r ≡ is_empty rest → r ≡ true
-      → out ≡ those (λ x. some_below width (λ u. mem all u and R u x))
-  gather-end out rest r inv hr hn =
-      union-end (rows_of R) all out rest r inv.1 hr hn
-      ∙ those-ext _ _ (λ x lx. some-ext width _ _ (λ u lu. ap (λ (b : Bool). mem all u and b) (in-rows_of R u x lu lx)))
+  pub gather-end : (out rest whole : Set) → GatheredFrom R all out rest → is_empty rest ≡ true → all ≡ whole
+      → out ≡ those (λ x. some_below width (λ u. mem whole u and R u x))
+  gather-end out rest whole inv n same =
+      union-whole (rows_of R) all out rest whole inv.1 n same
+      ∙ those-ext _ _ (λ x lx. some-ext width _ _ (λ u lu. ap (λ (b : Bool). mem whole u and b) (in-rows_of R u x lu lx)))
+
+-- ---- a row for each member that was passed
+
+abbrev pub FilledFrom : Relation → Set → List ℕ → Set → Type 0
+FilledFrom F all out rest = (Part all rest) × (out ≡ rows_of (λ a x. passed all rest a and F a x))
+
+module _ (F : Relation) (all : Set) where
+  pub fill-start : (out : List ℕ) → out ≡ no_rows → FilledFrom F all out all
+  fill-start out h = (
+    λ a l t. t,
+    h ∙ empty-rows_of _ (λ a x la lx. ap (λ (b : Bool). b and F a x) (passed_none all a) ∙ false-and (F a x)),
+  )
+
+  pub fill-turn : (out out' : List ℕ) (row rest rest' : Set) (k : ℕ) → FilledFrom F all out rest → Takes rest k rest' → row ≡ those (F k)
+      → out' ≡ with_row out k row → FilledFrom F all out' rest'
+  fill-turn out out' row rest rest' k inv t hr h = (
+    part-turn rest rest' _ refl t.0 t.2 all inv.0,
+    h ∙ ap₂ (λ (l : List ℕ) (s : Set). with_row l k s) inv.1 hr ∙ put-rows_of (λ a x. passed all rest a and F a x) k (F k)
+        ∙ rows_of-ext _ _ (λ a x la lx. by a x la (eqb a k) refl),
+  )
+    where
+      more : (a : ℕ) → a < width → (b : Bool) → eqb a k ≡ b → (passed all rest a or b) ≡ passed all rest' a
+      more a la b e =
+          ap (λ (c : Bool). passed all rest a or c) (sym e ∙ ap (eqb a) t.1) ∙ sym (passed-turn rest rest' _ refl t.0 t.2 all inv.0 a la)
+
+      by : (a x : ℕ) → a < width → (b : Bool) → eqb a k ≡ b
+          → (when b then F k x else (passed all rest a and F a x)) ≡ (passed all rest' a and F a x)
+      by a x la true e =
+          ap (λ (n : ℕ). F n x) (sym (eqb-true a k e)) ∙ sym (true-and (F a x))
+          ∙ ap (λ (b : Bool). b and F a x) (sym (or-true (passed all rest a)) ∙ more a la true e)
+      by a x la false e = ap (λ (b : Bool). b and F a x) (sym (or-false (passed all rest a)) ∙ more a la false e)
+
+  pub fill-end : (out : List ℕ) (rest whole : Set) → FilledFrom F all out rest → is_empty rest ≡ true → all ≡ whole → out ≡ rows_for whole F
+  unfolding rows_for
+  fill-end out rest whole inv n same =
+      inv.1 ∙ rows_of-ext _ (λ a x. mem whole a and F a x)
+      (λ a x la lx. ap (λ (b : Bool). b and F a x) (passed-all all rest _ refl n a la ∙ ap (λ (s : Set). mem s a) same))
 
 -- what is read of one pair
 pub pair-those : (tally : List ℕ) (u s : ℕ) (r : Set) → (r ≡ set_in tally (pair_set u s)) × (those (mem r) ≡ r)
@@ -161,45 +197,7 @@ excluded-is tally alternate includes excludes s m gone x r hm hg hx h =
 
 -- ---- the stages
 
-module _ (events : Set) (tables : List ℕ) (p : Profile) (by five : List ℕ)
-    (hb : by ≡ rows_for events (excluders events (table_at tables before_table) (table_at tables later_table) (chains_of events tables)))
-    (hf : five ≡ rows_of (turned by)) where
-  pub excludes-light-is : p ≡ Light → five ≡ excludes_six p events tables
-  excludes-light-is e = hf ∙ ap (λ (l : List ℕ). rows_of (turned l)) hb ∙ ap (λ (q : Profile). excludes_six q events tables) (sym e)
-
-  pub excludes-full-is : (never out : List ℕ) → p ≡ Full → never ≡ rows_for events (absent events (table_at tables followed_table))
-      → out ≡ rows_for events (in_either five never) → out ≡ excludes_six p events tables
-  excludes-full-is never out e hn h =
-      h ∙ ap₂ (λ (x y : List ℕ). rows_for events (in_either x y)) (hf ∙ ap (λ (l : List ℕ). rows_of (turned l)) hb) hn
-      ∙ ap (λ (q : Profile). excludes_six q events tables) (sym e)
-
 module _ (events : Set) (tally tables : List ℕ) where
-  pub full_is : (chains never unf by out : List ℕ) → never ≡ rows_for events (absent events (table_at tables followed_table)) → unf ≡ rows_of (turned never)
-      → by ≡ rows_for events (includers events chains unf (between_in tally)) → out ≡ rows_of (turned by)
-      → out ≡ rows_of (turned (rows_for events (includers events chains (unfollowing events tables) (between_in tally))))
-  full_is chains never unf by out hn hu hb h =
-      h ∙ ap (λ (l : List ℕ). rows_of (turned l)) (hb ∙ ap (λ (l : List ℕ). rows_for events (includers events chains l (between_in tally)))
-      (hu ∙ ap (λ (l : List ℕ). rows_of (turned l)) hn))
-
-  module _ (p : Profile) (chains out : List ℕ) (hc : chains ≡ rows_for events (unbroken events (table_at tables unchained_table))) where
-    pub includes-full-is : p ≡ Full
-        → out ≡ rows_of (turned (rows_for events (includers events chains (unfollowing events tables) (between_in tally))))
-        → out ≡ includes_in p events tables (between_in tally)
-    includes-full-is e h =
-        h ∙ ap (λ (l : List ℕ). rows_of (turned (rows_for events (includers events l (unfollowing events tables) (between_in tally))))) hc
-        ∙ ap (λ (q : Profile). includes_in q events tables (between_in tally)) (sym e)
-
-    pub includes-light-is : p ≡ Light → out ≡ rows_of (turned chains) → out ≡ includes_in p events tables (between_in tally)
-    includes-light-is e h =
-        h ∙ ap (λ (l : List ℕ). rows_of (turned l)) hc ∙ ap (λ (q : Profile). includes_in q events tables (between_in tally)) (sym e)
-
-  pub seven_is : (p : Profile) (includes six alternate out : List ℕ) → six ≡ excludes_six p events tables
-      → alternate ≡ rows_for events (absent events (table_at tables unalternated_table))
-      → out ≡ rows_for events (excluded alternate includes six (between_in tally))
-      → out ≡ excludes_from events tables includes (excludes_six p events tables) (between_in tally)
-  seven_is p includes six alternate out h6 ha h =
-      h ∙ ap₂ (λ (x y : List ℕ). rows_for events (excluded x includes y (between_in tally))) ha h6
-
   pub eight_is : (p : Profile) (none c r i x t₁ t₂ t₃ t₄ : List ℕ) → none ≡ no_tables 4 → c ≡ rows_for events (reduced_of (conditions_of events tables))
       → t₁ ≡ with_table none 0 c → r ≡ rows_for events (reduced_of (responses_of events tables)) → t₂ ≡ with_table t₁ 1 r
       → i ≡ includes_in p events tables (between_in tally) → t₃ ≡ with_table t₂ 2 i

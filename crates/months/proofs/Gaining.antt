@@ -43,12 +43,6 @@ gained-both t t' t'' one two g k base p tail h =
 pub at_set : (tally : List ℕ) (w w' : ℕ) (r : Set) → w ≡ w' → r ≡ set_at false tally (set_length false * w) → r ≡ set_in tally w'
 at_set tally w w' r e h = h ∙ ap (set_in tally) e
 
-pub pair-joined : (tally out : List ℕ) (u s w : ℕ) (old since new : Set) → old ≡ set_in tally (pair_set u s)
-    → new ≡ those (λ a. mem old a or mem since a) → w ≡ pair_set u s → out ≡ set_put false tally (set_length false * w) new
-    → out ≡ set_put false tally (set_length false * pair_set u s) (those (λ v. mem (set_in tally (pair_set u s)) v or mem since v))
-pair-joined tally out u s w old since new ho hn hw h =
-    h ∙ (λ i. set_put false tally (set_length false * hw i) (hn i)) ∙ (λ i. set_put false tally (set_length false * pair_set u s) (those (λ v. mem (ho i) v or mem since v)))
-
 pub put-length : (tally out : List ℕ) (at : ℕ) (s : Set) → out ≡ set_put false tally at s → length out ≡ length tally
 put-length tally out at s h = ap length h ∙ length-put false tally at s
 
@@ -104,6 +98,3 @@ module _ (log : List ℕ) where
       ap (λ (τ : List ℕ). between_to log k u s v or at_some v (λ past rest. past has u and rest has s) τ) e
       ∙ sym (some_next log (at_some v (λ past rest. past has u and rest has s)) k))
       (gained-both t₀ t t' (between_to log k) _ g n)
-
-  pub traces-end : (n k : ℕ) (t₀ t : List ℕ) → n ≤ k → k ≤ n → Gained t₀ (between_to log k) t → Gained t₀ (λ u s v. between (walked log n 0) u v s) t
-  traces-end n k t₀ t g l inv = let same : k ≡ n = omega arith in subst (λ (m : ℕ). Gained t₀ (between_to log m) t) same inv

@@ -170,7 +170,3 @@ tally-filled A L none tables events t₁ t₂ tail hn he ht h₁ g =
     let answers : Answered L tables =
     λ k a x lk la lx. ap (λ (t : List ℕ). in_row (table_at t k) a x) (ht ∙ ap (λ (t : List ℕ). through (noted_for false) t L) hn) ∙ narrow-answers L k a x lk la lx in
     filled L events tables he answers A t₁ t₂ (set t₂ 0 A) tail h₁ g refl
-
-pub filled-long : (A : ℕ) (L : Traces) (t out : List ℕ) → tally_length ≤ length t → out ≡ tally_of A L ++ drop tally_length t → length out ≡ length t
-filled-long A L t out h e =
-    ap length e ∙ length-append (tally_of A L) (drop tally_length t) ∙ omega (arith, length-held L A, length-drop tally_length t)

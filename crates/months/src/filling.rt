@@ -37,10 +37,8 @@ fn put_initial(events: Set, tables: &Tally, tally: &mut [u8])
     requires { tally_length ≤ length tally.old }
     ensures { tally.new ≡ sets_from set_count 0 (initial_of events tables.now) ++ drop tally_length tally.old }
 {
-    let mut w: usize = 0;
-    while w < layout::SETS {
+    for w in 0..layout::SETS {
         octets::put_set(tally, set::NARROW * w, initial(events, tables, w), false);
-        w += 1;
     }
 }
 

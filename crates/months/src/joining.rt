@@ -1,27 +1,18 @@
 // Two tallies in one (02, 12/12): into the first, so that a year needs one buffer beside the month at hand.
-ghost use Rattle.std.specs.Prelude.{◌≡◌, ◌++◌, ◌≤◌, max, length, take, drop};
-ghost use Rattle.months.specs.Layout.{tally_length};
+ghost use Rattle.std.specs.Prelude.{◌≡◌, length};
 ghost use Rattle.months.specs.Months.{join_answer, bytes_or, joined_of};
 
 use crate::layout;
 use sets::Answer;
 
-fn larger(a: u8, b: u8) -> u8
-    ensures { result ≡ max a b }
-{
-    if a < b { b } else { a }
-}
-
 // Byte by byte the bits of either.
-fn join_bytes(tally: &mut [u8], other: &[u8])
-    requires { (tally_length ≤ length tally.old) × (tally_length ≤ length other.now) }
-    ensures { tally.new ≡ bytes_or (take tally_length tally.old) (take tally_length other.now)
-        ++ drop tally_length tally.old }
+fn join_bytes(bytes: &mut [u8], other: &[u8])
+    requires { length bytes.old ≡ length other.now }
+    ensures { bytes.new ≡ bytes_or bytes.old other.now }
 {
-    let mut i: usize = 0;
-    while i < layout::LENGTH {
-        tally[i] = tally[i] | other[i];
-        i += 1;
+    // Not over both at once: a proof knows nothing of what is written through a `zip` of `iter_mut`.
+    for (i, &byte) in other.iter().enumerate() {
+        bytes[i] |= byte;
     }
 }
 
@@ -36,11 +27,11 @@ pub fn join(tally: &mut [u8], other: &[u8]) -> Answer
     if other.len() < layout::LENGTH {
         return Answer::BufferTooSmall;
     }
-    let activities = larger(tally[0], other[0]);
+    let activities = tally[0].max(other[0]);
     if layout::LIMIT < activities {
         return Answer::AboveLimit;
     }
-    join_bytes(tally, other);
+    join_bytes(&mut tally[..layout::LENGTH], &other[..layout::LENGTH]);
     tally[0] = activities;
     Answer::Done
 }

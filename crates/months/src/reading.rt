@@ -37,10 +37,8 @@ fn rows_in(tally: &[u8], k: u8) -> Rows
     ensures { result ≡ rows_of (λ a x. ltb a tally_width and mem (set_in tally.now (row_set k a)) x) }
 {
     let mut out = rows::empty();
-    let mut i: u8 = 0;
-    while i < layout::LIMIT {
+    for i in 0..layout::LIMIT {
         rows::put(&mut out, Activity(i), layout::row(tally, k, Activity(i)));
-        i += 1;
     }
     out
 }
@@ -50,11 +48,9 @@ fn tables_in(tally: &[u8]) -> Tally
     ensures { result ≡ tables_in tally.now }
 {
     let mut out = log::empty();
-    let mut k: u8 = 0;
-    while k < layout::TABLES {
+    for k in 0..layout::TABLES {
         let rows = rows_in(tally, k);
         tables::put_rows(&mut out, k, &rows);
-        k += 1;
     }
     out
 }
@@ -66,183 +62,156 @@ fn let_in(tally: &[u8], members: Set, t: Activity) -> Set
     ensures { result ≡ those (λ x. some_below width (λ s. mem members s and mem (set_in tally.now (pair_set s t.0)) x)) }
 {
     let mut out = Set::EMPTY;
-    let mut rest = members;
-    while !rest.is_empty() {
-        out = out.union(layout::between(tally, rest.least(), t));
-        rest = rest.without_least();
+    for s in members.members() {
+        out = out.union(layout::between(tally, s, t));
     }
     out
 }
 
-fn includers_row<'a>(
+// What is read of one tally: its events, its bytes, which have the sets of the pairs, and its tables.
+#[derive(Clone, Copy)]
+struct Reading<'a> {
     events: Set,
     tally: &'a [u8],
-    chains: &'a Rows,
-    never: &'a Rows,
-    t: Activity,
-) -> Set
-    ensures { result ≡ those (includers events chains.now never.now (between_in tally.now) t.0) }
-{
-    let back = let_in(tally, rows::row(never, t), t);
-    events.intersection(rows::row(chains, t).union(back))
+    tables: &'a Tally,
 }
 
-// By target what includes it. Row t of `never` has what t never directly follows.
-fn includers<'a>(events: Set, tally: &'a [u8], chains: &'a Rows, never: &'a Rows) -> Rows
-    ensures { result ≡ rows_for events (includers events chains.now never.now (between_in tally.now)) }
-{
-    let mut out = rows::empty();
-    let mut a = events.least();
-    while a.0 < Activity::LIMIT {
-        let row = includers_row(events, tally, chains, never, a);
-        rows::put(&mut out, a, row);
-        a = events.next(a);
+impl Reading<'_> {
+    fn includers_row(&self, chains: &Rows, never: &Rows, t: Activity) -> Set
+        ensures { result ≡ those (includers self.now.events chains.now never.now (between_in self.now.tally.now) t.0) }
+    {
+        let back = let_in(self.tally, rows::row(never, t), t);
+        self.events.intersection(rows::row(chains, t).union(back))
     }
-    out
-}
 
-// Step 6 made: by source.
-fn includes_full<'a>(events: Set, tally: &'a [u8], tables: &'a Tally, chains: &'a Rows) -> Rows
-    ensures { result ≡ rows_of (turned (rows_for events (includers events chains.now (unfollowing events tables.now)
-        (between_in tally.now)))) }
-{
-    let never = relations::absent(events, tables, log::FOLLOWED);
-    let unfollowing = rows::turned(&never);
-    let by_target = includers(events, tally, chains, &unfollowing);
-    rows::turned(&by_target)
-}
-
-// The includes after step 6, made or skipped.
-fn includes_six<'a>(events: Set, tally: &'a [u8], tables: &'a Tally, profile: Profile) -> Rows
-    ensures { result ≡ includes_in profile events tables.now (between_in tally.now) }
-{
-    let chains = relations::unbroken(events, tables, log::UNCHAINED);
-    match profile {
-        Profile::Full => includes_full(events, tally, tables, &chains),
-        Profile::Light => rows::turned(&chains),
-    }
-}
-
-// The excludes after step 6, made or skipped.
-fn excludes_six(events: Set, tables: &Tally, profile: Profile) -> Rows
-    ensures { result ≡ excludes_six profile events tables.now }
-{
-    let excluded = miner::excluded_five(events, tables);
-    let five = rows::turned(&excluded);
-    match profile {
-        Profile::Full => {
-            let never = relations::absent(events, tables, log::FOLLOWED);
-            relations::united(events, &five, &never)
+    // By target what includes it. Row t of `never` has what t never directly follows.
+    fn includers(&self, chains: &Rows, never: &Rows) -> Rows
+        ensures { result ≡ rows_for self.now.events (includers self.now.events chains.now never.now (between_in self.now.tally.now)) }
+    {
+        let mut out = rows::empty();
+        for a in self.events.members() {
+            let row = self.includers_row(chains, never, a);
+            rows::put(&mut out, a, row);
         }
-        Profile::Light => five,
+        out
+    }
+
+    // Step 6 made: by source.
+    fn includes_full(&self, chains: &Rows) -> Rows
+        ensures { result ≡ rows_of (turned (rows_for self.now.events (includers self.now.events chains.now
+            (unfollowing self.now.events self.now.tables.now) (between_in self.now.tally.now)))) }
+    {
+        let tables = self.tables;
+        let never = relations::absent(self.events, tables, log::FOLLOWED);
+        let unfollowing = rows::turned(&never);
+        let by_target = self.includers(chains, &unfollowing);
+        rows::turned(&by_target)
+    }
+
+    // The includes after step 6, made or skipped.
+    fn includes_six(&self, profile: Profile) -> Rows
+        ensures { result ≡ includes_in profile self.now.events self.now.tables.now (between_in self.now.tally.now) }
+    {
+        let tables = self.tables;
+        let chains = relations::unbroken(self.events, tables, log::UNCHAINED);
+        match profile {
+            Profile::Full => self.includes_full(&chains),
+            Profile::Light => rows::turned(&chains),
+        }
+    }
+
+    // The excludes after step 7.
+    fn excludes_seven(&self, includes: &Rows, profile: Profile) -> Rows
+        ensures { result ≡ excludes_from self.now.events self.now.tables.now includes.now
+            (excludes_six profile self.now.events self.now.tables.now) (between_in self.now.tally.now) }
+    {
+        let tables = self.tables;
+        let six = miner::excludes_six(self.events, tables, profile);
+        let alternating = relations::absent(self.events, tables, log::UNALTERNATED);
+        let asked = Exclusions {
+            tally: self.tally,
+            alternating: &alternating,
+            includes,
+            excludes: &six,
+        };
+        asked.excluded(self.events)
+    }
+
+    // The relations after step 8.
+    fn after_eight(&self, profile: Profile) -> Relations
+        ensures { result ≡ relations_from self.now.events self.now.tables.now (between_in self.now.tally.now) profile }
+    {
+        let mut out: Relations = [0; KINDS as usize * WORDS];
+        let conditions = miner::conditions_eight(self.events, self.tables);
+        tables::put_rows(&mut out, CONDITIONS, &conditions);
+        let responses = miner::responses_eight(self.events, self.tables);
+        tables::put_rows(&mut out, RESPONSES, &responses);
+        let includes = self.includes_six(profile);
+        tables::put_rows(&mut out, INCLUDES, &includes);
+        let excludes = self.excludes_seven(&includes, profile);
+        tables::put_rows(&mut out, EXCLUDES, &excludes);
+        out
     }
 }
 
 // ---- step 7
 
-// What u excludes and neither it nor anything between a u and a later s includes.
-fn redundant_by<'a>(
+// What step 7 asks: what stands between two activities, the includes and the excludes after step 6, and in row s of `alternating` what
+// alternately precedes s.
+#[derive(Clone, Copy)]
+struct Exclusions<'a, 'b> {
     tally: &'a [u8],
-    includes: &'a Rows,
-    excludes: &'a Rows,
-    u: Activity,
-    s: Activity,
-) -> Set
-    ensures { result ≡ those (redundant_by includes.now excludes.now (between_in tally.now) u.0 s.0) }
-{
-    let shut = rows::row(excludes, u).difference(rows::row(includes, u));
-    let back = relations::union_of(includes, 0, layout::between(tally, u, s));
-    shut.difference(back)
+    alternating: &'b Rows,
+    includes: &'b Rows,
+    excludes: &'b Rows,
 }
 
-// What some member makes redundant.
-fn redundant_row<'a>(
-    tally: &'a [u8],
-    includes: &'a Rows,
-    excludes: &'a Rows,
-    members: Set,
-    s: Activity,
-) -> Set
-    ensures { result ≡ those (λ x. some_below width (λ u. mem members u and redundant_by includes.now excludes.now
-        (between_in tally.now) u s.0 x)) }
-{
-    let mut out = Set::EMPTY;
-    let mut rest = members;
-    while !rest.is_empty() {
-        out = out.union(redundant_by(tally, includes, excludes, rest.least(), s));
-        rest = rest.without_least();
+impl Exclusions<'_, '_> {
+    // What u excludes and neither it nor anything between a u and a later s includes.
+    fn redundant_by(&self, u: Activity, s: Activity) -> Set
+        ensures { result ≡ those (redundant_by self.now.includes.now self.now.excludes.now (between_in self.now.tally.now) u.0 s.0) }
+    {
+        let shut = rows::row(self.excludes, u).difference(rows::row(self.includes, u));
+        let includes = self.includes;
+        let back = relations::union_of(includes, 0, layout::between(self.tally, u, s));
+        shut.difference(back)
     }
-    out
-}
 
-fn excluded_row<'a>(
-    tally: &'a [u8],
-    alternating: &'a Rows,
-    includes: &'a Rows,
-    excludes: &'a Rows,
-    s: Activity,
-) -> Set
-    ensures { result ≡ those (excluded alternating.now includes.now excludes.now
-        (between_in tally.now) s.0) }
-{
-    let gone = redundant_row(tally, includes, excludes, rows::row(alternating, s), s);
-    rows::row(excludes, s).difference(gone)
-}
-
-// The excludes that are not redundant. Row s of `alternating` has what alternately precedes s.
-fn excluded<'a>(
-    events: Set,
-    tally: &'a [u8],
-    alternating: &'a Rows,
-    includes: &'a Rows,
-    excludes: &'a Rows,
-) -> Rows
-    ensures { result ≡ rows_for events (excluded alternating.now includes.now excludes.now
-        (between_in tally.now)) }
-{
-    let mut out = rows::empty();
-    let mut a = events.least();
-    while a.0 < Activity::LIMIT {
-        let row = excluded_row(tally, alternating, includes, excludes, a);
-        rows::put(&mut out, a, row);
-        a = events.next(a);
+    // What some member makes redundant.
+    fn redundant_row(&self, members: Set, s: Activity) -> Set
+        ensures { result ≡ those (λ x. some_below width (λ u. mem members u and redundant_by self.now.includes.now self.now.excludes.now
+            (between_in self.now.tally.now) u s.0 x)) }
+    {
+        let mut out = Set::EMPTY;
+        for u in members.members() {
+            out = out.union(self.redundant_by(u, s));
+        }
+        out
     }
-    out
-}
 
-// The excludes after step 7.
-fn excludes_seven<'a>(
-    events: Set,
-    tally: &'a [u8],
-    tables: &'a Tally,
-    includes: &'a Rows,
-    profile: Profile,
-) -> Rows
-    ensures { result ≡ excludes_from events tables.now includes.now (excludes_six profile events tables.now)
-        (between_in tally.now) }
-{
-    let six = excludes_six(events, tables, profile);
-    let alternating = relations::absent(events, tables, log::UNALTERNATED);
-    excluded(events, tally, &alternating, includes, &six)
+    fn excluded_row(&self, s: Activity) -> Set
+        ensures { result ≡ those (excluded self.now.alternating.now self.now.includes.now self.now.excludes.now
+            (between_in self.now.tally.now) s.0) }
+    {
+        let gone = self.redundant_row(rows::row(self.alternating, s), s);
+        rows::row(self.excludes, s).difference(gone)
+    }
+
+    // The excludes that are not redundant.
+    fn excluded(&self, events: Set) -> Rows
+        ensures { result ≡ rows_for events (excluded self.now.alternating.now self.now.includes.now self.now.excludes.now
+            (between_in self.now.tally.now)) }
+    {
+        let mut out = rows::empty();
+        for a in events.members() {
+            let row = self.excluded_row(a);
+            rows::put(&mut out, a, row);
+        }
+        out
+    }
 }
 
 // ---- all of them
-
-// The relations after step 8.
-fn after_eight<'a>(events: Set, tally: &'a [u8], tables: &'a Tally, profile: Profile) -> Relations
-    ensures { result ≡ relations_from events tables.now (between_in tally.now) profile }
-{
-    let mut out: Relations = [0; KINDS as usize * WORDS];
-    let conditions = miner::conditions_eight(events, tables);
-    tables::put_rows(&mut out, CONDITIONS, &conditions);
-    let responses = miner::responses_eight(events, tables);
-    tables::put_rows(&mut out, RESPONSES, &responses);
-    let includes = includes_six(events, tally, tables, profile);
-    tables::put_rows(&mut out, INCLUDES, &includes);
-    let excludes = excludes_seven(events, tally, tables, &includes, profile);
-    tables::put_rows(&mut out, EXCLUDES, &excludes);
-    out
-}
 
 // Nothing beside the number.
 fn refused(answer: Answer) -> Known
@@ -269,10 +238,15 @@ pub fn relations(tally: &[u8], profile: Profile) -> Known
     }
     let events = octets::set_at(tally, set::NARROW * layout::EVENTS, false);
     let tables = tables_in(tally);
+    let reading = Reading {
+        events,
+        tally,
+        tables: &tables,
+    };
     Known {
         answer: Answer::Done,
         activities,
         events,
-        relations: after_eight(events, tally, &tables, profile),
+        relations: reading.after_eight(profile),
     }
 }

@@ -7,6 +7,3 @@ use Rattle.months.proofs.filling.put_initial.Given as goal
 
 abbrev pub invariant-loop-w : goal.invariant-loop-w
 invariant-loop-w l = (l.w ≤ set_count) × (tally_length ≤ length l.initial.tally) × (length l.tally ≡ length l.initial.tally) × (l.tally ≡ initial_to l.events l.tables l.initial.tally l.w)
-
-abbrev pub decreases-loop-w : goal.decreases-loop-w
-decreases-loop-w l = set_count - l.w

@@ -7,6 +7,3 @@ use Rattle.months.proofs.pairs.note_log.Given as goal
 
 abbrev pub invariant-loop-k : goal.invariant-loop-k
 invariant-loop-k l = (l.k ≤ l.traces) × (length l.tally ≡ length l.initial.tally) × Gained l.initial.tally (between_to l.log l.k) l.tally
-
-abbrev pub decreases-loop-k : goal.decreases-loop-k
-decreases-loop-k l = l.traces - l.k

@@ -12,6 +12,3 @@ use Rattle.months.proofs.reading.tables_in.Given as goal
 
 abbrev pub invariant-loop-k : goal.invariant-loop-k
 invariant-loop-k l = (l.k ≤ table_count) × (length l.out ≡ table_count * row_words) × (l.out ≡ tables_to (λ j a x. ltb a tally_width and mem (set_in l.tally (row_set j a)) x) l.k)
-
-abbrev pub decreases-loop-k : goal.decreases-loop-k
-decreases-loop-k l = table_count - l.k
