@@ -3,6 +3,7 @@ ghost use Rattle.std.specs.Prelude.{◌≡◌, ◌<◌};
 ghost use Rattle.calllog.specs.Layout.{traces_in};
 ghost use Rattle.calllog.specs.Logs.{part_of, part_at, where_part, found_of, asked_of};
 
+use crate::layout::Entries;
 use crate::{judge, layout};
 use sets::Answer;
 
@@ -59,9 +60,7 @@ pub fn trace_at(bytes: &[u8], k: usize) -> &[u8]
     ensures { result.now ≡ part_at bytes.now k }
 {
     let p = trace_part(bytes, k);
-    let start = p.start;
-    let end = start + p.length;
-    &bytes[start..end]
+    &bytes[p.start..p.start + p.length]
 }
 
 // The part of the bytes that entry k names, where they have all of it.
@@ -73,8 +72,9 @@ fn entry_part(bytes: &[u8], k: u16) -> Part
     if bytes.len() < bodies {
         return Part::NONE;
     }
-    let start = bodies + layout::offset(bytes, k) as usize;
-    let length = layout::length(bytes, k) as usize;
+    let entries = Entries { bytes };
+    let start = bodies + entries.offset(k) as usize;
+    let length = entries.length(k) as usize;
     if bytes.len() < start + length {
         return Part::NONE;
     }
