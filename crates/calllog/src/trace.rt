@@ -7,7 +7,8 @@ use crate::layout::Entries;
 use crate::{judge, layout};
 use sets::Answer;
 
-// A part of the bytes: its first byte, and how many.
+// A part of the bytes: its first byte, and how many. It is no slice and no Option, for `part_of` (specs/Logs.antt) is what `trace_part` promises:
+// where the part stands, and 0 and 0 where there is none.
 #[derive(Clone, Copy)]
 pub struct Part {
     pub start: usize,

@@ -1,6 +1,6 @@
 use borrow.Author.Rules.{rules}
 use Rattle.finish.proofs.Searching.{opening}
-use Rattle.finish.proofs.search.open_from.Goals as goal
+use Rattle.finish.proofs.search.Search.open_from.Goals as goal
 
 pub loop-a-init : goal.loop-a-init
 loop-a-init c = search (opening, rules)
