@@ -7,21 +7,21 @@ use native.Mathlib.Nat.{not-suc-le-zero, pos_of_ne-zero}
 use native.Mathlib.Omega.{arith}
 use borrow.Author.Count.{below_more}
 use borrow.Author.Tests.{lt-ltb, le-ltb, ltb-true, ltb-false}
-use lib.Dec.{T, ltb}
+use lib.Dec.{T, eqb, ltb, eqb→eq}
 use Rattle.std.specs.Prelude.{Option, None, Some}
 use Rattle.std.specs.Bool.{then_some}
 use Rattle.sets.specs.Tests.{◌and◌, non, when◌then◌else◌}
-use Rattle.sets.specs.Members.{width, mem, those, least_below, next_above}
+use Rattle.sets.specs.Members.{width, mem, those, least_below, is_empty, Takes}
 use Rattle.sets.specs.Answers.{is_done}
 use Rattle.sets.specs.declared.activity.Activity.{Activity}
 use Rattle.sets.specs.declared.set.Set.{Set}
 use Rattle.sets.specs.declared.answer.Answer.{Answer}
 use Rattle.sets.specs.declared.answer.Answer.TheVariants.{Done, NoWayOut}
 use Rattle.sets.proofs.Ways.{failed, held, taken, passed-by}
-use Rattle.sets.proofs.Tests.{and_l, and_r, and_i, non-i, non-e, T→true, true→T, F→false, false→F, split, either}
+use Rattle.sets.proofs.Tests.{and_l, and_r, and_i, non-i, non-e, or-e, T-eq, T→true, true→T, F→false, false→F, split, either}
 use Rattle.sets.proofs.Below.{some-i, some-e, least-ext, least-le, least-is, least-before, least-only}
 use Rattle.sets.proofs.MadeSets.{is-those, less}
-use Rattle.sets.proofs.Loops.{nearer}
+use Rattle.sets.proofs.Passing.{Part, passed, passed_none, passed-all, passed-turn, part-turn, least-low}
 use Rattle.engine.specs.declared.marking.State.{State}
 use Rattle.engine.specs.declared.marking.Marking.{Marking}
 use Rattle.engine.specs.declared.graph.Graph.{Graph}
@@ -89,7 +89,7 @@ module _ (events : Set) (r : Relations) (m : State) (live : Set) (i : ℕ) where
   -- the one that is found
   first-there : (a : Activity) → Some a ≡ first_open live events r m i → (a.0 < width) × (a.0 ≡ first)
   first-there a e =
-      let t = some-then _ _ _ e in
+      let t : (ltb first width ≡ true) × (a ≡ number first) = some-then _ _ _ e in
       let n : a.0 ≡ first = ap (λ (x : Activity). x.0) t.1 in
       (omega (arith, ltb-true first width t.0), n)
 
@@ -100,11 +100,6 @@ module _ (events : Set) (r : Relations) (m : State) (rest : Set) where
   abbrev opens : ℕ → Bool
   opens b = mem rest b and is_done (enabled events r m b)
 
-  -- the search stands at a, one of the rest: no lower one is open
-  pub record Asked (a : ℕ) : Type 0 where
-    pub lower : NoneBelow opens a
-    pub member : a < width → T (mem rest a)
-
   -- the rest are those that are live, from a number on
   open-live : (live low : Set) (i : ℕ) → low ≡ those (λ b. ltb b i) → rest ≡ those (λ b. mem live b and non (mem low b))
       → least_below width opens ≡ least_below width (open_from live events r m i)
@@ -112,48 +107,60 @@ module _ (events : Set) (r : Relations) (m : State) (rest : Set) where
       let now = is-those rest _ (less live low rest (mem live) (λ b. ltb b i) (λ b l. refl) (is-those low _ hl) hr) in
       least-ext width opens (open_from live events r m i) (λ b l. ap (λ (x : Bool). x and is_done (enabled events r m b)) (now b l))
 
-  pub open-start : (a : ℕ) → a ≡ least_below width (mem rest) → Asked a
-  open-start a e =
-      record {
-        lower = λ b l. F→false _ (λ t. false→F (least-before width (mem rest) b (subst (λ (k : ℕ). b < k) e l)) (and_l _ _ t));
-        member = λ l. subst (λ (k : ℕ). T (mem rest k)) (sym e) (least-is width (mem rest) (subst (λ (k : ℕ). k < width) e l));
-      }
+module _ (events : Set) (r : Relations) (m : State) (all : Set) where
+  -- of those that were passed none is open
+  pub record Asked (rest : Set) : Type 0 where
+    pub part : Part all rest
+    pub shut : (b : ℕ) → b < width → T (passed all rest b) → is_done (enabled events r m b) ≡ false
 
-  module _ (a : ℕ) (answer : Answer) (d : Bool) (inv : Asked a) (l : a < width) (ha : answer ≡ enabled events r m a)
-      (hd : d ≡ is_done answer) where
+  pub open-start : Asked all
+  open-start = record { part = λ a l t. t; shut = λ b l t. absurd (false→F (passed_none all b) t) }
+
+  module _ (rest rest' : Set) (a : ℕ) (answer : Answer) (d : Bool) (inv : Asked rest) (t : Takes rest a rest')
+      (ha : answer ≡ enabled events r m a) (hd : d ≡ is_done answer) where
     told : d ≡ is_done (enabled events r m a)
     told = hd ∙ ap is_done ha
 
-    pub open_turn : (a' : ℕ) → d ≡ false → a' ≡ next_above rest a → Asked a'
-    unfolding next_above
-    open_turn a' f e =
+    pub open-turn : d ≡ false → Asked rest'
+    open-turn f =
         record {
-          lower = λ b h. F→false _ (λ t. passed-by b h t);
-          member = λ k. and_l _ _ (subst (λ (n : ℕ). T (mem rest n and ltb a n)) (sym e)
-              (least-is width (λ b. mem rest b and ltb a b) (subst (λ (n : ℕ). n < width) e k)));
+          part = part-turn rest rest' _ refl t.0 t.2 all inv.part;
+          shut = λ b l h.
+              either (or-e (passed all rest b) (eqb b (least_below width (mem rest))) (T-eq (passed-turn rest rest' _ refl t.0 t.2 all inv.part b l) h))
+              (λ y. inv.shut b l y)
+              (λ e. ap (λ (n : ℕ). is_done (enabled events r m n)) (eqb→eq b _ e ∙ sym t.1) ∙ sym told ∙ f);
         }
-      where
-        passed-by : (b : ℕ) → b < a' → T (opens b) → ⊥
-        passed-by b h t =
-            either (split (ltb b a)) (λ y. false→F (inv.lower b (ltb-true b a (T→true _ y))) t)
-            (λ g. either (split (ltb a b))
-            (λ y. false→F (least-before width (λ c. mem rest c and ltb a c) b (subst (λ (n : ℕ). b < n) e h)) (and_i _ _ (and_l _ _ t) y))
-            (λ n.
-            let up : a ≤ b = ltb-false b a (F→false _ g) in
-            let down : b ≤ a = ltb-false a b (F→false _ n) in
-            let same : b ≡ a = omega arith in
-            false→F (sym told ∙ f) (subst (λ (k : ℕ). T (is_done (enabled events r m k))) same (and_r _ _ t))))
 
-    module _ (live low : Set) (i : ℕ) (hl : low ≡ those (λ b. ltb b i)) (hr : rest ≡ those (λ b. mem live b and non (mem low b))) where
-      pub open-found : d ≡ true → Some (record { 0 = a }) ≡ first_open live events r m i
-      open-found t =
-          first-is events r m live i a l
-          (least-here opens a inv.lower width l (and_i _ _ (inv.member l) (true→T (sym told ∙ t)))
-          ∙ open-live live low i hl hr)
+    inside : a < width
+    inside = let l = least-low rest rest' _ refl t.0 t.2 in omega (arith, t.1)
 
-  pub open_none : (a : ℕ) → Asked a → width ≤ a → (live low : Set) (i : ℕ) → low ≡ those (λ b. ltb b i)
-      → rest ≡ those (λ b. mem live b and non (mem low b)) → None ≡ first_open live events r m i
-  open_none a inv l live low i hl hr = first-none events r m live i (least-nowhere opens a inv.lower width l ∙ open-live live low i hl hr)
+    here : T (mem rest a)
+    here = subst (λ (n : ℕ). T (mem rest n)) (sym t.1) (least-is width (mem rest) (subst (λ (n : ℕ). n < width) t.1 inside))
+
+    -- no lower one is open: it would have been passed
+    lower : (b : ℕ) → b < a → T (opens events r m all b) → ⊥
+    unfolding passed
+    lower b l q =
+        let gone : mem rest b ≡ false = least-before width (mem rest) b (subst (λ (n : ℕ). b < n) t.1 l) in
+        let k = inside in
+        false→F (inv.shut b (omega arith) (and_i _ _ (and_l _ _ q) (non-i _ (λ y. false→F gone y)))) (and_r _ _ q)
+
+    pub open-found : d ≡ true → (live low : Set) (i : ℕ) → low ≡ those (λ b. ltb b i) → all ≡ those (λ b. mem live b and non (mem low b))
+        → Some (record { 0 = a }) ≡ first_open live events r m i
+    open-found y live low i hl hr =
+        first-is events r m live i a inside
+        (least-only width (opens events r m all) a (let k = inside in omega arith)
+        (λ k. and_i _ _ (inv.part a inside here) (true→T (sym told ∙ y)))
+        (λ b l q. either (split (ltb b a)) (λ h. absurd (lower b (ltb-true b a (T→true _ h)) q)) (λ h. ltb-false b a (F→false _ h)))
+        ∙ open-live events r m all live low i hl hr)
+
+  pub open-none : (rest : Set) → Asked rest → is_empty rest ≡ true → (live low : Set) (i : ℕ) → low ≡ those (λ b. ltb b i)
+      → all ≡ those (λ b. mem live b and non (mem low b)) → None ≡ first_open live events r m i
+  open-none rest inv n live low i hl hr =
+      first-none events r m live i
+      (least-only width (opens events r m all) width (omega arith) (λ k. absurd (omega arith))
+      (λ b l q. absurd (false→F (inv.shut b l (T-eq (sym (passed-all all rest _ refl n b l)) (and_l _ _ q))) (and_r _ _ q)))
+      ∙ open-live events r m all live low i hl hr)
 
 module _ (events : Set) (r : Relations) (m : State) where
   -- it is open, and no lower than where the search began
@@ -321,7 +328,7 @@ module _ (m : Marking) (a : Answer) (f : Finished) where
 pub finish-on_lem : (g : Graph) → judged g ≡ Done → (m : Marking) → finish_of g m ≡ finish_on g.head.events (relations_of g) m
 finish-on_lem g h m = finish-beside m (judged_with g m) (finish_of g m) g.head.events (relations_of g) (beside-judged g h m) (unfold finish_of in refl)
 
-pub ruleset opening = (open-start, open-found, open_turn, open_none, nearer)
+pub ruleset opening = (open-start, open-turn, open-found, open-none)
 
 pub ruleset searching = (way-here, way-start, way-turn, way-found, way-ends, closer)
 

@@ -1,5 +1,5 @@
 -- What the parts of the search give. Nothing of the promise stands here: `finish_of` does not speak of it.
-use Rattle.std.specs.Prelude.{Bool, true, List, [], ℕ, Option, eqb, ltb}
+use Rattle.std.specs.Prelude.{Bool, List, ℕ, Option, eqb, ltb}
 use Rattle.std.specs.Bool.{then_some}
 use Rattle.sets.specs.Tests.{◌and◌, ◌or◌, non, when◌then◌else◌}
 use Rattle.sets.specs.Members.{width, mem, those, some_below, every_below, least_below}

@@ -9,7 +9,7 @@ use crate::settle;
 use engine::{Graph, Head, Marking, Relations, State, judge, step};
 use sets::{Activity, Answer, Rows, Set};
 
-// Four steps; 255 in the places that are not used.
+// Four steps; 255 in the places that are not used, and no Option there, since docs/PORT-OTHER.md promises four 255s of `finish`.
 #[derive(Clone, Copy)]
 pub struct Way {
     pub first: Activity,
@@ -66,12 +66,10 @@ impl Search<'_> {
         ensures { result ≡ first_open live self.now.events (in_tables self.now.relations.now) s from }
     {
         let rest = live.difference(Set::below(from));
-        let mut a = rest.least();
-        while a.0 < Activity::LIMIT {
+        for a in rest.members() {
             if step::ask(self.events, self.relations, s, a).is_done() {
                 return Some(a);
             }
-            a = rest.next(a);
         }
         None
     }

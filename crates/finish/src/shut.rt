@@ -9,7 +9,7 @@ use engine::Relations;
 use engine::graph::{EXCLUDES, INCLUDES};
 use sets::{Activity, tables};
 
-// What stands for nothing where a number is asked for.
+// What stands for nothing in the answer of `shut_by`, whose statement says 255 (docs/STATEMENTS.md); the walk itself has an Option.
 pub const NOTHING: Activity = Activity(255);
 
 // Whether an event has the step in its row of a relation.
@@ -20,7 +20,12 @@ fn has_pair(relations: &Relations, relation: u8, e: Activity, a: Activity) -> bo
 }
 
 // One event more: it lets the step in, shuts it out, or leaves it as it is. An include wins, as in a step.
-fn shut_after(relations: &Relations, last: Option<Activity>, e: Activity, a: Activity) -> Option<Activity>
+fn shut_after(
+    relations: &Relations,
+    last: Option<Activity>,
+    e: Activity,
+    a: Activity,
+) -> Option<Activity>
     ensures { number_or_nothing result ≡ shut_after (in_tables relations.now) a.0 (number_or_nothing last) e.0 }
 {
     if has_pair(relations, INCLUDES, e, a) {

@@ -1,4 +1,5 @@
 use borrow.Author.Rules.{rules}
+use mathlib.Core.Path.{sym, ◌∙◌}
 use native.Mathlib.Omega.{arith}
 use Rattle.finish.proofs.Searching.{searching, way-found, way-turn}
 use Rattle.finish.proofs.search.Search.+first_way.Goals as goal
@@ -21,7 +22,8 @@ loop-open-smaller t c = search (searching, rules)
 
 pub loop-open-preserved : goal.loop-open-preserved
 loop-open-preserved t c =
-    way-turn _ _ _ _ _ _ c.candidates-live.ensures c.args.self.now.turned _ _ _ _ c.loop-open.invariant c.in-Some.is c.next.ensures ? ?
+    way-turn _ _ _ _ _ _ c.candidates-live.ensures c.args.self.now.turned _ _ _ _ c.loop-open.invariant c.in-Some.is c.next.ensures
+    (sym c.in_default-first_way.is ∙ c.first_way.ensures) c.open_from-open-in-Some.ensures
 
 pub returns : goal.returns
 returns t c = search (searching, rules)

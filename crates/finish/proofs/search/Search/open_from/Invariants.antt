@@ -1,11 +1,6 @@
-use Prim.Native.Nat.{◌-◌}
-use Rattle.sets.specs.Members.{width}
 use Rattle.engine.specs.Relations.{in_tables}
 use Rattle.finish.proofs.Searching.{Asked}
 use Rattle.finish.proofs.search.Search.open_from.Given as goal
 
 abbrev pub invariant-loop-a : goal.invariant-loop-a
-invariant-loop-a l = Asked l.self.events (in_tables l.self.relations.now) l.fn.s l.rest l.a.0
-
-abbrev pub decreases-loop-a : goal.decreases-loop-a
-decreases-loop-a l = width - l.a.0
+invariant-loop-a l = Asked l.self.events (in_tables l.self.relations.now) l.fn.s l.initial.a-iterator.rest l.a-iterator.rest
