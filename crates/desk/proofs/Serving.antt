@@ -1,31 +1,30 @@
 -- A request judged, then served: each way out of the code gives what the definitions have there. Assumes nothing.
-use mathlib.Core.Path.{◌≡◌, refl, sym, ap, subst, ◌∙◌}
+use mathlib.Core.Path.{◌≡◌, refl, sym, ap, ◌∙◌}
 use mathlib.Core.Bool.{Bool, true, false}
 use mathlib.Core.List.{List}
 use Prim.Native.Nat.{ℕ, ◌≤◌, ◌<◌}
-use borrow.Author.Tests.{lt-ltb, le-ltb, ltb-true, ltb-false}
+use borrow.Author.Tests.{ltb-true, ltb-false}
 use lib.Dec.{T, ltb}
 use lib.ListN.{length}
 use Rattle.sets.specs.Tests.{non, when◌then◌else◌}
 use Rattle.sets.specs.Members.{every_below}
-use Rattle.sets.specs.Answers.{is_done, then_ask}
+use Rattle.sets.specs.Answers.{is_done}
 use Rattle.sets.specs.declared.set.Set.{Set}
 use Rattle.sets.specs.declared.answer.Answer.{Answer}
 use Rattle.sets.specs.declared.answer.Answer.TheVariants.{Done, BufferTooSmall, NoPlaceFree, NotOpen}
 use Rattle.sets.proofs.Tests.{true→T}
-use Rattle.sets.proofs.Asking.{done-is, both, refused, passed}
+use Rattle.sets.proofs.Asking.{done-is, both}
 use Rattle.sets.proofs.Ways.{failed, held, taken, passed-by}
 use Rattle.engine.specs.Relations.{Relations, relations_of}
 use Rattle.engine.specs.Enabled.{marked}
 use Rattle.engine.specs.Steps.{after}
 use Rattle.engine.specs.Judged.{judged, judged_with, judged_beside}
 use Rattle.engine.specs.Replay.{enabled_of, enabled_on, next_marking}
-use Rattle.engine.specs.declared.marking.State.{State}
 use Rattle.engine.specs.declared.marking.Marking.{Marking}
 use Rattle.engine.specs.declared.graph.Graph.{Graph}
 use Rattle.desk.specs.declared.requests.Opened.{Opened}
 use Rattle.desk.specs.Places.{place_count, table_length, is_open, marking_at_place, with_marking, with_place, lowest_free}
-use Rattle.desk.specs.Desk.{form_of, on_table, at_place, place_answer, opening, open_answer, no_place, step_answer, stepped_at, closing_after, closing, close_answer}
+use Rattle.desk.specs.Desk.{form_of, on_table, at_place, opening, open_answer, no_place, step_answer, stepped_at, closing_after, closing, close_answer}
 use Rattle.desk.proofs.Placing.{open-below, all-taken}
 
 -- ---- judged
@@ -144,6 +143,17 @@ module _ (wide : Bool) (table : List ℕ) where
           → (when every_below place_count (is_open wide table) then NoPlaceFree else Done) ≡ Done → lowest_free (is_open wide table) < place_count
       by true e all h = ltb-true (lowest_free (is_open wide table)) place_count e
       by false e all h = absurd (true→T (ap is_done (ap (λ (t : Bool). when t then NoPlaceFree else Done) (sym (all ∙ ap non e)) ∙ h)))
+
+  module _ (a : Answer) (d : Bool) (k : d ≡ is_done a) (n : d ≡ true) (p : ℕ) (x : Answer) (h : a ≡ at_place wide table p x) where
+    gone : at_place wide table p x ≡ Done
+    gone = sym h ∙ done-is a (sym (held (is_done a) d k n))
+
+    -- of all that is asked at a place
+    pub place-long : table_length wide ≤ length table
+    place-long = (place-done p x gone).0
+
+    pub place-there : p < place_count
+    place-there = open-below wide table p (place-done p x gone).1
 
 -- of a graph's requests
 module _ (table : List ℕ) (g : Graph) where

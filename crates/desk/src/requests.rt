@@ -60,10 +60,11 @@ pub fn judge_place(table: &[u8], place: usize, wide: bool) -> Answer
     let Some(held) = Table::over(table, wide) else {
         return Answer::BufferTooSmall;
     };
-    if !held.is_open(place) {
-        return Answer::NotOpen;
+    if held.is_open(place) {
+        Answer::Done
+    } else {
+        Answer::NotOpen
     }
-    Answer::Done
 }
 
 // The marking after a step from another.
@@ -96,7 +97,8 @@ pub fn step(
     if !answer.is_done() {
         return answer;
     }
-    table::put_marking(table, place, stepped(head.events, relations, m, a), wide);
+    let after = stepped(head.events, relations, m, a);
+    table::put_marking(table, place, after, wide);
     answer
 }
 
@@ -122,7 +124,8 @@ pub fn step_on(
     if !answer.is_done() {
         return answer;
     }
-    table::put_marking(table, place, stepped(events, relations, m, a), wide);
+    let after = stepped(events, relations, m, a);
+    table::put_marking(table, place, after, wide);
     answer
 }
 

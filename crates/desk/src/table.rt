@@ -57,7 +57,7 @@ impl<'a> Table<'a> {
     }
 
     // The marking at a place, which may be free.
-    fn marking_at(&self, place: usize) -> Marking
+    pub(crate) fn marking_at(&self, place: usize) -> Marking
         requires { place < place_count }
         ensures { result ≡ marking_at_place self.now.wide self.now.bytes.now place }
     {

@@ -4,6 +4,7 @@ ghost use Rattle.engine.specs.Relations.{graph_of, in_tables};
 ghost use Rattle.finish.specs.Ways.{finished_by};
 ghost use Rattle.desk.specs.WayOut.{finished_at, finished_on};
 
+use crate::requests::judge_place;
 use crate::table::Table;
 use engine::{Head, Relations};
 use finish::{Finished, Way, search};
@@ -43,11 +44,11 @@ pub fn finish_on<'a>(
 ) -> Finished
     ensures { result ≡ finished_on wide events (in_tables relations.now) table.now place }
 {
-    let Some(held) = Table::over(table, wide) else {
-        return refused(Answer::BufferTooSmall);
-    };
-    let Some(m) = held.call_at(place) else {
-        return refused(Answer::NotOpen);
-    };
+    let asked = judge_place(table, place, wide);
+    if !asked.is_done() {
+        return refused(asked);
+    }
+    let held = Table { bytes: table, wide };
+    let m = held.marking_at(place);
     search::way_out_on(events, relations, m)
 }

@@ -37,6 +37,6 @@ returns-clause-value c = close-formed _ _ c.wide_for-wide.ensures _ _ _
     (closing_at _ _ (call-marking _ _ c.in-Some.held.whole _ _ c.in-Some.ensures _ _ c.call_at.ensures _ c.in-Some-call_at.is) _ _ _ c.judge_beside-judged.ensures c.ask_closing-answer.ensures))
 
 pub returns-clause-table_after : goal.returns-clause-table_after
-returns-clause-table_after c = 
+returns-clause-table_after c =
     unfold table_closed in table-new _ _ _ (returns-clause-value c) c.is_done.ensures _ _ _ c.if-not-is_done.false
     (placed-formed (graph_of c.args.head c.args.relations.now) _ c.wide_for-wide.ensures _ _ _ _ _ c.put_place.ensures)

@@ -37,6 +37,6 @@ returns-clause-value c = step-formed _ _ c.wide_for-wide.ensures _ _ _ _
     (asked-at _ _ (call-marking _ _ c.in-Some.held.whole _ _ c.in-Some.ensures _ _ c.call_at.ensures _ c.in-Some-call_at.is) _ _ _ c.ask_judged-answer.ensures))
 
 pub returns-clause-table_after : goal.returns-clause-table_after
-returns-clause-table_after c = 
+returns-clause-table_after c =
     unfold table_stepped in table-new _ _ _ (returns-clause-value c) c.is_done.ensures _ _ _ c.if-not-is_done.false
-    (stepped-formed (graph_of c.args.head c.args.relations.now) _ c.wide_for-wide.ensures _ _ _ _ (stepped-to _ _ _ _ _ _ _ _ _ (call-marking _ _ c.in-Some.held.whole _ _ c.in-Some.ensures _ _ c.call_at.ensures _ c.in-Some-call_at.is) c.stepped.ensures c.put_marking.ensures))
+    (stepped-formed (graph_of c.args.head c.args.relations.now) _ c.wide_for-wide.ensures _ _ _ _ (stepped-to _ _ _ _ _ _ _ _ _ (call-marking _ _ c.in-Some.held.whole _ _ c.in-Some.ensures _ _ c.call_at.ensures _ c.in-Some-call_at.is) c.stepped-after.ensures c.put_marking.ensures))

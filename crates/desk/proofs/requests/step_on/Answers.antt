@@ -32,6 +32,6 @@ returns-clause-value c = unfold step_answer_on in call-asked _ _ c.in-Some.held.
     (asked-on _ _ (call-marking _ _ c.in-Some.held.whole _ _ c.in-Some.ensures _ _ c.call_at.ensures _ c.in-Some-call_at.is) _ _ _ _ c.ask_on-answer.ensures)
 
 pub returns-clause-table_after : goal.returns-clause-table_after
-returns-clause-table_after c = 
+returns-clause-table_after c =
     unfold table_stepped_on in table-new _ _ _ (returns-clause-value c) c.is_done.ensures _ _ _ c.if-not-is_done.false
-    (stepped-to _ _ _ _ _ _ _ _ _ (call-marking _ _ c.in-Some.held.whole _ _ c.in-Some.ensures _ _ c.call_at.ensures _ c.in-Some-call_at.is) c.stepped.ensures c.put_marking.ensures)
+    (stepped-to _ _ _ _ _ _ _ _ _ (call-marking _ _ c.in-Some.held.whole _ _ c.in-Some.ensures _ _ c.call_at.ensures _ c.in-Some-call_at.is) c.stepped-after.ensures c.put_marking.ensures)

@@ -1,24 +1,24 @@
-use mathlib.Core.Bool.{true, false}
-use mathlib.Core.Path.{refl, ◌∙◌}
-use Rattle.sets.specs.declared.answer.Answer.TheVariants.{Done}
 use Rattle.finish.proofs.Searching.{finish-refused, finish-done}
 use Rattle.desk.specs.Desk.{place_answer}
 use Rattle.desk.specs.WayOut.{finished_on}
-use Rattle.desk.proofs.Calling.{too-short, call-none, call-marking, call-asked}
+use Rattle.desk.proofs.Serving.{place-long, place-there}
 use Rattle.desk.proofs.WayOut.{found-on}
 use Rattle.desk.proofs.way.finish_on.Goals as goal
+use mathlib.Core.Path.{◌∙◌}
 
-pub returns-in_default : goal.returns-in_default
-returns-in_default c = 
-    unfold finished_on place_answer in c.refused.ensures ∙ finish-refused _ _ false (too-short _ _ _ _ c.in_default.ensures) refl _ refl
+pub returns-then-not-is_done : goal.returns-then-not-is_done
+returns-then-not-is_done c =
+    unfold finished_on in c.refused.ensures ∙ finish-refused _ _ _ c.judge_place-asked.ensures c.is_done.ensures _ c.if-not-is_done.true
 
-pub returns-in_default-call_at : goal.returns-in_default-call_at
-returns-in_default-call_at c = 
-    unfold finished_on place_answer in
-    c.refused-in_default-call_at.ensures ∙ finish-refused _ _ false (call-none _ _ c.in-Some.held.whole _ _ c.in-Some.ensures _ _ c.call_at.ensures _ c.in_default-call_at.is) refl _ refl
+pub invariant_of-held : goal.invariant_of-held
+invariant_of-held c =
+    record { whole = unfold place_answer in place-long _ _ _ _ c.is_done.ensures c.if-not-is_done.false _ _ c.judge_place-asked.ensures }
+
+pub marking_at-m-requires : goal.marking_at-m-requires
+marking_at-m-requires c = unfold place_answer in place-there _ _ _ _ c.is_done.ensures c.if-not-is_done.false _ _ c.judge_place-asked.ensures
 
 pub returns : goal.returns
-returns c = 
-    unfold finished_on place_answer in
-    finish-done _ Done true (call-asked _ _ c.in-Some.held.whole _ _ c.in-Some.ensures _ _ c.call_at.ensures _ c.in-Some-call_at.is _ _ refl) refl _ _ refl
-    (found-on _ _ _ _ _ (call-marking _ _ c.in-Some.held.whole _ _ c.in-Some.ensures _ _ c.call_at.ensures _ c.in-Some-call_at.is) c.way_out_on.ensures)
+returns c =
+    unfold finished_on in
+    finish-done _ _ _ c.judge_place-asked.ensures c.is_done.ensures _ _ c.if-not-is_done.false
+    (found-on _ _ _ _ _ c.marking_at-m.ensures c.way_out_on.ensures)
