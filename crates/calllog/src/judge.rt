@@ -1,10 +1,10 @@
 // The refusals of a log, in the order of 01, "Numbers given back". Time is linear in the bytes.
-ghost use Rattle.std.specs.Prelude.{◌≡◌, ◌≤◌, length, drop};
-ghost use Rattle.calllog.specs.Layout.{bodies_start};
+ghost use Rattle.std.specs.Prelude.{◌≡◌, drop};
 ghost use Rattle.calllog.specs.Judged.{all_below, judged_head, judged_entry, judged_bodies, judged_contents, judged_log};
 ghost use Rattle.calllog.specs.Logs.{judged_of};
 
 use crate::layout;
+use crate::layout::Entries;
 use octets::edition;
 use sets::Answer;
 
@@ -45,7 +45,7 @@ fn judge(bytes: &[u8]) -> Answer
     if !head.is_done() {
         return head;
     }
-    judge_contents(bytes)
+    judge_contents(Entries { bytes })
 }
 
 fn judge_head(bytes: &[u8]) -> Answer
@@ -86,21 +86,18 @@ fn judge_entry(earlier: u32, offset: u16, size: u16) -> Answer
 }
 
 // Entry by entry, then the bodies.
-fn judge_contents(bytes: &[u8]) -> Answer
-    requires { bodies_start bytes.now ≤ length bytes.now }
-    ensures { result ≡ judged_contents bytes.now }
+fn judge_contents(entries: Entries<'_>) -> Answer
+    ensures { result ≡ judged_contents entries.entry.bytes.now }
 {
-    let traces = layout::traces(bytes);
+    let bytes = entries.bytes;
     let mut events: u32 = 0;
-    let mut k: u16 = 0;
-    while k < traces {
-        let size = layout::length(bytes, k);
-        let answer = judge_entry(events, layout::offset(bytes, k), size);
+    for k in 0..layout::traces(bytes) {
+        let size = entries.length(k);
+        let answer = judge_entry(events, entries.offset(k), size);
         if !answer.is_done() {
             return answer;
         }
         events += size as u32;
-        k += 1;
     }
     judge_bodies(bytes, events)
 }
@@ -129,10 +126,8 @@ pub fn all_below(bytes: &[u8], from: usize, a: u8) -> bool
     ensures { result ≡ all_below a (drop from bytes.now) }
 {
     let mut below = true;
-    let mut i: usize = from;
-    while i < bytes.len() {
+    for i in from..bytes.len() {
         below = below & (bytes[i] < a);
-        i += 1;
     }
     below
 }

@@ -1,5 +1,5 @@
 // Where a log file keeps what (01, "Sizes" and "Log"). Of the head, bytes that are missing read as 0.
-ghost use Rattle.std.specs.Prelude.{◌≡◌, ◌+◌, ◌≤◌, ◌<◌, length, get_or};
+ghost use Rattle.std.specs.Prelude.{◌≡◌, ◌+◌, ◌≤◌, ◌<◌, length};
 ghost use Rattle.octets.specs.Numbers.{number_at, number_length};
 ghost use Rattle.calllog.specs.Layout.{activities_in, traces_in, offset_at, length_at, bodies_start};
 
@@ -29,23 +29,6 @@ const TRACES_AT: usize = 4;
 
 const LENGTH_AT: usize = NUMBER;
 
-fn present_byte(bytes: &[u8], i: usize) -> u8
-    requires { i < length bytes.now }
-    ensures { result ≡ get_or bytes.now i 0 }
-{
-    bytes[i]
-}
-
-// A number whose bytes are there: judging looks at every entry, and asks once for all of them.
-fn present_number(bytes: &[u8], i: usize) -> u16
-    requires { i + 1 < length bytes.now }
-    ensures { result ≡ number_at number_length bytes.now i }
-{
-    let low = present_byte(bytes, i);
-    let high = present_byte(bytes, i + 1);
-    low as u16 + 256 * (high as u16)
-}
-
 // A.
 pub fn activities(bytes: &[u8]) -> u8
     ensures { result ≡ activities_in bytes.now }
@@ -60,28 +43,45 @@ pub fn traces(bytes: &[u8]) -> u16
     number_at(bytes, TRACES_AT)
 }
 
-// The offset of entry k, where the bytes have all entries: a walk over them looks at each without asking again.
-pub(crate) fn offset(bytes: &[u8], k: u16) -> u16
-    requires { (k < traces_in bytes.now) × (bodies_start bytes.now ≤ length bytes.now) }
-    ensures { result ≡ offset_at bytes.now k }
-{
-    let entry = HEAD_SIZE + ENTRY_SIZE * (k as usize);
-    present_number(bytes, entry)
-}
-
-// The length of entry k.
-pub(crate) fn length(bytes: &[u8], k: u16) -> u16
-    requires { (k < traces_in bytes.now) × (bodies_start bytes.now ≤ length bytes.now) }
-    ensures { result ≡ length_at bytes.now k }
-{
-    let entry = HEAD_SIZE + ENTRY_SIZE * (k as usize);
-    present_number(bytes, entry + LENGTH_AT)
-}
-
 // Where the first body byte stands.
 pub fn bodies_start(bytes: &[u8]) -> u32
     ensures { result ≡ bodies_start bytes.now }
 {
     let t = traces(bytes);
     (HEAD_SIZE + ENTRY_SIZE * (t as usize)) as u32
+}
+
+// Bytes that have all of their entries: a walk over these looks at each without asking again.
+#[derive(Clone, Copy)]
+pub(crate) struct Entries<'a> {
+    pub(crate) bytes: &'a [u8],
+    ghost whole: { bodies_start bytes.now ≤ length bytes.now },
+}
+
+impl Entries<'_> {
+    // The offset of entry k.
+    pub(crate) fn offset(&self, k: u16) -> u16
+        requires { k < traces_in self.now.bytes.now }
+        ensures { result ≡ offset_at self.now.bytes.now k }
+    {
+        let entry = HEAD_SIZE + ENTRY_SIZE * (k as usize);
+        present_number(self.bytes, entry)
+    }
+
+    // The length of entry k.
+    pub(crate) fn length(&self, k: u16) -> u16
+        requires { k < traces_in self.now.bytes.now }
+        ensures { result ≡ length_at self.now.bytes.now k }
+    {
+        let entry = HEAD_SIZE + ENTRY_SIZE * (k as usize);
+        present_number(self.bytes, entry + LENGTH_AT)
+    }
+}
+
+// A number whose bytes are there: judging looks at every entry, and asks once for all of them.
+fn present_number(bytes: &[u8], i: usize) -> u16
+    requires { i + 1 < length bytes.now }
+    ensures { result ≡ number_at number_length bytes.now i }
+{
+    u16::from_le_bytes([bytes[i], bytes[i + 1]])
 }

@@ -3,10 +3,12 @@ ghost use Rattle.std.specs.Prelude.{◌≡◌, ◌<◌};
 ghost use Rattle.calllog.specs.Layout.{traces_in};
 ghost use Rattle.calllog.specs.Logs.{part_of, part_at, where_part, found_of, asked_of};
 
+use crate::layout::Entries;
 use crate::{judge, layout};
 use sets::Answer;
 
-// A part of the bytes: its first byte, and how many.
+// A part of the bytes: its first byte, and how many. It is no slice and no Option, for `part_of` (specs/Logs.antt) is what `trace_part` promises:
+// where the part stands, and 0 and 0 where there is none.
 #[derive(Clone, Copy)]
 pub struct Part {
     pub start: usize,
@@ -59,9 +61,7 @@ pub fn trace_at(bytes: &[u8], k: usize) -> &[u8]
     ensures { result.now ≡ part_at bytes.now k }
 {
     let p = trace_part(bytes, k);
-    let start = p.start;
-    let end = start + p.length;
-    &bytes[start..end]
+    &bytes[p.start..p.start + p.length]
 }
 
 // The part of the bytes that entry k names, where they have all of it.
@@ -73,8 +73,9 @@ fn entry_part(bytes: &[u8], k: u16) -> Part
     if bytes.len() < bodies {
         return Part::NONE;
     }
-    let start = bodies + layout::offset(bytes, k) as usize;
-    let length = layout::length(bytes, k) as usize;
+    let entries = Entries { bytes };
+    let start = bodies + entries.offset(k) as usize;
+    let length = entries.length(k) as usize;
     if bytes.len() < start + length {
         return Part::NONE;
     }

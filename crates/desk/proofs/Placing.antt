@@ -5,8 +5,10 @@ use mathlib.Core.Logic.{◌⊎◌, inl, inr, ◌≢◌}
 use mathlib.Core.List.{List, [], ◌∷◌}
 use Prim.Native.Nat.{ℕ, ◌+◌, ◌*◌, ◌^◌, ◌≤◌, ◌<◌}
 use native.Mathlib.Omega.{arith}
-use borrow.Author.Tests.{ltb-true, ltb-false}
+use borrow.Author.Tests.{lt-ltb, le-ltb, ltb-true, ltb-false}
 use lib.Dec.{T, eqb, ltb}
+use Rattle.std.specs.Prelude.{None, Some}
+use Rattle.std.specs.Bool.{then_some}
 use lib.ListN.{length, get_or, set, length-set}
 use lib.Seq.{length-sets, get_or-set_same, get_or-set_other}
 use Rattle.sets.specs.Tests.{◌and◌, non}
@@ -18,7 +20,7 @@ use Rattle.engine.specs.declared.marking.Marking.{Marking}
 use Rattle.graphfile.specs.Markings.{marking_bytes, marking_held, marking_put}
 use Rattle.octets.proofs.Parts.{get_or-apart}
 use Rattle.graphfile.proofs.LoneMarkings.{held-there, put-there, length-marking, marking-apart, marking-back, WholeMarking, HeldMarking}
-use Rattle.desk.specs.Places.{place_count, place_length, table_length, place_start, is_open, marking_at_place, with_marking, with_place, lowest_free}
+use Rattle.desk.specs.Places.{place_count, place_length, table_length, place_start, is_open, marking_at_place, with_marking, with_place, lowest_free, free_place}
 
 -- ---- where a place begins: laws for `omega`, to which the product of two unknown numbers is closed
 
@@ -82,6 +84,18 @@ module _ (taken : ℕ → Bool) (p : ℕ) where
 
   pub lowest-none : p ≤ place_count → place_count ≤ p → passed taken p → p ≡ lowest_free taken
   lowest-none l u = lowest-is l (λ b. absurd (omega arith))
+
+-- the same, where there is one
+module _ (taken : ℕ → Bool) (p : ℕ) where
+  pub found_free : (r : Bool) → p < place_count → r ≡ taken p → r ≡ false → passed taken p → Some p ≡ free_place taken
+  found_free r l e n h =
+      let here : p ≡ lowest_free taken = lowest-here taken p r l e n h in
+      ap Some here ∙ ap (λ (t : Bool). then_some t (lowest_free taken)) (sym (lt-ltb (lowest_free taken) place_count (omega arith)))
+
+  pub none-free : p ≤ place_count → place_count ≤ p → passed taken p → None ≡ free_place taken
+  none-free l u h =
+      let all : p ≡ lowest_free taken = lowest-none taken p l u h in
+      ap (λ (t : Bool). then_some t (lowest_free taken)) (sym (le-ltb (lowest_free taken) place_count (omega arith)))
 
 -- all are taken just where there is no lowest free place
 pub all-taken : (taken : ℕ → Bool) → every_below place_count taken ≡ non (ltb (lowest_free taken) place_count)
@@ -214,4 +228,4 @@ length-after wide table table' p at first m e = ap length e ∙ length_marked wi
 
 pub ruleset placing = (mark-fits, open_above, byte-room, open-byte, held_at, stored_at, placed_at, length-after)
 
-pub ruleset lowest = (lowest-here, lowest-none)
+pub ruleset lowest = (found_free, none-free)

@@ -1,44 +1,33 @@
 -- A request judged, then served: each way out of the code gives what the definitions have there. Assumes nothing.
-use mathlib.Core.Path.{◌≡◌, refl, sym, ap, subst, ◌∙◌}
+use mathlib.Core.Path.{◌≡◌, refl, sym, ap, ◌∙◌}
 use mathlib.Core.Bool.{Bool, true, false}
 use mathlib.Core.List.{List}
 use Prim.Native.Nat.{ℕ, ◌≤◌, ◌<◌}
-use borrow.Author.Tests.{lt-ltb, le-ltb, ltb-true, ltb-false}
+use borrow.Author.Tests.{ltb-true, ltb-false}
 use lib.Dec.{T, ltb}
 use lib.ListN.{length}
 use Rattle.sets.specs.Tests.{non, when◌then◌else◌}
 use Rattle.sets.specs.Members.{every_below}
-use Rattle.sets.specs.Answers.{is_done, then_ask}
+use Rattle.sets.specs.Answers.{is_done}
 use Rattle.sets.specs.declared.set.Set.{Set}
 use Rattle.sets.specs.declared.answer.Answer.{Answer}
 use Rattle.sets.specs.declared.answer.Answer.TheVariants.{Done, BufferTooSmall, NoPlaceFree, NotOpen}
 use Rattle.sets.proofs.Tests.{true→T}
-use Rattle.sets.proofs.Asking.{done-is, both, refused, passed}
+use Rattle.sets.proofs.Asking.{done-is, both}
 use Rattle.sets.proofs.Ways.{failed, held, taken, passed-by}
 use Rattle.engine.specs.Relations.{Relations, relations_of}
 use Rattle.engine.specs.Enabled.{marked}
 use Rattle.engine.specs.Steps.{after}
 use Rattle.engine.specs.Judged.{judged, judged_with, judged_beside}
 use Rattle.engine.specs.Replay.{enabled_of, enabled_on, next_marking}
-use Rattle.engine.specs.declared.marking.State.{State}
 use Rattle.engine.specs.declared.marking.Marking.{Marking}
 use Rattle.engine.specs.declared.graph.Graph.{Graph}
 use Rattle.desk.specs.declared.requests.Opened.{Opened}
 use Rattle.desk.specs.Places.{place_count, table_length, is_open, marking_at_place, with_marking, with_place, lowest_free}
-use Rattle.desk.specs.Desk.{form_of, on_table, at_place, place_answer, opening, open_answer, no_place, step_answer, stepped_at, closing_after, closing, close_answer}
+use Rattle.desk.specs.Desk.{form_of, on_table, at_place, opening, open_answer, no_place, step_answer, stepped_at, closing_after, closing, close_answer}
 use Rattle.desk.proofs.Placing.{open-below, all-taken}
 
 -- ---- judged
-
--- whether a place is left
-module _ (full : ℕ → Bool) (n : ℕ) (e : n ≡ lowest_free full) where
-  pub one_left : n < place_count → false ≡ every_below place_count full
-  unfolding non
-  one_left l = sym (all-taken full ∙ ap (λ (k : ℕ). non (ltb k place_count)) (sym e) ∙ ap non (lt-ltb n place_count l))
-
-  pub none_left : place_count ≤ n → true ≡ every_below place_count full
-  unfolding non
-  none_left l = sym (all-taken full ∙ ap (λ (k : ℕ). non (ltb k place_count)) (sym e) ∙ ap non (le-ltb n place_count l))
 
 pub open-low : (wide : Bool) (table : List ℕ) (p : ℕ) (r : Bool) → r ≡ is_open wide table p → r ≡ true → p < place_count
 open-low wide table p r e n = open-below wide table p (true→T (sym (held (is_open wide table p) r e n)))
@@ -59,42 +48,6 @@ module _ (m m' : Marking) (same : m ≡ m') where
   closing-on events r j x h e =
       e ∙ ap (λ (k : Answer). closing_after k m) h ∙ ap (λ (k : Marking). closing_after (judged_beside events r k) k) same
 
--- whether there are too few bytes for a table
-module _ (wide : Bool) (table : List ℕ) (n : ℕ) (e : n ≡ table_length wide) where
-  pub too_short : length table < n → true ≡ ltb (length table) (table_length wide)
-  too_short l = sym (lt-ltb (length table) (table_length wide) (subst (λ (k : ℕ). length table < k) e l))
-
-  pub long-enough : n ≤ length table → table_length wide ≤ length table
-  long-enough l = subst (λ (k : ℕ). k ≤ length table) e l
-
-  pub not_short : n ≤ length table → false ≡ ltb (length table) (table_length wide)
-  not_short l = sym (le-ltb (length table) (table_length wide) (long-enough l))
-
-pub ruleset measured = (too_short, long-enough, not_short)
-
-pub ruleset judging = (one_left, none_left, open-low, asked-at, asked-on, closing_at, closing-on)
-
--- a place, and then what is asked of its call
-module _ (wide : Bool) (table : List ℕ) (p : ℕ) where
-  asks : (x : Answer) → then_ask (place_answer wide table p) x ≡ at_place wide table p x
-  unfolding place_answer
-  asks x = by (ltb (length table) (table_length wide)) (non (is_open wide table p))
-    where
-      by : (short free : Bool) → then_ask (when short then BufferTooSmall else when free then NotOpen else Done) x
-          ≡ (when short then BufferTooSmall else when free then NotOpen else x)
-      by true free = refl
-      by false true = refl
-      by false false = refl
-
-  module _ (b : Answer) (d : Bool) (hb : b ≡ place_answer wide table p) (hd : d ≡ is_done b) where
-    pub no_call : (x : Answer) → d ≡ false → b ≡ at_place wide table p x
-    no_call x n = refused b (place_answer wide table p) d hb hd x n ∙ asks x
-
-    pub of-call : (x y : Answer) → d ≡ true → y ≡ x → y ≡ at_place wide table p x
-    of-call x y n e = e ∙ sym (passed b (place_answer wide table p) d hb hd x n) ∙ asks x
-
-pub ruleset calling = (no_call, of-call)
-
 -- ---- served: x is the answer that the definition has, a the one that the code was given
 
 module _ (x a : Answer) (d : Bool) (h : a ≡ x) (k : d ≡ is_done a) where
@@ -112,11 +65,12 @@ module _ (x a : Answer) (d : Bool) (h : a ≡ x) (k : d ≡ is_done a) where
       → ◌≡◌ {A = Opened} (record { answer = a; place = q }) (record { answer = x; place = when is_done x then p else no_place })
   opened-at p q n e j = record { answer = h j; place = taken (is_done x) p no_place q (held (is_done x) d (k ∙ ap is_done h) n) e j }
 
-pub stepped-to : (wide : Bool) (events : Set) (r : Relations) (table table' : List ℕ) (p e : ℕ) (m n : Marking) (s : State)
-    → m ≡ marking_at_place wide table p → s ≡ after r m.state e → n ≡ marked events r s → table' ≡ with_marking wide table p n
-    → table' ≡ with_marking wide table p (marked events r (after r (marking_at_place wide table p).state e))
-stepped-to wide events r table table' p e m n s hm hs hn ht =
-    ht ∙ ap (with_marking wide table p) (hn ∙ ap (marked events r) (hs ∙ ap (λ (k : Marking). after r k.state e) hm))
+-- the marking after a step, put at its place
+pub stepped-to : (wide : Bool) (events : Set) (r : Relations) (table table' : List ℕ) (p e : ℕ) (m n : Marking)
+    → m ≡ marking_at_place wide table p → n ≡ marked events r (after r m.state e) → table' ≡ with_marking wide table p n
+    → table' ≡ stepped_at wide events r table p e
+stepped-to wide events r table table' p e m n hm hn ht =
+    ht ∙ ap (with_marking wide table p) (hn ∙ ap (λ (k : Marking). marked events r (after r k.state e)) hm)
 
 -- ---- a graph's requests are judged and served in its form
 
@@ -190,23 +144,16 @@ module _ (wide : Bool) (table : List ℕ) where
       by true e all h = ltb-true (lowest_free (is_open wide table)) place_count e
       by false e all h = absurd (true→T (ap is_done (ap (λ (t : Bool). when t then NoPlaceFree else Done) (sym (all ∙ ap non e)) ∙ h)))
 
-  module _ (a : Answer) (d : Bool) (k : d ≡ is_done a) (n : d ≡ true) where
-    gone : (x : Answer) → a ≡ x → x ≡ Done
-    gone x h = sym h ∙ done-is a (sym (held (is_done a) d k n))
-
-    pub open-long : (g : Graph) → a ≡ on_table wide table (opening g (is_open wide table)) → table_length wide ≤ length table
-    open-long g h = (left_over g (gone _ h)).0
-
-    pub open-there : (g : Graph) (p : ℕ) → a ≡ on_table wide table (opening g (is_open wide table)) → p ≡ lowest_free (is_open wide table) → p < place_count
-    open-there g p h e = subst (λ (q : ℕ). q < place_count) (sym e) (left_over g (gone _ h)).2
+  module _ (a : Answer) (d : Bool) (k : d ≡ is_done a) (n : d ≡ true) (p : ℕ) (x : Answer) (h : a ≡ at_place wide table p x) where
+    gone : at_place wide table p x ≡ Done
+    gone = sym h ∙ done-is a (sym (held (is_done a) d k n))
 
     -- of all that is asked at a place
-    module _ (p : ℕ) (x : Answer) (h : a ≡ at_place wide table p x) where
-      pub place-long : table_length wide ≤ length table
-      place-long = (place-done p x (gone _ h)).0
+    pub place-long : table_length wide ≤ length table
+    place-long = (place-done p x gone).0
 
-      pub place-there : p < place_count
-      place-there = open-below wide table p (place-done p x (gone _ h)).1
+    pub place-there : p < place_count
+    place-there = open-below wide table p (place-done p x gone).1
 
 -- of a graph's requests
 module _ (table : List ℕ) (g : Graph) where
@@ -233,5 +180,3 @@ module _ (table : List ℕ) (g : Graph) where
   close-done p h = let all = place-done (form_of g) table p (closing g (marking_at_place (form_of g) table p)) h in (all.0, all.1)
 
 pub ruleset serving = (table_same, table-new, opened-none, opened-at)
-
-pub ruleset ready = (open-long, open-there, place-long, place-there)

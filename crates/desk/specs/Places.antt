@@ -1,6 +1,7 @@
 -- The table of places (02, 5/12: "a table of 32 places for vessels in port"), as bytes; its markings are in the form that the file of the graph has
 -- (02, 10/12).
-use Rattle.std.specs.Prelude.{◌≡◌, Bool, List, ℕ, ◌+◌, ◌*◌, eqb, ltb, length, get_or, set}
+use Rattle.std.specs.Prelude.{◌≡◌, Bool, List, ℕ, Option, ◌+◌, ◌*◌, eqb, ltb, length, get_or, set}
+use Rattle.std.specs.Bool.{then_some}
 use Rattle.std.proofs.lemmas.List.Edits.{sets}
 use Rattle.sets.specs.Tests.{◌and◌, non}
 use Rattle.sets.specs.Members.{least_below}
@@ -46,3 +47,7 @@ with_place wide table p first m = with_marking wide (set table (place_start wide
 -- the lowest place that is free, by a test of those that are taken; 32 where none is
 unfoldable pub lowest_free : (ℕ → Bool) → ℕ
 lowest_free taken = least_below place_count (λ p. non (taken p))
+
+-- the same, where there is one
+abbrev pub free_place : (ℕ → Bool) → Option ℕ
+free_place taken = then_some (ltb (lowest_free taken) place_count) (lowest_free taken)

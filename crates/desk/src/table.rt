@@ -1,7 +1,8 @@
 // The table of places: each has one byte, 0 where the place is free, and then its marking's bytes, in the form that the file of the graph has
 // (02, 10/12). So a table of zeros is a fresh desk.
-ghost use Rattle.std.specs.Prelude.{◌≡◌, ◌≤◌, ◌<◌, length};
-ghost use Rattle.desk.specs.Places.{place_count, place_length, place_start, table_length, is_open, marking_at_place, with_marking, with_place, lowest_free};
+ghost use Rattle.std.specs.Prelude.{◌≡◌, ◌≤◌, ◌<◌, length, MatchOption};
+ghost use Rattle.std.specs.Bool.{then_some};
+ghost use Rattle.desk.specs.Places.{place_count, place_length, place_start, table_length, is_open, marking_at_place, with_marking, with_place, free_place};
 
 use engine::Marking;
 use graphfile::marking;
@@ -13,6 +14,14 @@ pub const PLACES: usize = 32;
 pub const FREE: u8 = 0;
 
 pub const TAKEN: u8 = 1;
+
+// Lent bytes that have all places, to be read; `wide` says which form they are in.
+#[derive(Clone, Copy)]
+pub(crate) struct Table<'a> {
+    pub(crate) bytes: &'a [u8],
+    pub(crate) wide: bool,
+    ghost whole: { table_length wide ≤ length bytes.now },
+}
 
 // How many bytes a place has: 33, or 65.
 fn place_length(wide: bool) -> usize
@@ -36,51 +45,72 @@ fn start(place: usize, wide: bool) -> usize
     place_length(wide) * place
 }
 
-// Whether a place is open; no where there is no such place.
-pub(crate) fn is_open(table: &[u8], place: usize, wide: bool) -> bool
-    requires { table_length wide ≤ length table.now }
-    ensures { result ≡ is_open wide table.now place }
-{
-    if PLACES <= place {
-        return false;
-    }
-    table[start(place, wide)] != FREE
-}
-
-// The lowest place that is free; 32 where none is.
-pub(crate) fn lowest_free(table: &[u8], wide: bool) -> usize
-    requires { table_length wide ≤ length table.now }
-    ensures { result ≡ lowest_free (is_open wide table.now) }
-{
-    let mut place = 0;
-    while place < PLACES {
-        if !is_open(table, place, wide) {
-            return place;
+impl<'a> Table<'a> {
+    // The table in lent bytes; none where they are too few.
+    pub(crate) fn over(bytes: &'a [u8], wide: bool) -> Option<Table<'a>>
+        ensures { MatchOption result (length bytes.now < table_length wide) (λ t. (t.bytes.now ≡ bytes.now) × (t.wide ≡ wide)) }
+    {
+        if bytes.len() < length(wide) {
+            return None;
         }
-        place += 1;
+        Some(Table { bytes, wide })
     }
-    place
+
+    // The marking at a place, which may be free.
+    pub(crate) fn marking_at(&self, place: usize) -> Marking
+        requires { place < place_count }
+        ensures { result ≡ marking_at_place self.now.wide self.now.bytes.now place }
+    {
+        marking::read_marking_at(self.bytes, start(place, self.wide) + 1, self.wide)
+    }
+
+    // Whether a place is open; no where there is no such place.
+    pub(crate) fn is_open(&self, place: usize) -> bool
+        ensures { result ≡ is_open self.now.wide self.now.bytes.now place }
+    {
+        if PLACES <= place {
+            return false;
+        }
+        self.bytes[start(place, self.wide)] != FREE
+    }
+
+    // The marking of the call at a place; none where there is no such place, or no call.
+    pub(crate) fn call_at(&self, place: usize) -> Option<Marking>
+        ensures { result ≡ then_some (is_open self.now.wide self.now.bytes.now place) (marking_at_place self.now.wide self.now.bytes.now place) }
+    {
+        if !self.is_open(place) {
+            return None;
+        }
+        Some(self.marking_at(place))
+    }
+
+    // The lowest place that is free.
+    pub(crate) fn lowest_free(&self) -> Option<usize>
+        ensures { result ≡ free_place (is_open self.now.wide self.now.bytes.now) }
+    {
+        for place in 0..PLACES {
+            if !self.is_open(place) {
+                return Some(place);
+            }
+        }
+        None
+    }
 }
 
-pub(crate) fn marking_at(table: &[u8], place: usize, wide: bool) -> Marking
-    requires { (table_length wide ≤ length table.now) × (place < place_count) }
-    ensures { result ≡ marking_at_place wide table.now place }
+// Puts down the marking at a place. The bytes are lent to be written and no `Table`: of a struct that holds a `&mut` the checker doesn't tell what
+// the bytes are when it is given back.
+pub(crate) fn put_marking(bytes: &mut [u8], place: usize, m: Marking, wide: bool)
+    requires { (table_length wide ≤ length bytes.old) × (place < place_count) }
+    ensures { bytes.new ≡ with_marking wide bytes.old place m }
 {
-    marking::read_marking_at(table, start(place, wide) + 1, wide)
-}
-
-pub(crate) fn put_marking(table: &mut [u8], place: usize, m: Marking, wide: bool)
-    requires { (table_length wide ≤ length table.old) × (place < place_count) }
-    ensures { table.new ≡ with_marking wide table.old place m }
-{
-    marking::write_marking_at(m, table, start(place, wide) + 1, wide);
+    marking::write_marking_at(m, bytes, start(place, wide) + 1, wide);
 }
 
 // Puts down whether a place is open, and its marking.
-pub(crate) fn put_place(table: &mut [u8], place: usize, first: u8, m: Marking, wide: bool)
-    requires { (table_length wide ≤ length table.old) × (place < place_count) }
-    ensures { table.new ≡ with_place wide table.old place first m }
+pub(crate) fn put_place(bytes: &mut [u8], place: usize, first: u8, m: Marking, wide: bool)
+    requires { (table_length wide ≤ length bytes.old) × (place < place_count) }
+    ensures { bytes.new ≡ with_place wide bytes.old place first m }
 {
-    table[start(place, wide)] = first;
-    put_marking(table, place, m, wide);
+    bytes[start(place, wide)] = first;
+    put_marking(bytes, place, m, wide);
 }

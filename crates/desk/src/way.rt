@@ -1,33 +1,36 @@
 // The way out of the call at a place (02, 8/12: "markings from the file or from the desk"). It only looks: the table is lent to be read.
-ghost use Rattle.std.specs.Prelude.{◌≡◌};
+ghost use Rattle.std.specs.Prelude.{◌≡◌, []};
 ghost use Rattle.engine.specs.Relations.{graph_of, in_tables};
+ghost use Rattle.finish.specs.Ways.{finished_by};
 ghost use Rattle.desk.specs.WayOut.{finished_at, finished_on};
 
 use crate::requests::judge_place;
-use crate::table;
+use crate::table::Table;
 use engine::{Head, Relations};
 use finish::{Finished, Way, search};
 use graphfile::wide_for;
 use sets::{Answer, Set};
+
+fn refused(answer: Answer) -> Finished
+    ensures { result ≡ finished_by answer [] }
+{
+    Finished {
+        answer,
+        way: Way::NONE,
+    }
+}
 
 // 7 and 14 as step and close have them, then 3, 5, 16 and 17 at the place's own marking; four 255s where it is refused.
 pub fn finish<'a>(head: Head, relations: &'a Relations, table: &'a [u8], place: usize) -> Finished
     ensures { result ≡ finished_at (graph_of head relations.now) table.now place }
 {
     let wide = wide_for(head.activities);
-    if table.len() < table::length(wide) {
-        return Finished {
-            answer: Answer::BufferTooSmall,
-            way: Way::NONE,
-        };
-    }
-    if !table::is_open(table, place, wide) {
-        return Finished {
-            answer: Answer::NotOpen,
-            way: Way::NONE,
-        };
-    }
-    let m = table::marking_at(table, place, wide);
+    let Some(held) = Table::over(table, wide) else {
+        return refused(Answer::BufferTooSmall);
+    };
+    let Some(m) = held.call_at(place) else {
+        return refused(Answer::NotOpen);
+    };
     search::way_out(head, relations, m)
 }
 
@@ -43,11 +46,9 @@ pub fn finish_on<'a>(
 {
     let asked = judge_place(table, place, wide);
     if !asked.is_done() {
-        return Finished {
-            answer: asked,
-            way: Way::NONE,
-        };
+        return refused(asked);
     }
-    let m = table::marking_at(table, place, wide);
+    let held = Table { bytes: table, wide };
+    let m = held.marking_at(place);
     search::way_out_on(events, relations, m)
 }

@@ -1,14 +1,16 @@
 -- What the parts of the search give. Nothing of the promise stands here: `finish_of` does not speak of it.
-use Rattle.std.specs.Prelude.{Bool, true, List, [], ℕ, eqb, ltb}
+use Rattle.std.specs.Prelude.{Bool, List, ℕ, Option, eqb, ltb}
+use Rattle.std.specs.Bool.{then_some}
 use Rattle.sets.specs.Tests.{◌and◌, ◌or◌, non, when◌then◌else◌}
-use Rattle.sets.specs.Members.{width, mem, those, some_below, every_below}
+use Rattle.sets.specs.Members.{width, mem, those, some_below, every_below, least_below}
 use Rattle.sets.specs.Rows.{in_row, rows_of, rows_for, turned}
 use Rattle.sets.specs.Answers.{is_done}
+use Rattle.sets.specs.declared.activity.Activity.{Activity}
 use Rattle.sets.specs.declared.set.Set.{Set}
 use Rattle.engine.specs.declared.marking.State.{State}
 use Rattle.engine.specs.Relations.{Relations}
 use Rattle.engine.specs.Steps.{enabled}
-use Rattle.finish.specs.declared.search.Found.{Found}
+use Rattle.finish.specs.declared.search.Way.{Way}
 use Rattle.finish.specs.Ways.{can_finish, way_of, in_four}
 
 -- ---- which steps can be the last
@@ -42,15 +44,15 @@ candidates_of events settlers m left =
 abbrev pub open_from : Set → Set → Relations → State → ℕ → ℕ → Bool
 open_from live events r m i a = mem live a and non (ltb a i) and is_done (enabled events r m a)
 
--- whether there is a way of n steps, and the first one
-abbrev pub found_of : Set → Relations → ℕ → State → Found
-found_of events r n m =
-    record { there = can_finish events r n m; way = in_four (when can_finish events r n m then way_of events r n m else []) }
+-- the least of these
+abbrev pub first_open : Set → Set → Relations → State → ℕ → Option Activity
+first_open live events r m i =
+    then_some (ltb (least_below width (open_from live events r m i)) width) (record { 0 = least_below width (open_from live events r m i) })
 
--- a way that was found, with a step in front
-abbrev pub ahead_of : ℕ → Found → Found
-ahead_of a f =
-    record {
-      there = true;
-      way = record { first = record { 0 = a }; second = f.way.first; third = f.way.second; fourth = f.way.third };
-    }
+-- the first way of n steps, where there is one
+abbrev pub found_of : Set → Relations → ℕ → State → Option Way
+found_of events r n m = then_some (can_finish events r n m) (in_four (way_of events r n m))
+
+-- a way, with a step in front
+abbrev pub ahead_of : ℕ → Way → Way
+ahead_of a w = record { first = record { 0 = a }; second = w.first; third = w.second; fourth = w.third }

@@ -2,15 +2,14 @@
 // numbers (02, 8/12). The search tries one activity and asks the same question with one step fewer left.
 ghost use Rattle.std.specs.Prelude.{◌≡◌};
 ghost use Rattle.engine.specs.Relations.{graph_of, in_tables};
-ghost use Rattle.sets.specs.Members.{width, least_below};
 ghost use Rattle.finish.specs.Ways.{shortest_of, finish_after, finish_of, finish_on};
-ghost use Rattle.finish.specs.Parts.{settlers_of, open_from, ahead_of, found_of};
+ghost use Rattle.finish.specs.Parts.{settlers_of, first_open, ahead_of, found_of};
 
 use crate::settle;
 use engine::{Graph, Head, Marking, Relations, State, judge, step};
 use sets::{Activity, Answer, Rows, Set};
 
-// Four steps; 255 in the places that are not used.
+// Four steps; 255 in the places that are not used, and no Option there, since docs/PORT-OTHER.md promises four 255s of `finish`.
 #[derive(Clone, Copy)]
 pub struct Way {
     pub first: Activity,
@@ -26,13 +25,6 @@ pub struct Finished {
     pub way: Way,
 }
 
-// Whether there is a way of the length asked for, and the first one.
-#[derive(Clone, Copy)]
-struct Found {
-    there: bool,
-    way: Way,
-}
-
 impl Way {
     // What stands in an unused place.
     pub const UNUSED: Activity = Activity(255);
@@ -45,104 +37,77 @@ impl Way {
         third: Way::UNUSED,
         fourth: Way::UNUSED,
     };
-}
 
-impl Found {
-    const NOWHERE: Found = Found {
-        there: false,
-        way: Way::NONE,
-    };
-
-    // A way that was found, with a step in front.
-    fn ahead(self, a: Activity) -> Found
+    // A step, and then this way; the fourth step of it has no place.
+    fn ahead(self, a: Activity) -> Way
         ensures { result ≡ ahead_of a.0 self }
     {
-        let rest = self.way;
-        let second = rest.first;
-        let third = rest.second;
-        let fourth = rest.third;
-        let way = Way {
+        Way {
             first: a,
-            second,
-            third,
-            fourth,
-        };
-        Found { there: true, way }
-    }
-}
-
-// The least of some activities, from a number on, that is enabled; the limit where there is none.
-fn open_from(live: Set, events: Set, relations: &Relations, s: State, from: u8) -> Activity
-    ensures { result.0 ≡ least_below width (open_from live events (in_tables relations.now) s from) }
-{
-    let rest = live.difference(Set::below(from));
-    let mut a = rest.least();
-    while a.0 < Activity::LIMIT {
-        let answer = step::ask(events, relations, s, a);
-        if answer.is_done() {
-            return a;
+            second: self.first,
+            third: self.second,
+            fourth: self.third,
         }
-        a = rest.next(a);
     }
-    Activity(Activity::LIMIT)
 }
 
-// The first way of exactly so many steps.
-fn first_way<'a>(
+// What every step of a search looks at: the graph, and which events settle what.
+#[derive(Clone, Copy)]
+struct Search<'a> {
     events: Set,
     relations: &'a Relations,
     settlers: &'a Rows,
-    s: State,
-    left: u8,
-) -> Found
-    requires { settlers.now ≡ settlers_of events (in_tables relations.now) }
-    ensures { result ≡ found_of events (in_tables relations.now) left s }
-{
-    if left == 0 {
-        let there = step::is_accepting(s);
-        return Found {
-            there,
-            way: Way::NONE,
-        };
-    }
-    let live = settle::candidates(events, settlers, s, left);
-    let mut a = open_from(live, events, relations, s, 0);
-    while a.0 < Activity::LIMIT {
-        let rest = first_way(
-            events,
-            relations,
-            settlers,
-            step::next(relations, s, a),
-            left - 1,
-        );
-        if rest.there {
-            return rest.ahead(a);
-        }
-        a = open_from(live, events, relations, s, a.0 + 1);
-    }
-    Found::NOWHERE
+    ghost turned: { settlers.now ≡ settlers_of events (in_tables relations.now) },
 }
 
-// The way with the fewest steps, from 0 up to the limit.
-fn shortest<'a>(events: Set, relations: &'a Relations, settlers: &'a Rows, s: State) -> Finished
-    requires { settlers.now ≡ settlers_of events (in_tables relations.now) }
-    ensures { result ≡ shortest_of events (in_tables relations.now) s }
-{
-    let mut steps: u8 = 0;
-    while steps <= Way::LIMIT {
-        let found = first_way(events, relations, settlers, s, steps);
-        if found.there {
-            let way = found.way;
-            return Finished {
-                answer: Answer::Done,
-                way,
-            };
+impl Search<'_> {
+    // The least of some activities, from a number on, that is enabled.
+    fn open_from(&self, live: Set, s: State, from: u8) -> Option<Activity>
+        ensures { result ≡ first_open live self.now.events (in_tables self.now.relations.now) s from }
+    {
+        let rest = live.difference(Set::below(from));
+        for a in rest.members() {
+            if step::ask(self.events, self.relations, s, a).is_done() {
+                return Some(a);
+            }
         }
-        steps += 1;
+        None
     }
-    Finished {
-        answer: Answer::NoWayOut,
-        way: Way::NONE,
+
+    // The first way of exactly so many steps.
+    fn first_way(&self, s: State, left: u8) -> Option<Way>
+        ensures { result ≡ found_of self.now.events (in_tables self.now.relations.now) left s }
+    {
+        if left == 0 {
+            return step::is_accepting(s).then_some(Way::NONE);
+        }
+        let live = settle::candidates(self.events, self.settlers, s, left);
+        let mut open = self.open_from(live, s, 0);
+        while let Some(a) = open {
+            if let Some(rest) = self.first_way(step::next(self.relations, s, a), left - 1) {
+                return Some(rest.ahead(a));
+            }
+            open = self.open_from(live, s, a.0 + 1);
+        }
+        None
+    }
+
+    // The way with the fewest steps, from 0 up to the limit.
+    fn shortest(&self, s: State) -> Finished
+        ensures { result ≡ shortest_of self.now.events (in_tables self.now.relations.now) s }
+    {
+        for steps in 0..=Way::LIMIT {
+            if let Some(way) = self.first_way(s, steps) {
+                return Finished {
+                    answer: Answer::Done,
+                    way,
+                };
+            }
+        }
+        Finished {
+            answer: Answer::NoWayOut,
+            way: Way::NONE,
+        }
     }
 }
 
@@ -157,8 +122,12 @@ fn way_after(judged: Answer, events: Set, relations: &Relations, s: State) -> Fi
             way: Way::NONE,
         };
     }
-    let settlers = settle::settlers(events, relations);
-    shortest(events, relations, &settlers, s)
+    let search = Search {
+        events,
+        relations,
+        settlers: &settle::settlers(events, relations),
+    };
+    search.shortest(s)
 }
 
 // The way out on lent relations from any marking: the refusals of the graph and of the marking come first.

@@ -2,7 +2,7 @@
 // table of what settles what is built once and the others are not tried.
 ghost use Rattle.std.specs.Prelude.{◌≡◌};
 ghost use Rattle.sets.specs.Tests.{◌and◌};
-ghost use Rattle.sets.specs.Members.{width, mem, those, least_below};
+ghost use Rattle.sets.specs.Members.{mem, those};
 ghost use Rattle.sets.specs.Rows.{in_row, rows_for};
 ghost use Rattle.engine.specs.Relations.{in_tables};
 ghost use Rattle.finish.specs.Parts.{settles, settlers_of, in_all, candidates_of};
@@ -29,11 +29,8 @@ fn settled_rows(events: Set, relations: &Relations) -> Rows
     ensures { result ≡ rows_for events (settles (in_tables relations.now)) }
 {
     let mut out = rows::empty();
-    let mut a = events.least();
-    while a.0 < Activity::LIMIT {
-        let row = settled(relations, a);
-        rows::put(&mut out, a, row);
-        a = events.next(a);
+    for a in events.members() {
+        rows::put(&mut out, a, settled(relations, a));
     }
     out
 }
@@ -46,11 +43,11 @@ pub(crate) fn settlers(events: Set, relations: &Relations) -> Rows
     rows::turned(&settled)
 }
 
-// The members of a set that settle the least member of another.
-fn narrowed(settlers: &Rows, live: Set, owed: Set) -> Set
-    ensures { result ≡ those (λ a. mem live a and in_row settlers.now (least_below width (mem owed)) a) }
+// The members of a set that settle an activity.
+fn narrowed(settlers: &Rows, live: Set, owed: Activity) -> Set
+    ensures { result ≡ those (λ a. mem live a and in_row settlers.now owed.0 a) }
 {
-    live.intersection(rows::row(settlers, owed.least()))
+    live.intersection(rows::row(settlers, owed))
 }
 
 // The members of a set that settle every member of another.
@@ -58,13 +55,11 @@ fn settling(settlers: &Rows, live: Set, owed: Set) -> Set
     ensures { result ≡ those (in_all settlers.now live owed) }
 {
     let mut out = live;
-    let mut rest = owed;
-    while !rest.is_empty() {
+    for x in owed.members() {
         if out.is_empty() {
             return out;
         }
-        out = narrowed(settlers, out, rest);
-        rest = rest.without_least();
+        out = narrowed(settlers, out, x);
     }
     out
 }

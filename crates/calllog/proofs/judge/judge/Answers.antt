@@ -6,8 +6,8 @@ use Rattle.calllog.proofs.judge.judge.Goals as goal
 pub returns-then-not-is_done : goal.returns-then-not-is_done
 returns-then-not-is_done c = search (judging, rules)
 
-pub judge_contents-requires : goal.judge_contents-requires
-judge_contents-requires c = search (entries-there, rules)
+pub invariant_of-judge_contents : goal.invariant_of-judge_contents
+invariant_of-judge_contents c = record { whole = search (entries-there, rules) }
 
 pub returns : goal.returns
 returns c = search (judging, rules)

@@ -1,14 +1,12 @@
-use borrow.Author.Rules.{rules}
-use Rattle.sets.proofs.Ways.{choice}
 use Rattle.desk.specs.Desk.{place_answer}
-use Rattle.desk.proofs.Serving.{measured}
+use Rattle.desk.proofs.Calling.{too-short, place-free, place-taken}
 use Rattle.desk.proofs.requests.judge_place.Goals as goal
 
-pub returns-then-table-length : goal.returns-then-table-length
-returns-then-table-length c = unfold place_answer in search (choice, measured, rules)
+pub returns-in_default : goal.returns-in_default
+returns-in_default c = unfold place_answer in too-short _ _ _ _ c.in_default.ensures
 
-pub returns-then-not-is_open : goal.returns-then-not-is_open
-returns-then-not-is_open c = unfold place_answer in search (choice, measured, rules)
+pub returns-else-is_open : goal.returns-else-is_open
+returns-else-is_open c = unfold place_answer in place-free _ _ c.in-Some.held.whole _ _ c.in-Some.ensures _ _ c.is_open.ensures _ c.if-is_open.false
 
-pub returns : goal.returns
-returns c = unfold place_answer in search (choice, measured, rules)
+pub returns-then-is_open : goal.returns-then-is_open
+returns-then-is_open c = unfold place_answer in place-taken _ _ c.in-Some.held.whole _ _ c.in-Some.ensures _ _ c.is_open.ensures _ c.if-is_open.true

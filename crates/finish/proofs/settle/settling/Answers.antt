@@ -1,18 +1,15 @@
 use borrow.Author.Rules.{rules}
-use Rattle.finish.proofs.Settling.{narrowing}
+use Rattle.finish.proofs.Settling.{narrow_start, narrow-taken, narrow-cut, narrow-whole}
 use Rattle.finish.proofs.settle.settling.Goals as goal
 
-pub loop-rest-init : goal.loop-rest-init
-loop-rest-init c = search (narrowing, rules)
+pub loop-x-init : goal.loop-x-init
+loop-x-init c = search (narrow_start, rules)
 
 pub returns-then-is_empty : goal.returns-then-is_empty
-returns-then-is_empty c = search (narrowing, rules)
+returns-then-is_empty c = narrow-cut _ _ _ _ _ c.loop-x.invariant _ _ c.is_empty.ensures c.if-is_empty.true (search rules)
 
-pub loop-rest-smaller : goal.loop-rest-smaller
-loop-rest-smaller c = search (narrowing, rules)
-
-pub loop-rest-preserved : goal.loop-rest-preserved
-loop-rest-preserved c = search (narrowing, rules)
+pub loop-x-preserved : goal.loop-x-preserved
+loop-x-preserved c = narrow-taken _ _ _ _ _ c.loop-x.invariant _ _ _ c.in-Some.ensures.steps c.narrowed-out.ensures
 
 pub returns : goal.returns
-returns c = search (narrowing, rules)
+returns c = narrow-whole _ _ _ _ _ c.loop-x.invariant _ c.in-None.ensures.steps.0 (search rules)
