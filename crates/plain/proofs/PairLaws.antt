@@ -36,6 +36,12 @@ pair_is p s t l =
 pub is-not : (a r : Bool) → r ≡ a → not r ≡ non a
 is-not a r h = not-non r ∙ ap non h
 
+-- the code's `&&`
+pub and-is : (a b : Bool) → (a && b) ≡ (a and b)
+unfolding ◌and◌
+and-is true b = refl
+and-is false b = refl
+
 -- what the code asks of an activity that was taken out of a pair
 
 module _ (p a : ℕ) (s : Set) (r : Bool) where
@@ -64,16 +70,12 @@ module _ (pairs : List ℕ) where
 
   -- as the library says that every number passes
   pub all-in : (p : ℕ → Bool) → list_all p pairs ≡ every_in pairs p
-  unfolding every_in every_below ◌and◌
+  unfolding every_in every_below
   all-in p = go pairs
     where
-      both : (a b : Bool) → (a && b) ≡ (a and b)
-      both true b = refl
-      both false b = refl
-
       go : (xs : List ℕ) → list_all p xs ≡ every_below (length xs) (λ i. p (get_or xs i 0))
       go [] = refl
-      go (x ∷ xs) = both (p x) (list_all p xs) ∙ ap (λ (t : Bool). p x and t) (go xs)
+      go (x ∷ xs) = and-is (p x) (list_all p xs) ∙ ap (λ (t : Bool). p x and t) (go xs)
 
   pub every-in-i : (p : ℕ → Bool) → ((n : ℕ) → T (is_among pairs n) → T (p n)) → T (every_in pairs p)
   unfolding is_among some_in every_in

@@ -55,9 +55,5 @@ pub fn marked(events: Set, conditions: &[u16], s: State) -> Marking
 pub(crate) fn is_true(g: &Graph<'_>, m: Marking) -> bool
     ensures { result ≡ plain_true (plain_held g.now) m }
 {
-    let all = enabled_set(g.head.events, g.conditions, m.state);
-    if !m.enabled.is_within(all) {
-        return false;
-    }
-    all.is_within(m.enabled)
+    m.enabled == enabled_set(g.head.events, g.conditions, m.state)
 }
