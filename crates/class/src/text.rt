@@ -12,7 +12,7 @@ pub fn answer(rt: &impl Print, a: Answer) -> io::Result<()> {
     Ok(())
 }
 
-// A set by its members, rising.
+// A set by its members, rising. The same stands in cases, which says why.
 fn members(rt: &impl Print, name: &str, s: Set) -> io::Result<()> {
     print!(rt; " {name}")?;
     for a in s.members() {
