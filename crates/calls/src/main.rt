@@ -7,7 +7,9 @@ ghost use Rattle.std.specs.Prelude.{◌≤◌, length, IfOk};
 use std::io;
 use std::io::Read;
 
-// Reads until the buffer is full or the input ends, and gives how many bytes it put at the start of the buffer, as in the listing program.
+// Reads until the buffer is full or the input ends, and gives how many bytes it put at the start of the buffer. The same stands in listing:
+// std reads so into memory that it allocates alone, and no library can hold it, since what one lets others call leaves one outcome
+// (docs/STATEMENTS.md), and a read does not.
 fn read_full(from: &mut impl Read, buf: &mut [u8]) -> io::Result<usize>
     ensures { IfOk result (λ n. n ≤ length buf.new) }
 {

@@ -7,7 +7,8 @@ use std::io::Read;
 use std::rt::Files;
 use std::{fs, io, str};
 
-// Whether there is an argument i. One that has bytes does not fit where there is no room, but it is there.
+// Whether there is an argument i. One that has bytes does not fit where there is no room, but it is there. The same stands in listing, since
+// no library can hold it: what one lets others call leaves one outcome (docs/STATEMENTS.md), and a contract can't say what the arguments are.
 pub fn is_given(rt: &impl Env, i: usize) -> bool {
     !matches!(rt.arg(i, &mut []), Err(FillError::NotPresent))
 }
@@ -28,16 +29,17 @@ fn say_word(rt: &(impl Env + Print), i: usize) -> io::Result<()> {
 // The words that begin at argument i; a `-` stands for no second file.
 pub fn say_words(rt: &(impl Env + Print), i: u32) -> io::Result<()> {
     say_word(rt, i as usize)?;
-    text::say(rt, " ")?;
+    print!(rt; " ")?;
     say_word(rt, i as usize + 1)?;
     if kind(rt, i as usize + 2) != b'-' {
-        text::say(rt, " ")?;
+        print!(rt; " ")?;
         say_word(rt, i as usize + 2)?;
     }
     Ok(())
 }
 
-// Reads until the buffer is full, the file ends or a read fails, and gives how many bytes it put at the start of the buffer.
+// Reads until the buffer is full, the file ends or a read fails, and gives how many bytes it put at the start of the buffer. A loop of its
+// own, since that of calls and listing gives an error in place of the bytes before it.
 fn read_full(file: &mut impl Read, buf: &mut [u8]) -> usize
     ensures { IsPrefixLen result buf.new }
 {

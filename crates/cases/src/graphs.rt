@@ -14,23 +14,18 @@ use std::rt::Files;
 // Room for the greatest graph file: 84 bytes, and 17 for each of 128 rows in 4 relations.
 const ROOM: usize = 8788;
 
-// The number in two bytes.
-fn say_two(rt: &impl Print, low: u8, high: u8) -> io::Result<()> {
-    text::number(rt, " ", low as u64 + 256 * high as u64)
-}
-
-// The eight numbers from a place on.
+// The eight numbers, of two bytes each, from a place on.
 fn say_eight(rt: &impl Print, bytes: &[u8; ROOM], from: u8) -> io::Result<()> {
     for i in 0..8 {
         let at = from as usize + 2 * i;
-        say_two(rt, bytes[at], bytes[at + 1])?;
+        print!(rt; " {}", u16::from_le_bytes([bytes[at], bytes[at + 1]]))?;
     }
     Ok(())
 }
 
 // The contents: offset and number of rows, four times, as they stand in the file, after four sets of 8 bytes, or of 16 in edition 2.
 fn say_contents(rt: &impl Print, bytes: &[u8; ROOM]) -> io::Result<()> {
-    text::say(rt, " contents")?;
+    print!(rt; " contents")?;
     if bytes[2] == edition::WIDE {
         return say_eight(rt, bytes, 68);
     }
@@ -38,11 +33,8 @@ fn say_contents(rt: &impl Print, bytes: &[u8; ROOM]) -> io::Result<()> {
 }
 
 // Whether the first bytes of a buffer are the file, and no more than that.
-fn is_file<'a>(out: &'a [u8], length: usize, file: &'a [u8]) -> bool {
-    if length <= out.len() {
-        return &out[0..length] == file;
-    }
-    false
+fn is_file(out: &[u8], length: usize, file: &[u8]) -> bool {
+    out.get(..length).is_some_and(|first| first == file)
 }
 
 // The graph's file, and whether it is the file at hand.
@@ -51,14 +43,14 @@ fn say_written(rt: &impl Print, g: Graph, file: &[u8]) -> io::Result<()> {
     let w = graphfile::write(g, &mut out);
     let answer = w.answer;
     text::answer(rt, "; written: ", answer)?;
-    text::number(rt, " length ", w.length as u64)?;
+    print!(rt; " length {}", w.length)?;
     say_contents(rt, &out)?;
     text::yes_or_no(rt, " same", is_file(&out, w.length, file))
 }
 
 // A, the events, and what is enabled at the opening marking.
 fn say_head(rt: &impl Print, head: Head) -> io::Result<()> {
-    text::number(rt, " A ", head.activities as u64)?;
+    print!(rt; " A {}", head.activities)?;
     text::members(rt, " events", head.events)?;
     text::members(rt, " enabled", head.opening.enabled)
 }
@@ -72,7 +64,7 @@ pub fn rewrite(rt: &impl Print, file: &[u8]) -> io::Result<()> {
     if answer.is_done() {
         say_written(rt, g, file)?;
     }
-    text::line(rt, "")
+    println!(rt)
 }
 
 // The graph of a log, and whether its file is the one expected.
@@ -85,7 +77,7 @@ pub fn mine<'a>(rt: &impl Print, log: &'a [u8], file: &'a [u8]) -> io::Result<()
     if answer.is_done() {
         say_written(rt, g, file)?;
     }
-    text::line(rt, "")
+    println!(rt)
 }
 
 // Writes a graph into a buffer that held other bytes before.
@@ -100,18 +92,18 @@ fn write_into<'a>(
     let answer = w.answer;
     let length = w.length;
     text::answer(rt, ": ", answer)?;
-    text::number(rt, " length ", length as u64)?;
+    print!(rt; " length {length}")?;
     text::yes_or_no(rt, " file", is_file(out, length, file))?;
     text::yes_or_no(rt, " rest as it was", is_rest(out, length, before))?;
-    text::line(rt, "")
+    println!(rt)
 }
 
 // Whether two buffers are the same from a place on.
-fn is_rest<'a>(out: &'a [u8], from: usize, before: &'a [u8]) -> bool {
-    if from <= out.len() && from <= before.len() {
-        return &out[from..] == &before[from..];
+fn is_rest(out: &[u8], from: usize, before: &[u8]) -> bool {
+    match (out.get(from..), before.get(from..)) {
+        (Some(rest), Some(old)) => rest == old,
+        _ => false,
     }
-    false
 }
 
 // The buffer lent holds the second file's bytes.
@@ -154,10 +146,10 @@ fn write_first<'a>(
     first: u8,
 ) -> io::Result<()> {
     let size = first as usize;
-    if size <= before.len() && size <= out.len() {
-        write_into(rt, g, file, &before[0..size], &mut out[0..size])?;
+    match (before.get(..size), out.get_mut(..size)) {
+        (Some(before), Some(out)) => write_into(rt, g, file, before, out),
+        _ => Ok(()),
     }
-    Ok(())
 }
 
 // The value at its opening marking, with the key of its row as the activity; then its write, and whether that is the file at hand.
@@ -168,7 +160,7 @@ pub fn value<'a>(rt: &impl Print, file: &'a [u8], bytes: &'a [u8]) -> io::Result
         let g = value_of(bytes);
         let head = g.head;
         moves::say_step(rt, g, head.opening, Activity(bytes[3]))?;
-        text::say(rt, "; written")?;
+        print!(rt; "; written")?;
         write_first(rt, g, file, &before, &mut out, bytes[0])?;
     }
     Ok(())

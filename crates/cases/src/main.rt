@@ -22,7 +22,7 @@ fn run_pair(rt: &(impl Env + Files + Print), kind: u8, first: &[u8], i: u32) -> 
     let mut buf = [0u8; 40000];
     let n = files::load(rt, i as usize + 2, &mut buf);
     if n == 0 {
-        return text::line(rt, ": no second file");
+        return println!(rt; ": no second file");
     }
     match kind {
         b'm' => graphs::mine(rt, first, &buf[..n]),
@@ -30,7 +30,7 @@ fn run_pair(rt: &(impl Env + Files + Print), kind: u8, first: &[u8], i: u32) -> 
         b't' => replays::replay_whole(rt, first, &buf[..n]),
         b's' => moves::step(rt, first, &buf[..n]),
         b'v' => graphs::value(rt, first, &buf[..n]),
-        _ => text::line(rt, ": no such case"),
+        _ => println!(rt; ": no such case"),
     }
 }
 
@@ -41,7 +41,7 @@ fn run(rt: &(impl Env + Files + Print), i: u32) -> io::Result<()> {
     let n = files::load(rt, i as usize + 1, &mut buf);
     files::say_words(rt, i)?;
     if n == 0 {
-        return text::line(rt, ": no file");
+        return println!(rt; ": no file");
     }
     match kind {
         b'l' => logs::judge(rt, &buf[..n]),

@@ -32,5 +32,5 @@ pub fn step<'a>(rt: &impl Print, file: &'a [u8], at: &'a [u8]) -> io::Result<()>
         let m = marking::read_marking(at, wide);
         say_step(rt, r.graph, m, Activity(at[size]))?;
     }
-    text::line(rt, "")
+    println!(rt)
 }

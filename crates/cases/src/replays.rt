@@ -8,10 +8,10 @@ use std::io;
 fn say_replayed(rt: &impl Print, r: Replayed) -> io::Result<()> {
     let answer = r.answer;
     text::blocked(rt, ": ", answer)?;
-    text::number(rt, " place ", r.place.0 as u64)?;
+    print!(rt; " place {}", r.place.0)?;
     text::marking(rt, r.marking)?;
     text::yes_or_no(rt, " accepting", r.accepting)?;
-    text::line(rt, "")
+    println!(rt)
 }
 
 // All bytes of a file as one trace.
@@ -19,14 +19,6 @@ pub fn replay_whole<'a>(rt: &impl Print, file: &'a [u8], trace: &'a [u8]) -> io:
     let r = graphfile::read(file);
     let g = r.graph;
     say_replayed(rt, engine::replay::replay(g, trace))
-}
-
-// The first bytes as a trace.
-fn replay_first(rt: &impl Print, g: Graph, bytes: &[u8], length: usize) -> io::Result<()> {
-    if length <= bytes.len() {
-        say_replayed(rt, engine::replay::replay(g, &bytes[0..length]))?;
-    }
-    Ok(())
 }
 
 // A part of the bytes as a trace.
@@ -37,10 +29,13 @@ fn replay_part(
     start: usize,
     length: usize,
 ) -> io::Result<()> {
-    if start <= bytes.len() {
-        replay_first(rt, g, &bytes[start..], length)?;
-    }
-    Ok(())
+    let Some(rest) = bytes.get(start..) else {
+        return Ok(());
+    };
+    let Some(trace) = rest.get(..length) else {
+        return Ok(());
+    };
+    say_replayed(rt, engine::replay::replay(g, trace))
 }
 
 // Trace k of a log.
@@ -48,7 +43,7 @@ fn replay_trace(rt: &(impl Env + Print), g: Graph, log: &[u8], k: usize, i: u32)
     if 0 < k {
         files::say_words(rt, i)?;
     }
-    text::number(rt, " trace ", k as u64)?;
+    print!(rt; " trace {k}")?;
     let found = calllog::trace::find_trace(log, k);
     replay_part(rt, g, log, found.start, found.length)
 }

@@ -13,6 +13,7 @@ use std::io;
 use std::io::Read;
 
 // Reads until the buffer is full or the input ends, and gives how many bytes it put at the start of the buffer. It asks for no byte more.
+// The same stands in calls, which says why.
 fn read_full(from: &mut impl Read, buf: &mut [u8]) -> io::Result<usize>
     ensures { IfOk result (λ n. n ≤ length buf.new) }
 {
@@ -29,10 +30,10 @@ fn read_full(from: &mut impl Read, buf: &mut [u8]) -> io::Result<usize>
 
 // Writes the first n bytes. They are always there: no listing is longer than the buffer (crates/report/proofs/Longest.antt).
 fn write_first(rt: &impl Print, out: &[u8], n: usize) -> io::Result<()> {
-    if n <= out.len() {
-        rt.write_all(&out[0..n])?;
+    match out.get(..n) {
+        Some(first) => rt.write_all(first),
+        None => Ok(()),
     }
-    Ok(())
 }
 
 // Lists a log into the bytes lent, and writes what came of it.
@@ -64,19 +65,15 @@ fn refuse(rt: &impl Print, answer: Answer) -> io::Result<()> {
     write_first(rt, &out, n)
 }
 
-// Whether there is an argument i. One that has bytes does not fit where there is no room, but it is there.
+// Whether there is an argument i. One that has bytes does not fit where there is no room, but it is there. The same stands in cases, which
+// says why.
 fn is_given(rt: &impl Env, i: usize) -> bool {
     !matches!(rt.arg(i, &mut []), Err(FillError::NotPresent))
 }
 
 // How many arguments there are beside the program's name.
 fn argument_count(rt: &impl Env) -> usize {
-    for i in 1..usize::MAX {
-        if !is_given(rt, i) {
-            return i - 1;
-        }
-    }
-    usize::MAX
+    (1..usize::MAX).take_while(|&i| is_given(rt, i)).count()
 }
 
 fn main(rt: HostRuntime) -> io::Result<()> {

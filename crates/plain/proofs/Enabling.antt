@@ -1,27 +1,60 @@
 -- The set of enabled activities, from one walk through the conditions. Assumes nothing.
 use mathlib.Core.Path.{◌≡◌, sym, ap, subst, ◌∙◌}
-use mathlib.Core.Bool.{Bool}
+use mathlib.Core.Bool.{Bool, ◌&&◌}
 use mathlib.Core.List.{List, []}
 use Prim.Native.Nat.{ℕ, ◌≤◌, ◌<◌}
 use native.Mathlib.Omega.{arith}
 use lib.Dec.{T, eqb, eqb→eq}
 use lib.ListN.{length, get_or}
 use Rattle.sets.specs.Tests.{◌and◌, ◌or◌, non}
-use Rattle.sets.specs.Members.{width, mem, those, no_set}
+use Rattle.sets.specs.Members.{width, mem, those, no_set, within}
 use Rattle.sets.specs.Answers.{is_done}
 use Rattle.sets.specs.declared.set.Set.{Set}
 use Rattle.sets.proofs.Tests.{and_l, and_r, and_i, or-false, T-ext, eqb_of}
 use Rattle.sets.proofs.Below.{some-i, some-e}
-use Rattle.sets.proofs.Members.{Fits, those-ext, those-of, those-mem, whole-low, mem-none}
+use Rattle.sets.proofs.Members.{Fits, those-ext, those-of, those-mem, whole-low, mem-none, within-e, within-i}
 use Rattle.sets.proofs.MadeSets.{is-those, less}
 use Rattle.engine.specs.declared.marking.State.{State}
+use Rattle.engine.specs.declared.marking.Marking.{Marking}
 use Rattle.engine.specs.Steps.{blocking, waits, enabled}
-use Rattle.engine.specs.Enabled.{enabled_set}
+use Rattle.engine.specs.Enabled.{enabled_set, is_true}
 use Rattle.engine.proofs.Enabling.{done-parts}
 use Rattle.plain.specs.Pairs.{pair_of, source_of, target_of, some_in, is_among, blocks}
 use Rattle.plain.specs.Graphs.{in_lists}
-use Rattle.plain.proofs.PairLaws.{stands}
-use Rattle.plain.proofs.Stepping.{or-more, so_far, targets-end, from-pair, to-pair}
+use Rattle.plain.proofs.PairLaws.{and-is, stands}
+use Rattle.plain.proofs.Stepping.{true-alone, or-more, so_far, targets-end, from-pair, to-pair}
+
+-- the code's `==` of two sets: each is within the other
+module _ (s t : Set) (fs : Fits s) (ft : Fits t) where
+  same-set : T (within s t) → T (within t s) → s ≡ t
+  same-set x y =
+      sym (those-mem s fs)
+      ∙ those-ext (mem s) (mem t) (λ a l. T-ext _ _ (within-e s t x a l) (within-e t s y a l))
+      ∙ those-mem t ft
+
+  equal-is : (r : Bool) → r ≡ (eqb s.low t.low && eqb s.high t.high) → r ≡ (within s t and within t s)
+  equal-is r h =
+      h
+      ∙ and-is (eqb s.low t.low) (eqb s.high t.high)
+      ∙ T-ext _ _
+      (λ e.
+      let low = eqb→eq s.low t.low (and_l _ _ e) in
+      let high = eqb→eq s.high t.high (and_r _ _ e) in
+      let same : s ≡ t = λ j. record { low = low j; high = high j } in
+      let all : T (within s s) = within-i s s (λ a l m. m) in
+      and_i _ _ (subst (λ (u : Set). T (within s u)) same all) (subst (λ (u : Set). T (within u s)) same all))
+      (λ e.
+      let same = same-set (and_l _ _ e) (and_r _ _ e) in
+      and_i _ _ (eqb_of (ap (λ (u : Set). u.low) same)) (eqb_of (ap (λ (u : Set). u.high) same)))
+
+-- so a marking is true whose set equals the one worked out
+pub equal-true : (c r i x : List ℕ) (events : Set) (m : Marking) (all : Set) (t : Bool) → Fits m.enabled → Fits all
+    → t ≡ (eqb m.enabled.low all.low && eqb m.enabled.high all.high) → all ≡ enabled_set events (in_lists c [] [] []) m.state
+    → t ≡ is_true events (in_lists c r i x) m
+unfolding is_true
+equal-true c r i x events m all t fm fa ht ha =
+    true-alone c r i x events m t
+    (equal-is m.enabled all fm fa t ht ∙ ap (λ (u : Set). within m.enabled u and within u m.enabled) ha)
 
 -- pair p keeps b waiting
 abbrev pub keeps : State → ℕ → ℕ → Bool

@@ -1,14 +1,15 @@
 -- Lists of pairs: what stands in one, and a walk through it. Assumes nothing.
-use mathlib.Core.Path.{◌≡◌, sym, ap, ◌∙◌, subst}
-use mathlib.Core.Bool.{Bool, true, false, not}
-use mathlib.Core.List.{List}
+use mathlib.Core.Path.{◌≡◌, refl, sym, ap, ◌∙◌, subst}
+use mathlib.Core.Bool.{Bool, true, false, not, ◌&&◌}
+use mathlib.Core.List.{List, [], ◌∷◌}
 use Prim.Native.Nat.{ℕ, ◌<◌}
 use native.Mathlib.Omega.{arith}
 use borrow.Author.Tests.{eq-eqb, ne_eqb}
 use lib.Dec.{T, eqb, eqb→eq, eqb_refl}
 use lib.ListN.{length, get_or}
 use Rattle.sets.specs.Tests.{◌and◌, non}
-use Rattle.sets.specs.Members.{mem}
+use Rattle.sets.specs.Members.{mem, every_below}
+use Rattle.std.specs.List.{list_all}
 use Rattle.sets.specs.declared.set.Set.{Set}
 use Rattle.sets.proofs.Tests.{and_l, and_r, and_i, T-ext, eqb_of, not-non}
 use Rattle.sets.proofs.Below.{some-i, some-e, every-i, every-e}
@@ -35,6 +36,12 @@ pair_is p s t l =
 pub is-not : (a r : Bool) → r ≡ a → not r ≡ non a
 is-not a r h = not-non r ∙ ap non h
 
+-- the code's `&&`
+pub and-is : (a b : Bool) → (a && b) ≡ (a and b)
+unfolding ◌and◌
+and-is true b = refl
+and-is false b = refl
+
 -- what the code asks of an activity that was taken out of a pair
 
 module _ (p a : ℕ) (s : Set) (r : Bool) where
@@ -60,6 +67,15 @@ module _ (pairs : List ℕ) where
   pub stands : (i : ℕ) → i < length pairs → T (is_among pairs (get_or pairs i 0))
   unfolding is_among some_in
   stands i l = some-i (length pairs) (λ j. eqb (get_or pairs j 0) (get_or pairs i 0)) i l (eqb_refl (get_or pairs i 0))
+
+  -- as the library says that every number passes
+  pub all-in : (p : ℕ → Bool) → list_all p pairs ≡ every_in pairs p
+  unfolding every_in every_below
+  all-in p = go pairs
+    where
+      go : (xs : List ℕ) → list_all p xs ≡ every_below (length xs) (λ i. p (get_or xs i 0))
+      go [] = refl
+      go (x ∷ xs) = and-is (p x) (list_all p xs) ∙ ap (λ (t : Bool). p x and t) (go xs)
 
   pub every-in-i : (p : ℕ → Bool) → ((n : ℕ) → T (is_among pairs n) → T (p n)) → T (every_in pairs p)
   unfolding is_among some_in every_in

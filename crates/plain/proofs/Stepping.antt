@@ -31,15 +31,6 @@ use Rattle.plain.proofs.PairLaws.{pair_is, stands}
 
 -- ---- a rule that reads one relation reads it from its list alone
 
-module _ (c r i x : List ℕ) (m : State) (e : ℕ) where
-  pub ask-alone : (events : Set) (a : Answer) → a ≡ enabled events (in_lists c [] [] []) m e → a ≡ enabled events (in_lists c r i x) m e
-  unfolding enabled waits blocker
-  ask-alone events a h = h
-
-  pub next-alone : (n : State) → n ≡ after (in_lists [] r i x) m e → n ≡ after (in_lists c r i x) m e
-  unfolding after
-  next-alone n h = h
-
 module _ (c r i x : List ℕ) (events : Set) where
   pub marked-alone : (s : State) (n : Marking) → n ≡ marked events (in_lists c [] [] []) s → n ≡ marked events (in_lists c r i x) s
   unfolding enabled_set enabled waits blocker
@@ -48,11 +39,6 @@ module _ (c r i x : List ℕ) (events : Set) where
   pub true-alone : (m : Marking) (t : Bool) → t ≡ is_true events (in_lists c [] [] []) m → t ≡ is_true events (in_lists c r i x) m
   unfolding is_true enabled_set enabled waits blocker
   true-alone m t h = h
-
-  pub both-alone : (m m' : Marking) (t : Bool) → t ≡ (is_true events (in_lists c [] [] []) m and is_true events (in_lists c [] [] []) m')
-      → t ≡ (is_true events (in_lists c r i x) m and is_true events (in_lists c r i x) m')
-  unfolding is_true enabled_set enabled waits blocker
-  both-alone m m' t h = h
 
 -- ---- waiting
 
@@ -237,12 +223,12 @@ leads e p b = eqb p (pair_of e b)
 
 -- ---- the state after a step
 
-module _ (r i x : List ℕ) (m : State) (e : ℕ) where
+module _ (c r i x : List ℕ) (m : State) (e : ℕ) where
   pub next-by : (one ex done p left n : Set) (m' : State) → one ≡ those (λ b. eqb b e) → ex
       ≡ those (λ a. mem m.executed a or mem one a)
       → done ≡ those (λ a. mem m.pending a and non (mem one a)) → p ≡ those (λ a. mem done a or in_pairs r e a)
       → left ≡ those (λ a. mem m.included a and non (in_pairs x e a)) → n ≡ those (λ a. mem left a or in_pairs i e a)
-      → m' ≡ state_of ex p n → m' ≡ after (in_lists [] r i x) m e
+      → m' ≡ state_of ex p n → m' ≡ after (in_lists c r i x) m e
   unfolding after
   next-by one ex done p left n m' ho hex hd hp hl hn hm =
       hm

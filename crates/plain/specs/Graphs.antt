@@ -10,6 +10,7 @@ use Rattle.engine.specs.declared.graph.Head.{Head}
 use Rattle.engine.specs.Relations.{Relations}
 use Rattle.engine.specs.Enabled.{is_true}
 use Rattle.engine.specs.Judged.{state_within, head_within, found}
+use Rattle.plain.specs.declared.graph.Graph.{Graph}
 use Rattle.plain.specs.Pairs.{most_pairs, in_pairs, pairs_within}
 
 pub record PlainGraph : Type 0 where
@@ -22,6 +23,10 @@ pub record PlainGraph : Type 0 where
 abbrev pub plain_of : Head → List ℕ → List ℕ → List ℕ → List ℕ → PlainGraph
 plain_of head conditions responses includes excludes =
     record { head = head; conditions = conditions; responses = responses; includes = includes; excludes = excludes }
+
+-- the graph whose lists a caller lends
+abbrev pub plain_held : Graph → PlainGraph
+plain_held g = plain_of g.head g.conditions.now g.responses.now g.includes.now g.excludes.now
 
 -- what four lists hold: the relations that the step rules speak of
 abbrev pub in_lists : List ℕ → List ℕ → List ℕ → List ℕ → Relations

@@ -5,8 +5,9 @@ ghost use Rattle.sets.specs.Tests.{◌or◌};
 ghost use Rattle.sets.specs.Members.{mem, those};
 ghost use Rattle.engine.specs.Enabled as rules;
 ghost use Rattle.plain.specs.Pairs.{some_in, blocks};
-ghost use Rattle.plain.specs.Graphs.{in_lists};
+ghost use Rattle.plain.specs.Graphs.{plain_held, plain_true, in_lists};
 
+use crate::graph::Graph;
 use crate::pairs::target;
 use crate::step::is_blocking;
 use engine::{Marking, State};
@@ -26,10 +27,8 @@ fn waiting(conditions: &[u16], s: State) -> Set
     ensures { result ≡ those (λ b. some_in conditions.now (blocks s b)) }
 {
     let mut out = Set::EMPTY;
-    let mut i: usize = 0;
-    while i < conditions.len() {
-        out = with_target(out, conditions[i], s);
-        i += 1;
+    for &pair in conditions {
+        out = with_target(out, pair, s);
     }
     out
 }
@@ -53,12 +52,8 @@ pub fn marked(events: Set, conditions: &[u16], s: State) -> Marking
 }
 
 // Whether a marking's set is the one that the step rules give.
-pub(crate) fn is_true(events: Set, conditions: &[u16], m: Marking) -> bool
-    ensures { result ≡ rules.is_true events (in_lists conditions.now [] [] []) m }
+pub(crate) fn is_true(g: &Graph<'_>, m: Marking) -> bool
+    ensures { result ≡ plain_true (plain_held g.now) m }
 {
-    let all = enabled_set(events, conditions, m.state);
-    if !m.enabled.is_within(all) {
-        return false;
-    }
-    all.is_within(m.enabled)
+    m.enabled == enabled_set(g.head.events, g.conditions, m.state)
 }

@@ -32,26 +32,13 @@ fn has_pair(relations: &Relations, kind: u8, k: usize) -> bool
     tables::row(relations, kind, s).has(t)
 }
 
-// What a pair counts.
-fn one_if(wanted: bool) -> usize
-    ensures value { result ≡ digit wanted }
-    ensures upper_bound { result ≤ 1 }
-{
-    if !wanted {
-        return 0;
-    }
-    1
-}
-
 // How many pairs the relation has.
 fn count(relations: &Relations, kind: u8) -> usize
     ensures { result ≡ length (pairs_of (relation_at relations.now kind)) }
 {
     let mut n: usize = 0;
-    let mut k: usize = 0;
-    while k < QUESTIONS {
-        n += one_if(has_pair(relations, kind, k));
-        k += 1;
+    for k in 0..QUESTIONS {
+        n += usize::from(has_pair(relations, kind, k));
     }
     n
 }
@@ -75,11 +62,9 @@ fn put_pairs(relations: &Relations, kind: u8, memory: &mut [u16])
     ensures { memory.new ≡ put_down (pairs_of (relation_at relations.now kind)) memory.old }
 {
     let mut n: usize = 0;
-    let mut k: usize = 0;
-    while k < QUESTIONS {
+    for k in 0..QUESTIONS {
         let wanted = has_pair(relations, kind, k);
         n = put_pair(memory, n, k, wanted);
-        k += 1;
     }
 }
 

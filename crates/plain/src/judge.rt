@@ -1,17 +1,17 @@
 // When a graph of lists, a trace's length or a marking beside it is refused: every 3 before any 5 (02, 1/12), every 5 before any 16
 // (02, 6/12).
-ghost use Rattle.std.specs.Prelude.{◌≡◌, []};
+ghost use Rattle.std.specs.Prelude.{◌≡◌};
 ghost use Rattle.plain.specs.Pairs.{pair_within, pairs_within};
 ghost use Rattle.sets.specs.Tests.{◌and◌};
 ghost use Rattle.engine.specs.Judged.{state_within};
-ghost use Rattle.engine.specs.Enabled.{is_true};
-ghost use Rattle.plain.specs.Graphs.{plain_of, in_lists, lists_fit, lists_within, plain_within};
+ghost use Rattle.plain.specs.Graphs.{plain_held, list_fits, lists_fit, lists_within, plain_within, plain_true};
 ghost use Rattle.plain.specs.Graphs.{plain_above, plain_judged_for, plain_judged_with};
 
 use crate::enabled::is_true;
+use crate::graph::Graph;
 use crate::pairs::{LIMIT, source, target};
 use engine::judge::{any_above, found, head_within, state_within};
-use engine::{Head, Marking, State};
+use engine::{Marking, State};
 use sets::{Answer, Set};
 
 // Whether source and target of a pair are events.
@@ -28,166 +28,88 @@ fn pair_within(events: Set, pair: u16) -> bool
 fn pairs_within(events: Set, pairs: &[u16]) -> bool
     ensures { result ≡ pairs_within events pairs.now }
 {
-    let mut i: usize = 0;
-    while i < pairs.len() {
-        if !pair_within(events, pairs[i]) {
-            return false;
-        }
-        i += 1;
-    }
-    true
+    pairs.iter().all(|&pair| pair_within(events, pair))
 }
 
-// Whether no list is too long.
-fn lists_fit<'a>(
-    conditions: &'a [u16],
-    responses: &'a [u16],
-    includes: &'a [u16],
-    excludes: &'a [u16],
-) -> bool
-    ensures { result ≡ lists_fit conditions.now responses.now includes.now excludes.now }
+// Whether a list is not too long.
+fn fits(pairs: &[u16]) -> bool
+    ensures { result ≡ list_fits pairs.now }
 {
-    if LIMIT < conditions.len() {
-        return false;
-    }
-    if LIMIT < responses.len() {
-        return false;
-    }
-    if LIMIT < includes.len() {
-        return false;
-    }
-    if LIMIT < excludes.len() {
-        return false;
-    }
-    true
+    pairs.len() <= LIMIT
 }
 
-// Whether the pairs of all four are within the events.
-fn lists_within<'a>(
-    events: Set,
-    conditions: &'a [u16],
-    responses: &'a [u16],
-    includes: &'a [u16],
-    excludes: &'a [u16],
-) -> bool
-    ensures { result ≡ lists_within events conditions.now responses.now includes.now
-        excludes.now }
-{
-    if !pairs_within(events, conditions) {
-        return false;
+impl Graph<'_> {
+    // Whether no list is too long.
+    fn lists_fit(&self) -> bool
+        ensures { result ≡ lists_fit self.now.conditions.now self.now.responses.now
+            self.now.includes.now self.now.excludes.now }
+    {
+        fits(self.conditions)
+            && fits(self.responses)
+            && fits(self.includes)
+            && fits(self.excludes)
     }
-    if !pairs_within(events, responses) {
-        return false;
-    }
-    if !pairs_within(events, includes) {
-        return false;
-    }
-    pairs_within(events, excludes)
-}
 
-// Whether the events are below A, and the opening marking and all pairs within the events.
-fn graph_within<'a>(
-    head: Head,
-    conditions: &'a [u16],
-    responses: &'a [u16],
-    includes: &'a [u16],
-    excludes: &'a [u16],
-) -> bool
-    ensures { result ≡ plain_within (plain_of head conditions.now responses.now includes.now
-        excludes.now) }
-{
-    if !head_within(head) {
-        return false;
+    // Whether the pairs of all four are within the events.
+    fn lists_within(&self) -> bool
+        ensures { result ≡ lists_within self.now.head.events self.now.conditions.now
+            self.now.responses.now self.now.includes.now self.now.excludes.now }
+    {
+        let events = self.head.events;
+        pairs_within(events, self.conditions)
+            && pairs_within(events, self.responses)
+            && pairs_within(events, self.includes)
+            && pairs_within(events, self.excludes)
     }
-    lists_within(head.events, conditions, responses, includes, excludes)
-}
 
-// The graph, and the state of a marking beside it.
-fn both_within<'a>(
-    head: Head,
-    conditions: &'a [u16],
-    responses: &'a [u16],
-    includes: &'a [u16],
-    excludes: &'a [u16],
-    s: State,
-) -> bool
-    ensures { result ≡ (plain_within (plain_of head conditions.now responses.now includes.now
-        excludes.now)
-        and state_within head.events s) }
-{
-    if !graph_within(head, conditions, responses, includes, excludes) {
-        return false;
+    // Whether the events are below A, and the opening marking and all pairs within the events.
+    fn is_within(&self) -> bool
+        ensures { result ≡ plain_within (plain_held self.now) }
+    {
+        head_within(self.head) && self.lists_within()
     }
-    state_within(head.events, s)
-}
 
-// The graph's opening marking, and the one beside it.
-fn both_true(head: Head, conditions: &[u16], m: Marking) -> bool
-    ensures { result ≡ (is_true head.events (in_lists conditions.now [] [] []) head.opening
-        and is_true head.events (in_lists conditions.now [] [] []) m) }
-{
-    if !is_true(head.events, conditions, head.opening) {
-        return false;
+    // The graph, and the state of a marking beside it.
+    fn both_within(&self, s: State) -> bool
+        ensures { result ≡ (plain_within (plain_held self.now) and state_within self.now.head.events s) }
+    {
+        self.is_within() && state_within(self.head.events, s)
     }
-    is_true(head.events, conditions, m)
-}
 
-// Whether A, the length of a trace or a list is above its limit.
-fn is_above<'a>(
-    head: Head,
-    conditions: &'a [u16],
-    responses: &'a [u16],
-    includes: &'a [u16],
-    excludes: &'a [u16],
-    length: usize,
-) -> bool
-    ensures { result ≡ plain_above (plain_of head conditions.now responses.now includes.now
-        excludes.now) length }
-{
-    if any_above(head.activities, length) {
-        return true;
+    // The graph's opening marking, and the one beside it.
+    fn both_true(&self, m: Marking) -> bool
+        ensures { result ≡ (plain_true (plain_held self.now) self.now.head.opening
+            and plain_true (plain_held self.now) m) }
+    {
+        is_true(self, self.head.opening) && is_true(self, m)
     }
-    !lists_fit(conditions, responses, includes, excludes)
+
+    // Whether A, the length of a trace or a list is above its limit.
+    fn is_above(&self, length: usize) -> bool
+        ensures { result ≡ plain_above (plain_held self.now) length }
+    {
+        any_above(self.head.activities, length) || !self.lists_fit()
+    }
 }
 
 // A graph, with the length of a trace beside it. What is above its limit is not gone through.
-pub fn judge_for<'a>(
-    head: Head,
-    conditions: &'a [u16],
-    responses: &'a [u16],
-    includes: &'a [u16],
-    excludes: &'a [u16],
-    length: usize,
-) -> Answer
-    ensures { result ≡ plain_judged_for (plain_of head conditions.now responses.now includes.now
-        excludes.now) length }
+pub fn judge_for(g: &Graph<'_>, length: usize) -> Answer
+    ensures { result ≡ plain_judged_for (plain_held g.now) length }
 {
-    if is_above(head, conditions, responses, includes, excludes, length) {
+    if g.is_above(length) {
         return Answer::AboveLimit;
     }
-    let inside = graph_within(head, conditions, responses, includes, excludes);
-    found(
-        false,
-        inside,
-        is_true(head.events, conditions, head.opening),
-    )
+    let inside = g.is_within();
+    found(false, inside, is_true(g, g.head.opening))
 }
 
 // A graph, with a marking beside it.
-pub(crate) fn judge_beside<'a>(
-    head: Head,
-    conditions: &'a [u16],
-    responses: &'a [u16],
-    includes: &'a [u16],
-    excludes: &'a [u16],
-    m: Marking,
-) -> Answer
-    ensures { result ≡ plain_judged_with (plain_of head conditions.now responses.now includes.now
-        excludes.now) m }
+pub(crate) fn judge_beside(g: &Graph<'_>, m: Marking) -> Answer
+    ensures { result ≡ plain_judged_with (plain_held g.now) m }
 {
-    if is_above(head, conditions, responses, includes, excludes, 0) {
+    if g.is_above(0) {
         return Answer::AboveLimit;
     }
-    let inside = both_within(head, conditions, responses, includes, excludes, m.state);
-    found(false, inside, both_true(head, conditions, m))
+    let inside = g.both_within(m.state);
+    found(false, inside, g.both_true(m))
 }

@@ -5,9 +5,11 @@
 pub mod enabled;
 pub mod execute;
 pub mod fill;
+pub mod graph;
 pub mod judge;
 mod pairs;
 pub mod replay;
 pub mod step;
 
 pub use fill::Filled;
+pub use graph::Graph;

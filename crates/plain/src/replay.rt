@@ -1,65 +1,48 @@
 // The replay of a trace (01, "A step"), event by event.
 ghost use Rattle.std.specs.Prelude.{◌≡◌};
 ghost use Rattle.engine.specs.Replay.{replay_from};
-ghost use Rattle.plain.specs.Graphs.{plain_of, in_lists};
+ghost use Rattle.plain.specs.Graphs.{plain_held, plain_relations};
 ghost use Rattle.plain.specs.Results.{plain_replay_of};
 
+use crate::graph::Graph;
 use crate::{enabled, judge, step};
 use engine::step::is_accepting;
-use engine::{Head, Marking, Replayed};
+use engine::{Marking, Replayed};
 use sets::{Activity, Answer, Place};
 
 // A whole trace from the opening marking, on lists that have been judged. The set of enabled activities is worked out once, for the
 // marking that is given back (02, 6/12).
-fn run<'a>(
-    head: Head,
-    conditions: &'a [u16],
-    responses: &'a [u16],
-    includes: &'a [u16],
-    excludes: &'a [u16],
-    trace: &'a [u8],
-) -> Replayed
-    ensures { result ≡ replay_from head.events
-        (in_lists conditions.now responses.now includes.now excludes.now)
-        head.opening.state 0 trace.now }
+fn run(g: &Graph<'_>, trace: &[u8]) -> Replayed
+    ensures { result ≡ replay_from g.now.head.events (plain_relations (plain_held g.now))
+        g.now.head.opening.state 0 trace.now }
 {
-    let mut s = head.opening.state;
-    let mut i: usize = 0;
-    while i < trace.len() {
-        let a = Activity(trace[i]);
-        let answer = step::ask(head.events, conditions, s, a);
+    let mut s = g.head.opening.state;
+    for (i, &e) in trace.iter().enumerate() {
+        let a = Activity(e);
+        let answer = step::ask(g, s, a);
         if !answer.is_done() {
             return Replayed {
                 answer,
                 place: Place(i),
-                marking: enabled::marked(head.events, conditions, s),
+                marking: enabled::marked(g.head.events, g.conditions, s),
                 accepting: false,
             };
         }
-        s = step::next(responses, includes, excludes, s, a);
-        i += 1;
+        s = step::next(g, s, a);
     }
     Replayed {
         answer: Answer::Done,
-        place: Place(i),
-        marking: enabled::marked(head.events, conditions, s),
+        place: Place(trace.len()),
+        marking: enabled::marked(g.head.events, g.conditions, s),
         accepting: is_accepting(s),
     }
 }
 
 // A whole trace on any graph, from its opening marking.
-pub fn replay<'a>(
-    head: Head,
-    conditions: &'a [u16],
-    responses: &'a [u16],
-    includes: &'a [u16],
-    excludes: &'a [u16],
-    trace: &'a [u8],
-) -> Replayed
-    ensures { result ≡ plain_replay_of (plain_of head conditions.now responses.now includes.now
-        excludes.now) trace.now }
+pub fn replay(g: &Graph<'_>, trace: &[u8]) -> Replayed
+    ensures { result ≡ plain_replay_of (plain_held g.now) trace.now }
 {
-    let answer = judge::judge_for(head, conditions, responses, includes, excludes, trace.len());
+    let answer = judge::judge_for(g, trace.len());
     if !answer.is_done() {
         return Replayed {
             answer,
@@ -68,5 +51,5 @@ pub fn replay<'a>(
             accepting: false,
         };
     }
-    run(head, conditions, responses, includes, excludes, trace)
+    run(g, trace)
 }

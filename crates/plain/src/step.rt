@@ -4,13 +4,14 @@ ghost use Rattle.sets.specs.Tests.{◌and◌, ◌or◌, non, when◌then◌else�
 ghost use Rattle.sets.specs.Members.{width, mem, those, least_below};
 ghost use Rattle.engine.specs.Steps as rules;
 ghost use Rattle.plain.specs.Pairs.{pair_of, source_of, target_of, in_pairs, blocks};
-ghost use Rattle.plain.specs.Graphs.{plain_of, in_lists};
+ghost use Rattle.plain.specs.Graphs.{plain_held, plain_relations, in_lists};
 ghost use Rattle.plain.specs.Results.{plain_enabled_of, plain_stepped_of, plain_accepting_of};
 
+use crate::graph::Graph;
 use crate::pairs::{source, target};
 use crate::{enabled, judge};
 use engine::step::is_accepting;
-use engine::{Head, Marking, State, Stepped, Verdict};
+use engine::{Marking, State, Stepped, Verdict};
 use sets::{Activity, Answer, Set};
 
 // Whether a condition keeps the activity waiting: it leads to it, and its source is included and not executed.
@@ -46,25 +47,23 @@ fn blocker(conditions: &[u16], s: State, a: Activity) -> Activity
     ensures { result.0 ≡ least_below width (rules.blocking (in_lists conditions.now [] [] []) s a.0) }
 {
     let mut least = Activity(Activity::LIMIT);
-    let mut i: usize = 0;
-    while i < conditions.len() {
-        least = smaller(least, conditions[i], s, a);
-        i += 1;
+    for &pair in conditions {
+        least = smaller(least, pair, s, a);
     }
     least
 }
 
 // Rules 8, 9, 10.
-pub(crate) fn ask(events: Set, conditions: &[u16], s: State, a: Activity) -> Answer
-    ensures { result ≡ rules.enabled events (in_lists conditions.now [] [] []) s a.0 }
+pub(crate) fn ask(g: &Graph<'_>, s: State, a: Activity) -> Answer
+    ensures { result ≡ rules.enabled g.now.head.events (plain_relations (plain_held g.now)) s a.0 }
 {
-    if !events.has(a) {
+    if !g.head.events.has(a) {
         return Answer::NoEvent;
     }
     if !s.included.has(a) {
         return Answer::NotIncluded;
     }
-    let least = blocker(conditions, s, a);
+    let least = blocker(g.conditions, s, a);
     if least.0 < Activity::LIMIT {
         return Answer::Waiting(least);
     }
@@ -86,10 +85,8 @@ fn gain_targets(s: Set, pairs: &[u16], a: Activity) -> Set
     ensures { result ≡ those (λ b. mem s b or in_pairs pairs.now a.0 b) }
 {
     let mut kept = s;
-    let mut i: usize = 0;
-    while i < pairs.len() {
-        kept = gain_target(kept, pairs[i], a);
-        i += 1;
+    for &pair in pairs {
+        kept = gain_target(kept, pair, a);
     }
     kept
 }
@@ -109,88 +106,54 @@ fn lose_targets(s: Set, pairs: &[u16], a: Activity) -> Set
     ensures { result ≡ those (λ b. mem s b and non (in_pairs pairs.now a.0 b)) }
 {
     let mut kept = s;
-    let mut i: usize = 0;
-    while i < pairs.len() {
-        kept = lose_target(kept, pairs[i], a);
-        i += 1;
+    for &pair in pairs {
+        kept = lose_target(kept, pair, a);
     }
     kept
 }
 
 // The state after a step that is enabled. Included loses before it gains, so an include wins.
-pub(crate) fn next<'a>(
-    responses: &'a [u16],
-    includes: &'a [u16],
-    excludes: &'a [u16],
-    s: State,
-    a: Activity,
-) -> State
-    ensures { result ≡ rules.after (in_lists [] responses.now includes.now excludes.now) s a.0 }
+pub(crate) fn next(g: &Graph<'_>, s: State, a: Activity) -> State
+    ensures { result ≡ rules.after (plain_relations (plain_held g.now)) s a.0 }
 {
     let one = Set::one(a);
     let executed = s.executed.union(one);
     let done = s.pending.difference(one);
-    let pending = gain_targets(done, responses, a);
-    let left = lose_targets(s.included, excludes, a);
-    let included = gain_targets(left, includes, a);
+    let pending = gain_targets(done, g.responses, a);
+    let left = lose_targets(s.included, g.excludes, a);
+    let included = gain_targets(left, g.includes, a);
     State::of(executed, pending, included)
 }
 
 // Whether a step is enabled on any graph at any marking: the refusals of both, then rules 8, 9, 10.
-pub fn enabled<'a>(
-    head: Head,
-    conditions: &'a [u16],
-    responses: &'a [u16],
-    includes: &'a [u16],
-    excludes: &'a [u16],
-    m: Marking,
-    a: Activity,
-) -> Answer
-    ensures { result ≡ plain_enabled_of (plain_of head conditions.now responses.now includes.now
-        excludes.now) m a.0 }
+pub fn enabled(g: &Graph<'_>, m: Marking, a: Activity) -> Answer
+    ensures { result ≡ plain_enabled_of (plain_held g.now) m a.0 }
 {
-    let answer = judge::judge_beside(head, conditions, responses, includes, excludes, m);
+    let answer = judge::judge_beside(g, m);
     if !answer.is_done() {
         return answer;
     }
-    ask(head.events, conditions, m.state, a)
+    ask(g, m.state, a)
 }
 
 // The step on any graph at any marking: the marking after it, or the same where refused.
-pub fn step<'a>(
-    head: Head,
-    conditions: &'a [u16],
-    responses: &'a [u16],
-    includes: &'a [u16],
-    excludes: &'a [u16],
-    m: Marking,
-    a: Activity,
-) -> Stepped
-    ensures { result ≡ plain_stepped_of (plain_of head conditions.now responses.now includes.now
-        excludes.now) m a.0 }
+pub fn step(g: &Graph<'_>, m: Marking, a: Activity) -> Stepped
+    ensures { result ≡ plain_stepped_of (plain_held g.now) m a.0 }
 {
-    let answer = enabled(head, conditions, responses, includes, excludes, m, a);
+    let answer = enabled(g, m, a);
     if !answer.is_done() {
         return Stepped { answer, marking: m };
     }
-    let state = next(responses, includes, excludes, m.state, a);
-    let marking = enabled::marked(head.events, conditions, state);
+    let state = next(g, m.state, a);
+    let marking = enabled::marked(g.head.events, g.conditions, state);
     Stepped { answer, marking }
 }
 
 // Whether a marking is accepting, on any graph; no where refused.
-pub fn accepting<'a>(
-    head: Head,
-    conditions: &'a [u16],
-    responses: &'a [u16],
-    includes: &'a [u16],
-    excludes: &'a [u16],
-    m: Marking,
-) -> Verdict
-    ensures { result ≡ plain_accepting_of (plain_of head conditions.now responses.now includes.now
-        excludes.now) m }
+pub fn accepting(g: &Graph<'_>, m: Marking) -> Verdict
+    ensures { result ≡ plain_accepting_of (plain_held g.now) m }
 {
-    let answer = judge::judge_beside(head, conditions, responses, includes, excludes, m);
+    let answer = judge::judge_beside(g, m);
     if !answer.is_done() {
         return Verdict {
             answer,

@@ -8,20 +8,17 @@ use Rattle.sets.specs.Answers.{is_done}
 use Rattle.sets.specs.declared.answer.Answer.{Answer}
 use Rattle.sets.proofs.Ways.{failed, held, taken, passed-by}
 use Rattle.engine.specs.declared.marking.Marking.{Marking}
-use Rattle.engine.specs.declared.graph.Head.{Head}
 use Rattle.engine.specs.declared.step.Stepped.{Stepped}
 use Rattle.engine.specs.declared.step.Verdict.{Verdict}
 use Rattle.engine.specs.declared.replay.Replayed.{Replayed}
 use Rattle.graphfile.specs.Held.{read_of}
-use Rattle.graphfile.specs.Heads.{wide_head, head_from}
-use Rattle.graphfile.specs.Markings.{marking_from}
 use Rattle.graphfile.specs.declared.reader.Reading.{Reading}
-use Rattle.plain.specs.Graphs.{plain_of, plain_judged_for}
+use Rattle.plain.specs.Graphs.{PlainGraph, plain_judged_for}
 use Rattle.plain.specs.Results.{plain_stepped_of, plain_accepting_of, plain_replay_of}
 use Rattle.plain.specs.Filling.{relation_at, filled_of, memory_after}
 use Rattle.plain.specs.declared.fill.Filled.{Filled}
 use Rattle.port.specs.Port.{packed_of, verdict_of, blocked_of, refused_step}
-use Rattle.port.specs.Classroom.{handed, fill_number, fill_memory}
+use Rattle.port.specs.Classroom.{fill_number, fill_memory}
 
 -- ---- x is the answer that the definition has, a the one that the code was given
 
@@ -36,35 +33,25 @@ module _ (x a : Answer) (d : Bool) (h : a ≡ x) (k : d ≡ is_done a) where
   pub went_on : {A : Type 0} (y w z : A) → d ≡ true → z ≡ y → z ≡ when is_done x then y else w
   went_on y w z t e = taken (is_done x) y w z (held (is_done x) d (k ∙ ap is_done h) t) e
 
--- ---- the head was read from its bytes
+-- ---- the graph that the code was given is the one that was handed over
 
-module _ (head : List ℕ) (h : Head) (e : h ≡ head_from head) (c r i x : List ℕ) where
-  pub handed-judged : (a : Answer) (n : ℕ) → a ≡ plain_judged_for (plain_of h c r i x) n → a ≡ plain_judged_for (handed head c r i x) n
-  handed-judged a n q = q ∙ ap (λ (y : Head). plain_judged_for (plain_of y c r i x) n) e
+module _ (g q : PlainGraph) (e : g ≡ q) where
+  pub handed-judged : (a : Answer) (n : ℕ) → a ≡ plain_judged_for g n → a ≡ plain_judged_for q n
+  handed-judged a n h = h ∙ ap (λ (y : PlainGraph). plain_judged_for y n) e
 
-  module _ (bytes : List ℕ) (m : Marking) (k : m ≡ marking_from (wide_head head) bytes) where
-    pub handed-stepped : (a : ℕ) (s : Stepped) → s ≡ plain_stepped_of (plain_of h c r i x) m a
-        → s ≡ plain_stepped_of (handed head c r i x) (marking_from (wide_head head) bytes) a
-    handed-stepped a s q = q ∙ ap₂ (λ (y : Head) (z : Marking). plain_stepped_of (plain_of y c r i x) z a) e k
+  module _ (m m' : Marking) (k : m ≡ m') where
+    pub handed-stepped : (a : ℕ) (s : Stepped) → s ≡ plain_stepped_of g m a → s ≡ plain_stepped_of q m' a
+    handed-stepped a s h = h ∙ ap₂ (λ (y : PlainGraph) (z : Marking). plain_stepped_of y z a) e k
 
-    pub handed-accepting : (v : Verdict) (n : ℕ) → v ≡ plain_accepting_of (plain_of h c r i x) m → n ≡ verdict_of v.answer 0 v.accepting
-        → n
-        ≡ verdict_of (plain_accepting_of (handed head c r i x) (marking_from (wide_head head) bytes)).answer 0
-        (plain_accepting_of (handed head c r i x) (marking_from (wide_head head) bytes)).accepting
-    handed-accepting v n q p =
-        p
-        ∙ ap (λ (y : Verdict). verdict_of y.answer 0 y.accepting)
-        (q ∙ ap₂ (λ (y : Head) (z : Marking). plain_accepting_of (plain_of y c r i x) z) e k)
+    pub handed-accepting : (v : Verdict) (n : ℕ) → v ≡ plain_accepting_of g m → n ≡ verdict_of v.answer 0 v.accepting
+        → n ≡ verdict_of (plain_accepting_of q m').answer 0 (plain_accepting_of q m').accepting
+    handed-accepting v n h p = p ∙ ap (λ (y : Verdict). verdict_of y.answer 0 y.accepting) (h ∙ ap₂ plain_accepting_of e k)
 
-  pub handed-replay : (trace : List ℕ) (v : Replayed) (n : ℕ) → v ≡ plain_replay_of (plain_of h c r i x) trace
-      → n ≡ blocked_of v.answer v.place.0 v.accepting
-      → n
-      ≡ blocked_of (plain_replay_of (handed head c r i x) trace).answer (plain_replay_of (handed head c r i x) trace).place.0
-      (plain_replay_of (handed head c r i x) trace).accepting
-  handed-replay trace v n q p =
+  pub handed-replay : (trace : List ℕ) (v : Replayed) (n : ℕ) → v ≡ plain_replay_of g trace → n ≡ blocked_of v.answer v.place.0 v.accepting
+      → n ≡ blocked_of (plain_replay_of q trace).answer (plain_replay_of q trace).place.0 (plain_replay_of q trace).accepting
+  handed-replay trace v n h p =
       p
-      ∙ ap (λ (y : Replayed). blocked_of y.answer y.place.0 y.accepting)
-      (q ∙ ap (λ (y : Head). plain_replay_of (plain_of y c r i x) trace) e)
+      ∙ ap (λ (y : Replayed). blocked_of y.answer y.place.0 y.accepting) (h ∙ ap (λ (y : PlainGraph). plain_replay_of y trace) e)
 
 pub ruleset handing = (refused-step_lem, refused-number, went_on, handed-judged, handed-stepped, handed-accepting, handed-replay)
 

@@ -11,11 +11,15 @@ use Rattle.graphfile.specs.Markings.{marking_length, marking_from}
 use Rattle.plain.specs.Graphs.{PlainGraph, plain_of, plain_judged_for}
 use Rattle.plain.specs.Results.{plain_stepped_of, plain_accepting_of, plain_replay_of}
 use Rattle.plain.specs.Filling.{relation_at, filled_of, memory_after}
+use Rattle.port.specs.declared.classroom.Handed.{Handed}
 use Rattle.port.specs.Port.{packed_of, verdict_of, blocked_of, refused_step, stored_of}
 
 -- the graph that is handed over
 abbrev pub handed : List ℕ → List ℕ → List ℕ → List ℕ → List ℕ → PlainGraph
 handed head c r i x = plain_of (head_from head) c r i x
+
+abbrev pub graph_handed : Handed → PlainGraph
+graph_handed g = handed g.head.now g.conditions.now g.responses.now g.includes.now g.excludes.now
 
 -- 7 where there are too few bytes for a head, so that there is no graph to judge; where there are too few for a marking the graph's refusals,
 -- then 7. A graph with a marking beside it is judged with it, since all 5s come before any 16 (02, 6/12). How many are enough, the head's A tells

@@ -2,62 +2,72 @@
 // 81 where A is above 64 (02, 10/12); its relations as four lists of pairs.
 ghost use Rattle.std.specs.Prelude.{◌≡◌};
 ghost use Rattle.port.specs.Port.{step_number};
-ghost use Rattle.port.specs.Classroom.{judged_handed, plain_step_of, plain_step_bytes, plain_accepting_number, plain_replay_number};
-ghost use Rattle.port.specs.Classroom.{fill_number, fill_memory};
+ghost use Rattle.plain.specs.Graphs.{plain_held};
+ghost use Rattle.port.specs.Classroom.{graph_handed, judged_handed, plain_step_of, plain_step_bytes, plain_accepting_number};
+ghost use Rattle.port.specs.Classroom.{plain_replay_number, fill_number, fill_memory};
 
 use crate::{lent, packed, packed_blocker, packed_verdict, store};
 use engine::{Marking, Stepped};
+use plain::Graph;
 use sets::{Activity, Answer};
 
-// Whether there is a graph, and a marking beside it: without one the graph is judged by itself, with one they are judged together.
-fn judge_handed<'a>(
+// A graph as C hands it over, part by part.
+#[derive(Clone, Copy)]
+struct Handed<'a> {
     head: &'a [u8],
     conditions: &'a [u16],
     responses: &'a [u16],
     includes: &'a [u16],
     excludes: &'a [u16],
-    marking: &'a [u8],
-) -> Answer
-    ensures { result ≡ judged_handed head.now conditions.now responses.now includes.now
-        excludes.now marking.now }
-{
-    if head.len() < lent::head_room(head) {
-        return Answer::BufferTooSmall;
-    }
-    if lent::room_beside_head(head) <= marking.len() {
-        return Answer::Done;
-    }
-    let h = graphfile::head::read_head(head);
-    let answer = plain::judge::judge_for(h, conditions, responses, includes, excludes, 0);
-    if !answer.is_done() {
-        return answer;
-    }
-    Answer::BufferTooSmall
 }
 
-// A step: these refusals, then the step's.
-fn plain_stepped<'a>(
-    head: &'a [u8],
-    conditions: &'a [u16],
-    responses: &'a [u16],
-    includes: &'a [u16],
-    excludes: &'a [u16],
-    marking: &'a [u8],
-    a: Activity,
-) -> Stepped
-    ensures { result ≡ plain_step_of head.now conditions.now responses.now includes.now
-        excludes.now marking.now a.0 }
-{
-    let answer = judge_handed(head, conditions, responses, includes, excludes, marking);
-    if !answer.is_done() {
-        return Stepped {
-            answer,
-            marking: Marking::EMPTY,
-        };
+impl<'a> Handed<'a> {
+    // The graph that its bytes and lists hold.
+    fn graph(&self) -> Graph<'a>
+        ensures { plain_held result ≡ graph_handed self.now }
+    {
+        Graph {
+            head: graphfile::head::read_head(self.head),
+            conditions: self.conditions,
+            responses: self.responses,
+            includes: self.includes,
+            excludes: self.excludes,
+        }
     }
-    let h = graphfile::head::read_head(head);
-    let m = lent::marking_beside_head(head, marking);
-    plain::step::step(h, conditions, responses, includes, excludes, m, a)
+
+    // Whether there is a graph, and a marking beside it: without one the graph is judged by itself, with one they are judged together.
+    fn judge(&self, marking: &[u8]) -> Answer
+        ensures { result ≡ judged_handed self.now.head.now self.now.conditions.now self.now.responses.now
+            self.now.includes.now self.now.excludes.now marking.now }
+    {
+        if self.head.len() < lent::head_room(self.head) {
+            return Answer::BufferTooSmall;
+        }
+        if lent::room_beside_head(self.head) <= marking.len() {
+            return Answer::Done;
+        }
+        let answer = plain::judge::judge_for(&self.graph(), 0);
+        if !answer.is_done() {
+            return answer;
+        }
+        Answer::BufferTooSmall
+    }
+
+    // A step: these refusals, then the step's.
+    fn step(&self, marking: &[u8], a: Activity) -> Stepped
+        ensures { result ≡ plain_step_of self.now.head.now self.now.conditions.now self.now.responses.now
+            self.now.includes.now self.now.excludes.now marking.now a.0 }
+    {
+        let answer = self.judge(marking);
+        if !answer.is_done() {
+            return Stepped {
+                answer,
+                marking: Marking::EMPTY,
+            };
+        }
+        let m = lent::marking_beside_head(self.head, marking);
+        plain::step::step(&self.graph(), m, a)
+    }
 }
 
 // One step at a marking of 32 or 64 lent bytes; they stay as they were where it is refused.
@@ -75,15 +85,14 @@ pub fn skelfora_plain_step<'a, 'm>(
     ensures marking_after { marking.new ≡ plain_step_bytes head.now conditions.now responses.now
         includes.now excludes.now marking.old activity }
 {
-    let s = plain_stepped(
+    let g = Handed {
         head,
         conditions,
         responses,
         includes,
         excludes,
-        marking,
-        Activity(activity),
-    );
+    };
+    let s = g.step(marking, Activity(activity));
     store(s, marking, lent::is_wide_head(head))
 }
 
@@ -99,13 +108,19 @@ pub fn skelfora_plain_accepting<'a>(
     ensures { result ≡ plain_accepting_number head.now conditions.now responses.now
         includes.now excludes.now marking.now }
 {
-    let refusal = judge_handed(head, conditions, responses, includes, excludes, marking);
+    let g = Handed {
+        head,
+        conditions,
+        responses,
+        includes,
+        excludes,
+    };
+    let refusal = g.judge(marking);
     if !refusal.is_done() {
         return packed(refusal, 0);
     }
-    let h = graphfile::head::read_head(head);
     let m = lent::marking_beside_head(head, marking);
-    let v = plain::step::accepting(h, conditions, responses, includes, excludes, m);
+    let v = plain::step::accepting(&g.graph(), m);
     let a = v.answer;
     packed_verdict(a, 0, v.accepting)
 }
@@ -125,8 +140,14 @@ pub fn skelfora_plain_replay<'a>(
     if head.len() < lent::head_room(head) {
         return packed_blocker(Answer::BufferTooSmall, 0, false);
     }
-    let h = graphfile::head::read_head(head);
-    let p = plain::replay::replay(h, conditions, responses, includes, excludes, trace);
+    let g = Handed {
+        head,
+        conditions,
+        responses,
+        includes,
+        excludes,
+    };
+    let p = plain::replay::replay(&g.graph(), trace);
     let a = p.answer;
     let place = p.place.0;
     packed_blocker(a, place, p.accepting)

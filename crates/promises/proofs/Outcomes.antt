@@ -449,7 +449,7 @@ plain-enabled-once κ a r r' s s' h h' = h ∙ sym h'
 pub plain-step-once : Once plain_step.Post
 plain-step-once κ a r r' s s' h h' = h ∙ sym h'
 
-pub plain-execute-once : OnceLent plain-execute.Post (λ κ s. s.1.1.1.1.1.0.now)
+pub plain-execute-once : OnceLent plain-execute.Post (λ κ s. s.1.0.now)
 plain-execute-once κ a r r' s s' h h' = (h.0 ∙ sym h'.0, h.1 ∙ sym h'.1)
 
 pub plain-accepting-once : Once plain-accepting.Post

@@ -31,7 +31,8 @@ use Rattle.engine.specs.declared.step.Verdict.{Verdict}
 use Rattle.engine.specs.declared.replay.Replayed.{Replayed}
 use Rattle.plain.specs.declared.fill.Filled.{Filled}
 use Rattle.plain.specs.Pairs.{most_pairs}
-use Rattle.plain.specs.Graphs.{plain_of}
+use Rattle.plain.specs.declared.graph.Graph as listed
+use Rattle.plain.specs.Graphs.{PlainGraph, plain_of, plain_held}
 use Rattle.plain.specs.Results.{plain_enabled_of, plain_stepped_of, plain_accepting_of, plain_replay_of}
 use Rattle.plain.specs.Filling.{relation_at, pairs_of, put_down, filled_of, memory_after}
 use Rattle.plain.specs.Same.{InLists, SameLists}
@@ -50,56 +51,52 @@ use Rattle.promises.proofs.Contracts.{ExecuteGives, execute-said, AcceptingGives
 -- ================ WHAT THE FUNCTIONS MAY GIVE
 
 module _ (head : Head) (c r i x : List ℕ) where
-  -- memory that holds the four lists
-  abbrev Lent : (Bor (List ℕ) → Bor (List ℕ) → Bor (List ℕ) → Bor (List ℕ) → Type 0) → Type 0
-  Lent P = Holding c (λ c'. Holding r (λ r'. Holding i (λ i'. Holding x (λ x'. P c' r' i' x'))))
+  -- memory that holds the four lists, and the graph that they make with this head
+  abbrev Lent : (Bor listed.Graph → Type 0) → Type 0
+  Lent P =
+      Holding c (λ c'. Holding r (λ r'. Holding i (λ i'. Holding x (λ x'.
+      Holding (record { head = head; conditions = c'; responses = r'; includes = i'; excludes = x' }) P))))
+
+  lent-is : (P : Bor listed.Graph → Type 0) (h : Lent P) → plain_held (h.2.2.2.2.0).now ≡ plain_of head c r i x
+  lent-is P h = ap plain_held h.2.2.2.2.1 ∙ (λ j. plain_of head (h.1 j) (h.2.1 j) (h.2.2.1 j) (h.2.2.2.1 j))
 
   module _ (m : Marking) where
     abbrev pub PlainEnabledGives : ℕ → Answer → Type 0
-    PlainEnabledGives e a =
-        Lent (λ c' r' i' x'. Gives enabled.Post (λ κ. (head, (c', (r', (i', (x', (m, (record { 0 = e }, tt)))))))) (λ κ. a))
+    PlainEnabledGives e a = Lent (λ g. Gives enabled.Post (λ κ. (g, (m, (record { 0 = e }, tt)))) (λ κ. a))
 
     pub plain-enabled-said : (e : ℕ) (a : Answer) → PlainEnabledGives e a → a ≡ plain_enabled_of (plain_of head c r i x) m e
-    plain-enabled-said e a h =
-        h.2.2.2.2.2 ∙ (λ j. plain_enabled_of (plain_of head (h.1 j) (h.2.1 j) (h.2.2.1 j) (h.2.2.2.1 j)) m e)
+    plain-enabled-said e a h = h.2.2.2.2.2.2 ∙ ap (λ (g : PlainGraph). plain_enabled_of g m e) (lent-is _ h)
 
     abbrev pub PlainStepGives : ℕ → Stepped → Type 0
-    PlainStepGives e s =
-        Lent (λ c' r' i' x'. Gives step.Post (λ κ. (head, (c', (r', (i', (x', (m, (record { 0 = e }, tt)))))))) (λ κ. s))
+    PlainStepGives e s = Lent (λ g. Gives step.Post (λ κ. (g, (m, (record { 0 = e }, tt)))) (λ κ. s))
 
     pub plain-step-said : (e : ℕ) (s : Stepped) → PlainStepGives e s → s ≡ plain_stepped_of (plain_of head c r i x) m e
-    plain-step-said e s h =
-        h.2.2.2.2.2 ∙ (λ j. plain_stepped_of (plain_of head (h.1 j) (h.2.1 j) (h.2.2.1 j) (h.2.2.2.1 j)) m e)
+    plain-step-said e s h = h.2.2.2.2.2.2 ∙ ap (λ (g : PlainGraph). plain_stepped_of g m e) (lent-is _ h)
 
     -- the marking is lent, and is n afterwards
     abbrev pub PlainExecuteGives : ℕ → Answer → Marking → Type 0
     PlainExecuteGives e a n =
-        Lent (λ c' r' i' x'. Lending m (λ lent. Leaves plain-execute.Post (λ κ s. s.1.1.1.1.1.0.now)
-        (λ κ. (head, (c', (r', (i', (x', (lent, (record { 0 = e }, tt)))))))) (λ κ. a) n))
+        Lent (λ g. Lending m (λ lent. Leaves plain-execute.Post (λ κ s. s.1.0.now)
+        (λ κ. (g, (lent, (record { 0 = e }, tt)))) (λ κ. a) n))
 
     pub plain-execute-said : (e : ℕ) (a : Answer) (n : Marking) → PlainExecuteGives e a n
         → ◌≡◌ {A = Stepped} (record { answer = a; marking = n }) (plain_stepped_of (plain_of head c r i x) m e)
     plain-execute-said e a n h =
-        let l = h.2.2.2.2 in
+        let l = h.2.2.2.2.2 in
         let d = l.2 in
-        (λ j. record { answer = d.3.0 j; marking = (sym d.2 ∙ d.3.1) j })
-        ∙ (λ j. plain_stepped_of (plain_of head (h.1 j) (h.2.1 j) (h.2.2.1 j) (h.2.2.2.1 j)) (l.1 j) e)
+        (λ j. record { answer = d.3.0 j; marking = (sym d.2 ∙ d.3.1) j }) ∙ (λ j. plain_stepped_of (lent-is _ h j) (l.1 j) e)
 
     abbrev pub PlainAcceptingGives : Verdict → Type 0
-    PlainAcceptingGives v = Lent (λ c' r' i' x'. Gives accepting.Post (λ κ. (head, (c', (r', (i', (x', (m, tt))))))) (λ κ. v))
+    PlainAcceptingGives v = Lent (λ g. Gives accepting.Post (λ κ. (g, (m, tt))) (λ κ. v))
 
     pub plain-accepting-said : (v : Verdict) → PlainAcceptingGives v → v ≡ plain_accepting_of (plain_of head c r i x) m
-    plain-accepting-said v h =
-        h.2.2.2.2.2 ∙ (λ j. plain_accepting_of (plain_of head (h.1 j) (h.2.1 j) (h.2.2.1 j) (h.2.2.2.1 j)) m)
+    plain-accepting-said v h = h.2.2.2.2.2.2 ∙ ap (λ (g : PlainGraph). plain_accepting_of g m) (lent-is _ h)
 
   abbrev pub PlainReplayGives : List ℕ → Replayed → Type 0
-  PlainReplayGives σ e =
-      Lent (λ c' r' i' x'. Holding σ (λ trace. Gives replay.Post (λ κ. (head, (c', (r', (i', (x', (trace, tt))))))) (λ κ. e)))
+  PlainReplayGives σ e = Lent (λ g. Holding σ (λ trace. Gives replay.Post (λ κ. (g, (trace, tt))) (λ κ. e)))
 
   pub plain-replay-said : (σ : List ℕ) (e : Replayed) → PlainReplayGives σ e → e ≡ plain_replay_of (plain_of head c r i x) σ
-  plain-replay-said σ e h =
-      let l = h.2.2.2.2 in
-      l.2.2 ∙ (λ j. plain_replay_of (plain_of head (h.1 j) (h.2.1 j) (h.2.2.1 j) (h.2.2.2.1 j)) (l.1 j))
+  plain-replay-said σ e h = let l = h.2.2.2.2.2 in l.2.2 ∙ (λ j. plain_replay_of (lent-is _ h j) (l.1 j))
 
 -- fill, of relation k of a graph's tables, into memory
 abbrev pub FillGives : List ℕ → ℕ → List ℕ → Filled → List ℕ → Type 0

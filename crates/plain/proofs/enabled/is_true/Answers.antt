@@ -1,12 +1,6 @@
 use borrow.Author.Rules.{rules}
-use Rattle.sets.proofs.Ways.{conjunction}
-use Rattle.engine.specs.Enabled.{is_true}
-use Rattle.engine.proofs.Enabling.{true-in, true_of}
+use Rattle.plain.proofs.Enabling.{equal-true}
 use Rattle.plain.proofs.enabled.is_true.Goals as goal
 
-pub returns-then-not-is_within : goal.returns-then-not-is_within
-returns-then-not-is_within c = unfold is_true in search (conjunction, true-in, rules)
-
 pub returns : goal.returns
-unfolding is_true
-returns c = search (conjunction, true-in, true_of, rules)
+returns c = search (equal-true, rules)

@@ -5,11 +5,11 @@ use Rattle.plain.proofs.Stepping.{or-more, targets-begin, targets_next}
 use Rattle.plain.proofs.Enabling.{keeps, waiting-end}
 use Rattle.plain.proofs.enabled.waiting.Goals as goal
 
-pub loop-i-init : goal.loop-i-init
-loop-i-init c = search (targets-begin ◌or◌ or-false or-more keeps, rules)
+pub loop-pair-init : goal.loop-pair-init
+loop-pair-init c = search (targets-begin ◌or◌ or-false or-more keeps, rules)
 
-pub loop-i-preserved : goal.loop-i-preserved
-loop-i-preserved c = search (targets_next ◌or◌ or-false or-more keeps, rules)
+pub loop-pair-preserved : goal.loop-pair-preserved
+loop-pair-preserved c = search (targets_next ◌or◌ or-false or-more keeps, rules)
 
 pub returns : goal.returns
-returns c = waiting-end _ _ _ _ (search rules) (search rules) c.loop-i.invariant.1
+returns c = waiting-end _ _ _ _ (search rules) (search rules) c.loop-pair.invariant.1

@@ -1,4 +1,4 @@
-use Prim.Native.Nat.{◌-◌, ◌≤◌}
+use Prim.Native.Nat.{◌≤◌}
 use mathlib.Core.Path.{◌≡◌}
 use lib.ListN.{length}
 use Rattle.sets.specs.Tests.{◌or◌}
@@ -8,8 +8,5 @@ use Rattle.plain.proofs.Stepping.{or-more, so_far}
 use Rattle.plain.proofs.Enabling.{keeps}
 use Rattle.plain.proofs.enabled.waiting.Given as goal
 
-abbrev pub invariant-loop-i : goal.invariant-loop-i
-invariant-loop-i l = (l.i ≤ length l.conditions) × (l.out ≡ so_far ◌or◌ or-false or-more keeps no_set l.conditions l.s l.i)
-
-abbrev pub decreases-loop-i : goal.decreases-loop-i
-decreases-loop-i l = length l.conditions - l.i
+abbrev pub invariant-loop-pair : goal.invariant-loop-pair
+invariant-loop-pair l = (l.pair-index ≤ length l.conditions) × (l.out ≡ so_far ◌or◌ or-false or-more keeps no_set l.conditions l.s l.pair-index)

@@ -1,4 +1,4 @@
-use Prim.Native.Nat.{◌-◌, ◌≤◌}
+use Prim.Native.Nat.{◌≤◌}
 use mathlib.Core.Path.{◌≡◌}
 use lib.ListN.{length}
 use Rattle.plain.specs.Filling.{relation_at, questions, pairs_below}
@@ -6,6 +6,3 @@ use Rattle.plain.proofs.fill.count.Given as goal
 
 abbrev pub invariant-loop-k : goal.invariant-loop-k
 invariant-loop-k l = (l.k ≤ questions) × (l.n ≤ l.k) × (l.n ≡ length (pairs_below l.k (relation_at l.relations l.kind)))
-
-abbrev pub decreases-loop-k : goal.decreases-loop-k
-decreases-loop-k l = questions - l.k

@@ -1,4 +1,4 @@
-use Prim.Native.Nat.{◌-◌, ◌≤◌}
+use Prim.Native.Nat.{◌≤◌}
 use mathlib.Core.Path.{◌≡◌}
 use lib.ListN.{length}
 use Rattle.plain.specs.Filling.{relation_at, questions, pairs_below, put_down}
@@ -9,6 +9,3 @@ invariant-loop-k l = (l.k ≤ questions)
     × (length l.memory ≡ length l.initial.memory)
     × (l.n ≡ length (pairs_below l.k (relation_at l.relations l.kind)))
     × (l.memory ≡ put_down (pairs_below l.k (relation_at l.relations l.kind)) l.initial.memory)
-
-abbrev pub decreases-loop-k : goal.decreases-loop-k
-decreases-loop-k l = questions - l.k

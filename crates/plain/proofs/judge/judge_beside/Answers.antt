@@ -3,7 +3,6 @@ use Rattle.sets.proofs.Ways.{choice}
 use Rattle.engine.specs.Judged.{found}
 use Rattle.engine.proofs.Judging.{found-by}
 use Rattle.plain.specs.Graphs.{plain_judged_with}
-use Rattle.plain.proofs.Stepping.{both-alone}
 use Rattle.plain.proofs.judge.judge_beside.Goals as goal
 
 pub returns-then-is_above : goal.returns-then-is_above
@@ -11,4 +10,4 @@ returns-then-is_above c = unfold plain_judged_with found in search (choice, rule
 
 pub returns : goal.returns
 unfolding plain_judged_with
-returns c = search (found-by, choice, both-alone, rules)
+returns c = search (found-by, choice, rules)

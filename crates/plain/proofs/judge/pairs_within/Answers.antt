@@ -1,13 +1,14 @@
-use borrow.Author.Count.{below_none}
-use Rattle.sets.proofs.Ways.{every-turn}
-use Rattle.plain.specs.Pairs.{every_in}
+use mathlib.Core.Path.{◌∙◌}
+use Rattle.std.proofs.Common.{tests}
+use Rattle.std.proofs.lemmas.Iterator.{YieldsList-from_slice}
+use Rattle.std.proofs.lemmas.Iterator.Search.{all_from_yields_List}
 use borrow.Author.Rules.{rules}
+use Rattle.plain.specs.Pairs.{pair_within}
+use Rattle.plain.proofs.PairLaws.{all-in}
 use Rattle.plain.proofs.judge.pairs_within.Goals as goal
 
-pub returns-then-not-pair_within : goal.returns-then-not-pair_within
-unfolding every_in
-returns-then-not-pair_within c = search (below_none, every-turn, rules)
-
 pub returns : goal.returns
-unfolding every_in
-returns c = search (below_none, every-turn, rules)
+returns c =
+    all_from_yields_List (pair_within c.args.events) _ _ _ c.all.ensures.ran (YieldsList-from_slice c.args.pairs.now cc)
+    (λ x b q k. search (rules, tests))
+    ∙ all-in c.args.pairs.now (pair_within c.args.events)

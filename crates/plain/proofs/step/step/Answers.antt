@@ -1,6 +1,6 @@
 use Rattle.engine.proofs.Running.{step-refused, step-done, stepped-as}
 use Rattle.plain.specs.Results.{plain_stepped_of}
-use Rattle.plain.proofs.Stepping.{next-alone, marked-alone}
+use Rattle.plain.proofs.Stepping.{marked-alone}
 use borrow.Author.Rules.{rules}
 use Rattle.plain.proofs.step.step.Goals as goal
 
@@ -14,4 +14,4 @@ returns c = let moved = c in
     let done = test in
     stepped-as _ _ _ _ _ _ _ done.enabled-answer.ensures
     (step-done _ _ done.is_done.ensures _ _ _ _ _ _ test.if-not-is_done.false
-    (next-alone _ _ _ _ _ _ _ moved.next-state.ensures) (marked-alone _ _ _ _ _ _ _ c.marked-marking.ensures))
+    moved.next-state.ensures (marked-alone _ _ _ _ _ _ _ c.marked-marking.ensures))

@@ -4,10 +4,10 @@ use Rattle.port.specs.Classroom.{judged_handed}
 use Rattle.port.proofs.Handing.{handed-judged}
 use borrow.Author.Rules.{rules}
 use Rattle.port.proofs.Lending.{measured}
-use Rattle.port.proofs.classroom.judge_handed.Goals as goal
+use Rattle.port.proofs.classroom.Handed.judge.Goals as goal
 
-pub returns-then-head-head_room : goal.returns-then-head-head_room
-returns-then-head-head_room c = unfold judged_handed in search (ask-stops, ask-goes, choice, measured, handed-judged, rules) depth 8
+pub returns-then-self-head_room : goal.returns-then-self-head_room
+returns-then-self-head_room c = unfold judged_handed in search (ask-stops, ask-goes, choice, measured, handed-judged, rules) depth 8
 
 pub returns-then-room_beside_head-marking : goal.returns-then-room_beside_head-marking
 returns-then-room_beside_head-marking c = unfold judged_handed in search (ask-stops, ask-goes, choice, measured, handed-judged, rules) depth 8
