@@ -7,7 +7,7 @@ use mathlib.Core.List.{List}
 use Prim.Native.Nat.{ℕ, ◌<◌}
 use lib.Dec.{T, eqb, eqb→eq}
 use Rattle.sets.specs.Tests.{◌and◌, ◌or◌, non}
-use Rattle.sets.specs.Members.{width, mem, those, some_below, count_below, least_below, is_empty}
+use Rattle.sets.specs.Members.{width, mem, those, some_below, count_below, least_below, is_empty, Takes}
 use Rattle.sets.specs.Rows.{Relation, row_at, with_row, in_row, rows_of}
 use Rattle.sets.specs.declared.set.Set.{Set}
 use Rattle.sets.proofs.Tests.{and_l, and_r, and_i, or-e, or_l, or_r, non-i, non-e, T-ext, T-eq, true→T, F→false, false→F, false-and, or-false, non-false, split, either}
@@ -101,29 +101,28 @@ module _ (rows₀ : List ℕ) (gain all : Set) where
         (λ a x la lx. sym (ap (λ (t : Bool). r a x or t and mem gain x) (passed_none all a) ∙ ap (λ (t : Bool). r a x or t) (false-and (mem gain x)) ∙ or-false (r a x))),
   )
 
-  pub share-turn : (rows rows' : List ℕ) (rest rest' : Set) (k : ℕ) (r : Bool) → Part all rest → Shared rows₀ gain all rows rest
-      → r ≡ is_empty rest → r ≡ false → k ≡ least_below width (mem rest)
-      → rows' ≡ with_row rows k (those (λ b. mem (row_at rows k) b or mem gain b))
-      → rest' ≡ those (λ b. mem rest b and non (eqb b (least_below width (mem rest)))) → (Part all rest') × Shared rows₀ gain all rows' rest'
-  share-turn rows rows' rest rest' k r hp hs hr hn hk hw hm = (
-    part-turn rest rest' r hr hn hm all hp,
+  pub share-turn : (rows rows' : List ℕ) (rest rest' : Set) (k : ℕ) → Part all rest → Shared rows₀ gain all rows rest → Takes rest k rest'
+      → rows' ≡ with_row rows k (those (λ b. mem (row_at rows k) b or mem gain b)) → (Part all rest') × Shared rows₀ gain all rows' rest'
+  share-turn rows rows' rest rest' k hp hs t hw = (
+    part-turn rest rest' _ refl t.0 t.2 all hp,
     λ q e.
         hw
         ∙ ap (λ (l : List ℕ). with_row l k (those (λ b. mem (row_at l k) b or mem gain b))) (hs q e)
         ∙ gain-rows_of (λ a x. q a x or passed all rest a and mem gain x) k (mem gain)
         ∙ rows_of-ext (λ a x. q a x or passed all rest a and mem gain x or eqb a k and mem gain x) (λ a x. q a x or passed all rest' a and mem gain x)
         (λ a x la lx.
-        ap (λ (n : ℕ). q a x or passed all rest a and mem gain x or eqb a n and mem gain x) hk
+        ap (λ (n : ℕ). q a x or passed all rest a and mem gain x or eqb a n and mem gain x) t.1
         ∙ regroup (q a x) (passed all rest a) (eqb a (least_below width (mem rest))) (mem gain x)
-        ∙ ap (λ (t : Bool). q a x or t and mem gain x) (sym (passed-turn rest rest' r hr hn hm all hp a la))),
+        ∙ ap (λ (t : Bool). q a x or t and mem gain x) (sym (passed-turn rest rest' _ refl t.0 t.2 all hp a la))),
   )
 
-  pub share-end : (rows : List ℕ) (rest : Set) (r : Bool) → Shared rows₀ gain all rows rest → r ≡ is_empty rest → r ≡ true
-      → (q : Relation) → rows₀ ≡ rows_of q → rows ≡ rows_of (λ a x. q a x or mem all a and mem gain x)
-  share-end rows rest r hs hr hn q e =
+  pub share-end : (rows : List ℕ) (rest whole : Set) → Shared rows₀ gain all rows rest → is_empty rest ≡ true → all ≡ whole
+      → (q : Relation) → rows₀ ≡ rows_of q → rows ≡ rows_of (λ a x. q a x or mem whole a and mem gain x)
+  share-end rows rest whole hs n same q e =
       hs q e
-      ∙ rows_of-ext (λ a x. q a x or passed all rest a and mem gain x) (λ a x. q a x or mem all a and mem gain x)
-      (λ a x la lx. ap (λ (t : Bool). q a x or t and mem gain x) (passed-all all rest r hr hn a la))
+      ∙ rows_of-ext (λ a x. q a x or passed all rest a and mem gain x) (λ a x. q a x or mem whole a and mem gain x)
+      (λ a x la lx.
+      ap (λ (t : Bool). q a x or t and mem gain x) (passed-all all rest _ refl n a la ∙ ap (λ (s : Set). mem s a) same))
 
 -- ---- what stands in the row of some member passed
 
@@ -159,4 +158,14 @@ module _ (rows : List ℕ) (all : Set) where
       (λ x lx. some-ext width (λ u. passed all rest u and in_row rows u x) (λ u. mem all u and in_row rows u x)
       (λ u l. ap (λ (t : Bool). t and in_row rows u x) (passed-all all rest r hr hn u l)))
 
-pub ruleset members = (share-start, share-turn, share-end, union-start, union-turn, union-end, fewer-left)
+  -- the same turn, by an iterator over the members
+  pub union-taken : (out out' row rest rest' : Set) (k : ℕ) → Part all rest → out ≡ those (in_some rows (passed all rest)) → Takes rest k rest'
+      → row ≡ row_at rows k → out' ≡ those (λ a. mem out a or mem row a) → (Part all rest') × (out' ≡ those (in_some rows (passed all rest')))
+  union-taken out out' row rest rest' k hp ho t hw hu =
+      union-turn out out' row rest rest' _ hp ho refl t.0 (hw ∙ ap (row_at rows) t.1) hu t.2
+
+  pub union-whole : (out rest whole : Set) → out ≡ those (in_some rows (passed all rest)) → is_empty rest ≡ true → all ≡ whole
+      → out ≡ those (in_some rows (mem whole))
+  union-whole out rest whole ho n same = union-end out rest _ ho refl n ∙ ap (λ (s : Set). those (in_some rows (mem s))) same
+
+pub ruleset members = (share-start, share-turn, share-end, union-start, union-turn, union-end, union-taken, union-whole, fewer-left)

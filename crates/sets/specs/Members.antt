@@ -1,5 +1,5 @@
 -- Sets of activities, said by their members (01, "Sizes": bit a for activity a; 02, 10/12: up to 128).
-use Rattle.std.specs.Prelude.{Bool, true, false, ℕ, zero, suc, ◌+◌, ◌-◌, ◌*◌, ◌/◌, ◌%◌, ◌^◌, eqb, ltb}
+use Rattle.std.specs.Prelude.{◌≡◌, Bool, true, false, ℕ, zero, suc, ◌+◌, ◌-◌, ◌*◌, ◌/◌, ◌%◌, ◌^◌, eqb, ltb}
 use Rattle.sets.specs.Tests.{◌and◌, ◌or◌, non, when◌then◌else◌}
 use Rattle.sets.specs.declared.set.Set.{Set}
 
@@ -77,3 +77,7 @@ is_empty s = every_below width (λ a. non (mem s a))
 -- every member of s is a member of t
 unfoldable pub within : Set → Set → Bool
 within s t = every_below width (λ a. non (mem s a) or mem t a)
+
+-- the least member was taken out of s, and t is left
+abbrev pub Takes : Set → ℕ → Set → Type 0
+Takes s a t = (is_empty s ≡ false) × (a ≡ least_below width (mem s)) × (t ≡ those (λ b. mem s b and non (eqb b (least_below width (mem s)))))

@@ -74,10 +74,8 @@ pub fn lose(rows: &mut Rows, a: Activity, gone: Set)
 fn share(rows: &mut Rows, members: Set, gain: Set)
     ensures { (r : Relation) → rows.old ≡ rows_of r → rows.new ≡ rows_of (λ a x. r a x or mem members a and mem gain x) }
 {
-    let mut rest = members;
-    while !rest.is_empty() {
-        join(rows, rest.least(), gain);
-        rest = rest.without_least();
+    for a in members.members() {
+        join(rows, a, gain);
     }
 }
 

@@ -4,8 +4,9 @@ ghost use Rattle.sets.specs.Tests.{◌and◌, ◌or◌, non};
 ghost use Rattle.sets.specs.Members.{width, mem, those, within, is_empty, least_below, end_below, next_above, count_below};
 
 use crate::activity::{Activity, WORD};
+use crate::each::Members;
 
-#[derive(Clone, Copy)]
+#[derive(Clone, Copy, PartialEq, Eq)]
 pub struct Set {
     // Activities 0 to 63.
     pub low: u64,
@@ -164,6 +165,13 @@ impl Set {
             };
         }
         Set { low, high }
+    }
+
+    // The members one by one, rising.
+    pub fn members(self) -> Members
+        ensures { result.rest ≡ self }
+    {
+        Members { rest: self }
     }
 
     // The least member above a; the width where there is none.
