@@ -5,7 +5,7 @@ use mathlib.Core.List.{List, [], ◌∷◌, ◌++◌, append_assoc}
 use Prim.Native.Nat.{ℕ, ◌+◌, ◌-◌, ◌≤◌, ◌<◌}
 use lib.Dec.{eqb}
 use Rattle.sets.specs.Tests.{◌and◌, non}
-use Rattle.sets.specs.Members.{width, digit, mem, those, is_empty, least_below}
+use Rattle.sets.specs.Members.{width, digit, mem, is_empty, Takes}
 use Rattle.sets.specs.Rows.{row_at, in_row}
 use Rattle.sets.specs.declared.set.Set.{Set}
 use Rattle.sets.specs.Answers.{number_of}
@@ -18,7 +18,7 @@ use Rattle.report.specs.Listing.{pair_line, pair_lines, trace_line}
 use Rattle.report.specs.Puts.{Room, Wrote, named, four, counts_text, trace_text}
 use Rattle.report.specs.declared.text.Page.{Page}
 use Rattle.std.specs.Int.{from_bool}
-use Rattle.report.proofs.PutLaws.{put_as, put_then, room-first, room-second, Left, left-all, left-next, left-room, left-none}
+use Rattle.report.proofs.PutLaws.{put_as, put_then, room-first, room-second, Left, left-all, left_as, left-next, left-room, left-none}
 use Rattle.report.proofs.PairLaws.{members-none, members-turn, pairs-row, pairs_end}
 
 abbrev pair : ℕ → ℕ → Pair
@@ -52,29 +52,26 @@ pub ruleset pairing = (pair-room, pair-second, pair_put)
 abbrev pub row_text : List ℕ → ℕ → Set → List ℕ
 row_text letter s targets = pair_lines letter (with_each s (passing (mem targets) width 0))
 
-module _ (p : Page) (whole : List ℕ) (q : Page) (letter : List ℕ) (s : ℕ) (rest : Set) (r : Bool) (h : r
-    ≡ is_empty rest) (l : Left p whole q (row_text letter s rest)) where
-  row-text_lem : (rest' : Set) → r ≡ false → rest' ≡ those (λ b. mem rest b and non (eqb b (least_below width (mem rest))))
-      → row_text letter s rest ≡ pair_line letter (pair s (least_below width (mem rest))) ++ row_text letter s rest'
+pub row-start : (p : Page) (letter : List ℕ) (s : ℕ) (targets rest : Set) → rest ≡ targets → Left p (row_text letter s targets) p (row_text letter s rest)
+row-start p letter s targets rest e = left_as (left-all p (row_text letter s targets)) (ap (row_text letter s) (sym e))
+
+module _ (p : Page) (whole : List ℕ) (q : Page) (letter : List ℕ) (s : ℕ) (rest : Set) (l : Left p whole q (row_text letter s rest)) where
+  module _ (t : ℕ) (rest' : Set) (one : Takes rest t rest') where
+    row-text_lem : row_text letter s rest ≡ pair_line letter (pair s t) ++ row_text letter s rest'
+    unfolding pair_lines
+    row-text_lem =
+        ap (λ (ts : List ℕ). pair_lines letter (with_each s ts)) (members-turn rest rest' one.0 one.2)
+        ∙ ap (λ (x : ℕ). pair_line letter (pair s x) ++ row_text letter s rest') (sym one.1)
+
+    pub row_room : Room p whole → Room q (pair_line letter (pair s t))
+    row_room room = left-room l (pair_line letter (pair s t)) _ row-text_lem room
+
+    pub row-turn : (q' : Page) → Wrote q (pair_line letter (pair s t)) q' → Left p whole q' (row_text letter s rest')
+    row-turn q' f = left-next l (row_text letter s rest') row-text_lem f
+
+  pub row-end : is_empty rest ≡ true → Wrote p whole q
   unfolding pair_lines
-  row-text_lem rest' t e = ap (λ (ts : List ℕ). pair_lines letter (with_each s ts)) (members-turn rest rest' (sym h ∙ t) e)
-
-  pub row_room : (t : ℕ) → r ≡ false → t ≡ least_below width (mem rest) → Room p whole → Room q (pair_line letter (pair s t))
-  row_room t n e room =
-      subst (λ (x : ℕ). Room q (pair_line letter (pair s x))) (sym e)
-      (left-room l (pair_line letter (pair s (least_below width (mem rest)))) _ (row-text_lem _ n refl) room)
-
-  pub row-turn : (t : ℕ) (q' : Page) (rest' : Set) → r ≡ false → t ≡ least_below width (mem rest)
-      → Wrote q (pair_line letter (pair s t)) q' → rest' ≡ those (λ b. mem rest b and non (eqb b (least_below width (mem rest))))
-      → Left p whole q' (row_text letter s rest')
-  row-turn t q' rest' n e f g =
-      left-next l (row_text letter s rest') (row-text_lem rest' n g) (put_as (ap (λ (x : ℕ). pair_line letter (pair s x)) e) f)
-
-  pub row-end : r ≡ true → Wrote p whole q
-  unfolding pair_lines
-  row-end n = left-none l (ap (λ (ts : List ℕ). pair_lines letter (with_each s ts)) (members-none rest (sym h ∙ n)))
-
-pub ruleset members = (left-all, row_room, row-turn, row-end)
+  row-end n = left-none l (ap (λ (ts : List ℕ). pair_lines letter (with_each s ts)) (members-none rest n))
 
 -- ---- one row after another
 

@@ -25,11 +25,8 @@ fn put_row(page: &mut Page<'_>, letter: &[u8], s: Activity, targets: Set)
     requires { Room page.old (pair_lines letter.now (with_each s.0 (passing (mem targets) width 0))) }
     ensures { Wrote page.old (pair_lines letter.now (with_each s.0 (passing (mem targets) width 0))) page.new }
 {
-    let mut rest = targets;
-    while !rest.is_empty() {
-        let t = rest.least();
+    for t in targets.members() {
         put_pair(page, letter, s, t);
-        rest = rest.without_least();
     }
 }
 
