@@ -3,8 +3,6 @@ use mathlib.Core.Path.{◌≡◌, refl, sym, ap, subst, ◌∙◌}
 use mathlib.Core.Bool.{Bool, true, false}
 use mathlib.Core.List.{List, [], ◌∷◌, ◌++◌, append_assoc}
 use Prim.Native.Nat.{ℕ, ◌+◌, ◌-◌, ◌≤◌, ◌<◌}
-use lib.Dec.{eqb}
-use Rattle.sets.specs.Tests.{◌and◌, non}
 use Rattle.sets.specs.Members.{width, digit, mem, is_empty, Takes}
 use Rattle.sets.specs.Rows.{row_at, in_row}
 use Rattle.sets.specs.declared.set.Set.{Set}
@@ -15,7 +13,7 @@ use Rattle.engine.specs.Replay.{walked_of}
 use Rattle.report.specs.Lines.{space, line_end, decimal, line, T}
 use Rattle.report.specs.Pairs.{Pair, passing, with_each, pairs_from}
 use Rattle.report.specs.Listing.{pair_line, pair_lines, trace_line}
-use Rattle.report.specs.Puts.{Room, Wrote, named, four, counts_text, trace_text}
+use Rattle.report.specs.Puts.{Room, Wrote, named, four, trace_text}
 use Rattle.report.specs.declared.text.Page.{Page}
 use Rattle.std.specs.Int.{from_bool}
 use Rattle.report.proofs.PutLaws.{put_as, put_then, room-first, room-second, Left, left-all, left_as, left-next, left-room, left-none}
@@ -101,24 +99,7 @@ module _ (p : Page) (whole : List ℕ) (q : Page) (letter rows : List ℕ) (x : 
 
 pub ruleset row-by-row = (left-all, rows-room, rows-turn, rows-end_lem)
 
--- ---- numbers that were counted
-
-module _ (p : Page) (word : List ℕ) (n n' end : ℕ) (h : n ≡ n') where
-  pub number-room : Room p (named word n' end) → Room p (named word n end)
-  number-room room = subst (λ (x : ℕ). Room p (named word x end)) (sym h) room
-
-  pub number-put_lem : (q : Page) → Wrote p (named word n end) q → Wrote p (named word n' end) q
-  number-put_lem q f = put_as (ap (λ (x : ℕ). named word x end) h) f
-
-module _ (p : Page) (c r i e c' r' i' e' : ℕ) (hc : c ≡ c') (hr : r ≡ r') (hi : i ≡ i') (he : e ≡ e') where
-  counted : counts_text c' r' i' e' ≡ counts_text c r i e
-  counted k = counts_text (sym hc k) (sym hr k) (sym hi k) (sym he k)
-
-  pub counted-room : Room p (counts_text c' r' i' e') → Room p (counts_text c r i e)
-  counted-room room = subst (Room p) counted room
-
-  pub counted-put : (q : Page) → Wrote p (counts_text c r i e) q → Wrote p (counts_text c' r' i' e') q
-  counted-put q f = put_as (sym counted) f
+-- ---- the line of a trace
 
 -- a test as a number
 pub one-if : (b : Bool) (n : ℕ) → n ≡ from_bool b → n ≡ digit b

@@ -7,9 +7,10 @@ ghost use Rattle.report.specs.Lines.{space, events_word};
 ghost use Rattle.report.specs.Pairs.{pair_count};
 ghost use Rattle.report.specs.Puts.{Room, Wrote, named, counts_text, pair_counts, heading_text};
 
+use crate::graph::ListedGraph;
 use crate::text::{LINE_END, Page, SPACE};
-use engine::{Relations, graph};
-use sets::{Activity, Rows, Set, tables};
+use engine::graph;
+use sets::{Activity, Set, tables};
 
 const EVENTS: [u8; 6] = *b"events";
 
@@ -47,11 +48,12 @@ fn put_counts(page: &mut Page<'_>, c: usize, r: usize, i: usize, e: usize)
 }
 
 // The same, of the conditions by source and of the other relations.
-fn put_pair_counts<'a>(page: &mut Page<'_>, listed: &'a Rows, relations: &'a Relations)
-    requires { Room page.old (pair_counts listed.now relations.now) }
-    ensures { Wrote page.old (pair_counts listed.now relations.now) page.new }
+fn put_pair_counts(page: &mut Page<'_>, g: &ListedGraph<'_>)
+    requires { Room page.old (pair_counts g.now.by_source.now g.now.relations.now) }
+    ensures { Wrote page.old (pair_counts g.now.by_source.now g.now.relations.now) page.new }
 {
-    let c = pair_count(listed, 0);
+    let (by_source, relations) = (g.by_source, g.relations);
+    let c = pair_count(by_source, 0);
     let r = pair_count(relations, graph::RESPONSES);
     let i = pair_count(relations, graph::INCLUDES);
     let e = pair_count(relations, graph::EXCLUDES);
@@ -67,17 +69,11 @@ fn put_events(page: &mut Page<'_>, events: Set)
 }
 
 // The whole line.
-pub(crate) fn put_heading<'a>(
-    page: &mut Page<'_>,
-    events: Set,
-    traces: usize,
-    listed: &'a Rows,
-    relations: &'a Relations,
-)
-    requires { Room page.old (heading_text (count_below width (mem events)) (pair_counts listed.now relations.now) traces) }
-    ensures { Wrote page.old (heading_text (count_below width (mem events)) (pair_counts listed.now relations.now) traces) page.new }
+pub(crate) fn put_heading(page: &mut Page<'_>, g: &ListedGraph<'_>, traces: usize)
+    requires { Room page.old (heading_text (count_below width (mem g.now.head.events)) (pair_counts g.now.by_source.now g.now.relations.now) traces) }
+    ensures { Wrote page.old (heading_text (count_below width (mem g.now.head.events)) (pair_counts g.now.by_source.now g.now.relations.now) traces) page.new }
 {
-    put_events(page, events);
-    put_pair_counts(page, listed, relations);
+    put_events(page, g.head.events);
+    put_pair_counts(page, g);
     page.named(&TRACES, traces, LINE_END);
 }

@@ -1,6 +1,6 @@
 // The text of marks (02, 9/12), into a lent buffer.
 ghost use Rattle.std.specs.Prelude.{◌≡◌, ◌+◌, ◌≤◌, length};
-ghost use Rattle.report.specs.Marks.{four_lines, count_lines, measure_line, measure_lines, marks_text, marked_of, marked_after};
+ghost use Rattle.report.specs.Marks.{count_lines, measure_line, measure_lines, marks_text, marked_of, marked_after};
 ghost use Rattle.report.specs.Puts.{Put, Room, Wrote};
 
 use crate::text::{LINE_END, Page, SPACE};
@@ -29,27 +29,15 @@ const ACCURACY: [u8; 8] = *b"accuracy";
 
 const NONE: [u8; 4] = *b"none";
 
-// A line for each of four counts.
-fn put_four(page: &mut Page<'_>, tp: usize, fp: usize, missed: usize, tn: usize)
-    requires { Room page.old (four_lines tp fp missed tn) }
-    ensures { Wrote page.old (four_lines tp fp missed tn) page.new }
-{
-    page.named(&TRUE_POSITIVES, tp, LINE_END);
-    page.named(&FALSE_POSITIVES, fp, LINE_END);
-    page.named(&FALSE_NEGATIVES, missed, LINE_END);
-    page.named(&TRUE_NEGATIVES, tn, LINE_END);
-}
-
 // A line for each count of the table.
 fn put_counts(page: &mut Page<'_>, c: Counts)
     requires { Room page.old (count_lines c) }
     ensures { Wrote page.old (count_lines c) page.new }
 {
-    let tp = c.true_positives as usize;
-    let fp = c.false_positives as usize;
-    let missed = c.false_negatives as usize;
-    let tn = c.true_negatives as usize;
-    put_four(page, tp, fp, missed, tn);
+    page.named(&TRUE_POSITIVES, c.true_positives as usize, LINE_END);
+    page.named(&FALSE_POSITIVES, c.false_positives as usize, LINE_END);
+    page.named(&FALSE_NEGATIVES, c.false_negatives as usize, LINE_END);
+    page.named(&TRUE_NEGATIVES, c.true_negatives as usize, LINE_END);
 }
 
 // The line of a measure: its two numbers, or `none` where the whole is 0.

@@ -6,10 +6,11 @@ ghost use Rattle.report.specs.Pairs.{passing, with_each, pairs_of};
 ghost use Rattle.report.specs.Listing.{pair_line, pair_lines};
 ghost use Rattle.report.specs.Puts.{Room, Wrote, relations_text};
 
+use crate::graph::ListedGraph;
 use crate::heading;
 use crate::text::{LINE_END, Page, SPACE};
-use engine::{Relations, graph};
-use sets::{Activity, Rows, Set, tables};
+use engine::graph;
+use sets::{Activity, Set, tables};
 
 // The line of one pair.
 fn put_pair(page: &mut Page<'_>, letter: &[u8], s: Activity, t: Activity)
@@ -42,11 +43,12 @@ fn put_pairs<'a>(page: &mut Page<'_>, letter: &'a [u8], tables: &'a [u64], table
 }
 
 // The lines of the four relations: of the conditions by source, and of the others.
-pub(crate) fn put_relations<'a>(page: &mut Page<'_>, listed: &'a Rows, relations: &'a Relations)
-    requires { Room page.old (relations_text listed.now relations.now) }
-    ensures { Wrote page.old (relations_text listed.now relations.now) page.new }
+pub(crate) fn put_relations(page: &mut Page<'_>, g: &ListedGraph<'_>)
+    requires { Room page.old (relations_text g.now.by_source.now g.now.relations.now) }
+    ensures { Wrote page.old (relations_text g.now.by_source.now g.now.relations.now) page.new }
 {
-    put_pairs(page, &heading::CONDITIONS, listed, 0);
+    let (by_source, relations) = (g.by_source, g.relations);
+    put_pairs(page, &heading::CONDITIONS, by_source, 0);
     put_pairs(page, &heading::RESPONSES, relations, graph::RESPONSES);
     put_pairs(page, &heading::INCLUDES, relations, graph::INCLUDES);
     put_pairs(page, &heading::EXCLUDES, relations, graph::EXCLUDES);

@@ -4,6 +4,7 @@ ghost use Rattle.engine.specs.Relations.{graph_of};
 ghost use Rattle.report.specs.Listing.{refused_line, listed_of, listing_after};
 ghost use Rattle.report.specs.Puts.{Put, Room, Wrote, lines_text, graph_text};
 
+use crate::graph::ListedGraph;
 use crate::text::{LINE_END, Page};
 use crate::{heading, lent, relations, replays};
 use engine::graph::{CONDITIONS, KINDS};
@@ -42,12 +43,16 @@ fn put_lines<'a>(
     requires { Room page.old (lines_text head relations.now log.now traces) }
     ensures { Wrote page.old (lines_text head relations.now log.now traces) page.new }
 {
-    // the conditions by source, as they are listed
     let conditions = tables::taken(relations, CONDITIONS);
-    let listed = rows::turned(&conditions);
-    heading::put_heading(page, head.events, traces, &listed, relations);
-    relations::put_relations(page, &listed, relations);
-    replays::put_traces(page, log, traces, head, relations);
+    let by_source = rows::turned(&conditions);
+    let g = ListedGraph {
+        head,
+        relations,
+        by_source: &by_source,
+    };
+    heading::put_heading(page, &g, traces);
+    relations::put_relations(page, &g);
+    replays::put_traces(page, &g, log, traces);
 }
 
 // The lines of a graph and of all traces of a log that was mined, and so judged: its head has their number.

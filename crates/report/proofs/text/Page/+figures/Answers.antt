@@ -16,6 +16,7 @@ byte-requires t c =
 
 pub returns : goal.returns
 returns t c =
-    elim c.if-n-ge10.branch
-    [ then-n-ge10 w ↦ let last = rw w.self-is at c.byte.ensures in search (put-more, rules)
-    | else-n-ge10 w ↦ let last = rw w.self-is at c.byte.ensures in search (put_one, rules) ]
+    elim c.if-n-ge10.branch [
+      | then-n-ge10 w ↦ let last = rw w.self-is at c.byte.ensures in search (put-more, rules)
+      | else-n-ge10 w ↦ let last = rw w.self-is at c.byte.ensures in search (put_one, rules)
+    ]

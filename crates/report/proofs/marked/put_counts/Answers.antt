@@ -1,6 +1,6 @@
 use borrow.Author.Rules.{rules}
 use Rattle.report.proofs.MarkLaws.{counts-1, counts-2, counts-3, counts-4, counts-put}
-use Rattle.report.proofs.marked.put_four.Goals as goal
+use Rattle.report.proofs.marked.put_counts.Goals as goal
 
 pub named-requires : goal.named-requires
 named-requires c = search (counts-1, rules)
