@@ -5,10 +5,7 @@ ghost use Rattle.std.specs.Prelude.{◌≡◌};
 ghost use Rattle.port.specs.Desk.{desk_open_number, desk_open_table, desk_step_number, desk_step_table};
 ghost use Rattle.port.specs.Desk.{desk_close_number, desk_close_table};
 
-use crate::{lent, packed, packed_blocker};
-use engine::Relations;
-use engine::graph::KINDS;
-use sets::rows::WORDS;
+use crate::{NO_RELATIONS, lent, packed, packed_blocker};
 use sets::{Activity, Answer};
 
 // Opens the lowest free place: the number and the place; 255 where it is refused.
@@ -40,7 +37,7 @@ pub fn skelfora_desk_step(file: &[u8], table: &mut [u8], place: usize, activity:
     if !asked.is_done() {
         return packed_blocker(asked, 0, false);
     }
-    let mut relations: Relations = [0; KINDS as usize * WORDS];
+    let mut relations = NO_RELATIONS;
     let r = graphfile::read_bare(file, &mut relations);
     let answer = r.answer;
     if !answer.is_done() {
@@ -60,7 +57,7 @@ pub fn skelfora_desk_close(file: &[u8], table: &mut [u8], place: usize) -> u64
     if !asked.is_done() {
         return packed(asked, 0);
     }
-    let mut relations: Relations = [0; KINDS as usize * WORDS];
+    let mut relations = NO_RELATIONS;
     let r = graphfile::read_bare(file, &mut relations);
     let answer = r.answer;
     if !answer.is_done() {

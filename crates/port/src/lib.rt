@@ -2,7 +2,7 @@
 // and above it what goes with it.
 #![tactic(auto)]
 
-ghost use Rattle.std.specs.Prelude.{◌≡◌, ◌^◌, ◌<◌, length};
+ghost use Rattle.std.specs.Prelude.{◌≡◌, ◌^◌, ◌<◌, ◌≤◌, length, MatchOption};
 ghost use Rattle.port.specs.Port.{packed_of, verdict_of, blocked_of, step_number, stored_of, put_number, put_buffer, profile_of};
 ghost use Rattle.port.specs.Port.{in_profile, in_profile_buffer, mine_number, mine_buffer, rewrite_number, rewrite_buffer, replay_number};
 ghost use Rattle.port.specs.Port.{listing_number, summary_number, step_of, step_bytes, opening_answer, opening_bytes};
@@ -26,13 +26,25 @@ use rules::Profile;
 use sets::rows::WORDS;
 use sets::{Activity, Answer, Place};
 
+// What stands above the number: a length or place, in 24 bits; whether it is accepting; the blocker.
+const PLACE: u64 = 1 << 8;
+
+const PLACES: usize = 1 << 24;
+
+const ACCEPTING: u64 = 1 << 32;
+
+const BLOCKER: u64 = 1 << 40;
+
+// What a file's relations are read into.
+pub(crate) const NO_RELATIONS: Relations = [0; KINDS as usize * WORDS];
+
 // The number, and a length or place above it: 256 times. No length or place here reaches the 24 bits that it has.
 pub(crate) fn packed(answer: Answer, n: usize) -> u64
     ensures value { result ≡ packed_of answer n }
     ensures upper_bound { result < 2 ^ 32 }
 {
     let low = answer.number() as u64;
-    low + 256 * (n % 16777216) as u64
+    low + PLACE * (n % PLACES) as u64
 }
 
 // The same, and 2^32 where accepting.
@@ -41,10 +53,7 @@ pub(crate) fn packed_verdict(answer: Answer, n: usize, accepting: bool) -> u64
     ensures upper_bound { result < 2 ^ 33 }
 {
     let low = packed(answer, n);
-    if accepting {
-        return low + 4294967296;
-    }
-    low
+    if accepting { low + ACCEPTING } else { low }
 }
 
 // What a function gives that can answer 10: the same, and the blocker.
@@ -52,8 +61,7 @@ pub(crate) fn packed_blocker(answer: Answer, n: usize, accepting: bool) -> u64
     ensures { result ≡ blocked_of answer n accepting }
 {
     let low = packed_verdict(answer, n, accepting);
-    let blocker = answer.blocker() as u64;
-    low + 1099511627776 * blocker
+    low + BLOCKER * answer.blocker() as u64
 }
 
 // The marking after a step into the lent bytes, where it was done; its number and blocker.
@@ -84,14 +92,15 @@ fn put(answer: Answer, head: Head, relations: &Relations, out: &mut [u8]) -> u64
     packed(a, w.length)
 }
 
-// The profile that a number below 2 asks for.
-pub(crate) fn profile_of(n: u8) -> Profile
-    ensures { result ≡ profile_of n }
+// The profile that a number asks for: none but for 0 and 1.
+pub(crate) fn profile_of(n: u8) -> Option<Profile>
+    ensures { MatchOption result (1 < n) (λ p. (n ≤ 1) × (p ≡ profile_of n)) }
 {
-    if n == 0 {
-        return Profile::Full;
+    match n {
+        0 => Some(Profile::Full),
+        1 => Some(Profile::Light),
+        _ => None,
     }
-    Profile::Light
 }
 
 // Mines a log and writes its graph file.
@@ -99,7 +108,7 @@ fn mine(log: &[u8], profile: Profile, file: &mut [u8]) -> u64
     ensures value { result ≡ mine_number log.now (length file.old) profile }
     ensures file_after { file.new ≡ mine_buffer log.now profile file.old }
 {
-    let mut relations: Relations = [0; KINDS as usize * WORDS];
+    let mut relations = NO_RELATIONS;
     let m = miner::mine_into(log, profile, &mut relations);
     let answer = m.answer;
     put(answer, m.head, &relations, file)
@@ -110,10 +119,9 @@ pub fn skelfora_mine(log: &[u8], profile: u8, file: &mut [u8]) -> u64
     ensures value { result ≡ in_profile profile (mine_number log.now (length file.old)) }
     ensures file_after { file.new ≡ in_profile_buffer profile (mine_buffer log.now) file.old }
 {
-    if 1 < profile {
+    let Some(p) = profile_of(profile) else {
         return packed(Answer::WrongArgument, 0);
-    }
-    let p = profile_of(profile);
+    };
     mine(log, p, file)
 }
 
@@ -132,10 +140,9 @@ pub fn skelfora_listing(log: &[u8], profile: u8, out: &mut [u8]) -> u64
     ensures value { result ≡ in_profile profile (listing_number log.now (length out.old)) }
     ensures out_after { out.new ≡ in_profile_buffer profile (listing_after log.now) out.old }
 {
-    if 1 < profile {
+    let Some(p) = profile_of(profile) else {
         return packed(Answer::WrongArgument, 0);
-    }
-    let p = profile_of(profile);
+    };
     list(log, p, out)
 }
 
@@ -144,10 +151,9 @@ pub fn skelfora_summary(log: &[u8], profile: u8, out: &mut [u8]) -> u64
     ensures value { result ≡ in_profile profile (λ p. summary_number log.now (length out.old)) }
     ensures out_after { out.new ≡ in_profile_buffer profile (summary_after log.now) out.old }
 {
-    if 1 < profile {
+    let Some(p) = profile_of(profile) else {
         return packed(Answer::WrongArgument, 0);
-    }
-    let p = profile_of(profile);
+    };
     let answer = report::write_summary(log, p, out);
     answer.number() as u64
 }
@@ -167,7 +173,7 @@ pub fn skelfora_rewrite(file: &[u8], out: &mut [u8]) -> u64
 pub fn skelfora_replay(file: &[u8], trace: &[u8]) -> u64
     ensures { result ≡ replay_number file.now trace.now }
 {
-    let mut relations: Relations = [0; KINDS as usize * WORDS];
+    let mut relations = NO_RELATIONS;
     let r = graphfile::read_bare(file, &mut relations);
     let answer = r.answer;
     if !answer.is_done() {
@@ -193,7 +199,7 @@ pub fn skelfora_replay(file: &[u8], trace: &[u8]) -> u64
 fn stepped<'a>(file: &'a [u8], marking: &'a [u8], a: Activity) -> Stepped
     ensures { result ≡ step_of file.now marking.now a.0 }
 {
-    let mut relations: Relations = [0; KINDS as usize * WORDS];
+    let mut relations = NO_RELATIONS;
     let r = graphfile::read_bare(file, &mut relations);
     let answer = r.answer;
     if !answer.is_done() {

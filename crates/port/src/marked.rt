@@ -31,12 +31,20 @@ fn marked<'a>(file: &'a [u8], log: &'a [u8], labels: &'a [u8]) -> Marked
     marks::mark(head, &r.graph.relations, log, labels)
 }
 
+// A count has 12 bits.
+const COUNTS: u16 = 1 << 12;
+
+// What stands above the number: the positives, and the negatives above them.
+const POSITIVES: u64 = 1 << 8;
+
+const NEGATIVES: u64 = 1 << 32;
+
 // Two counts in 24 bits; none of a log's reaches the 12 bits that it has.
 fn two_counts(low: u16, high: u16) -> u64
     ensures value { result ≡ two_counts low high }
     ensures upper_bound { result < 2 ^ 24 }
 {
-    (low % 4096) as u64 + 4096 * (high % 4096) as u64
+    (low % COUNTS) as u64 + COUNTS as u64 * (high % COUNTS) as u64
 }
 
 // The number, and above it the four counts, 12 bits each.
@@ -48,7 +56,7 @@ fn packed_counts(m: Marked) -> u64
     let positives = two_counts(counts.true_positives, counts.false_positives);
     let negatives = two_counts(counts.false_negatives, counts.true_negatives);
     let low = answer.number() as u64;
-    low + 256 * positives + 4294967296 * negatives
+    low + POSITIVES * positives + NEGATIVES * negatives
 }
 
 // The marks of a file's graph in one number: true positives, false positives, false negatives, true negatives.

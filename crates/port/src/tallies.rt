@@ -54,15 +54,13 @@ fn put_rows(relations: &Relations, out: &mut [u8])
     requires { known_length ≤ length out.old }
     ensures { out.new ≡ take 9 out.old ++ rows_bytes relations.now ++ drop known_length out.old }
 {
-    let mut i: usize = 0;
-    while i < ROWS {
+    for i in 0..ROWS {
         octets::put_set(
             out,
             ROWS_START + set::NARROW * i,
             row_of_all(relations, i),
             false,
         );
-        i += 1;
     }
 }
 
@@ -98,8 +96,8 @@ pub fn skelfora_tally_relations(tally: &[u8], profile: u8, out: &mut [u8]) -> u6
     ensures value { result ≡ in_profile profile (relations_number tally.now (length out.old)) }
     ensures out_after { out.new ≡ in_profile_buffer profile (relations_buffer tally.now) out.old }
 {
-    if 1 < profile {
+    let Some(p) = profile_of(profile) else {
         return packed(Answer::WrongArgument, 0);
-    }
-    relations_read(tally, profile_of(profile), out)
+    };
+    relations_read(tally, p, out)
 }

@@ -4,11 +4,8 @@ ghost use Rattle.sets.specs.Answers.{number_of};
 ghost use Rattle.port.specs.WayOut.{way_into, way_after, finish_in, finish_number, finish_bytes, shut_number};
 ghost use Rattle.port.specs.WayOut.{desk_finish_in, desk_finish_number, desk_finish_bytes};
 
-use crate::{lent, packed};
-use engine::Relations;
-use engine::graph::KINDS;
+use crate::{NO_RELATIONS, lent, packed};
 use finish::{Finished, Way};
-use sets::rows::WORDS;
 use sets::{Activity, Answer};
 
 // How many bytes a way takes.
@@ -48,7 +45,7 @@ fn given(f: Finished, way: &mut [u8]) -> u64
 fn finished<'a>(file: &'a [u8], marking: &'a [u8], room: usize) -> Finished
     ensures { result ≡ finish_in file.now marking.now room }
 {
-    let mut relations: Relations = [0; KINDS as usize * WORDS];
+    let mut relations = NO_RELATIONS;
     let r = graphfile::read_bare(file, &mut relations);
     let answer = r.answer;
     if !answer.is_done() {
@@ -95,7 +92,7 @@ fn finished_at<'a>(file: &'a [u8], table: &'a [u8], place: usize, room: usize) -
             way: Way::NONE,
         };
     }
-    let mut relations: Relations = [0; KINDS as usize * WORDS];
+    let mut relations = NO_RELATIONS;
     let r = graphfile::read_bare(file, &mut relations);
     let answer = r.answer;
     if !answer.is_done() {

@@ -18,15 +18,16 @@ use Rattle.report.specs.declared.writer.Listed.{Listed}
 use Rattle.report.specs.Lines.{space, line_end, decimal, line}
 use Rattle.report.specs.Listing.{refused_line}
 use Rattle.report.specs.Marks.{TP, FP, FN, TN, precision_word, recall_word, accuracy_word, none_word, four_lines, count_lines, measure_line, measure_lines, marks_text, marked_text, longest_marks, marked_of, marked_after}
-use Rattle.report.specs.Puts.{Put, named, three, four}
+use Rattle.report.specs.Puts.{Put, Room, Wrote, named, three, four}
+use Rattle.report.specs.declared.text.Page.{Page}
 use Rattle.report.proofs.Figures.{at_most}
 use Rattle.report.proofs.Longest.{refused-most}
 use Rattle.report.proofs.Fitting.{small-given, small-held, fits, put-given, put-held}
-use Rattle.report.proofs.PutLaws.{put_as, put_then, room-first, room-second, of-three-1, of-three-2, of-three-3, put_three, of-four-1, of-four-2, of-four-3, of-four-4, put_four}
+use Rattle.report.proofs.PutLaws.{put_as, put_then, room-first, room-second, of-three-1, of-three-2, of-three-3, put_three, of-four-1, of-four-2, of-four-3, of-four-4, put_four, new-room, new-put}
 
 -- ---- the counts
 
-module _ (n₁ n₂ n₃ n₄ : ℕ) (o : List ℕ) (a : ℕ) where
+module _ (n₁ n₂ n₃ n₄ : ℕ) (p : Page) where
   abbrev tp : List ℕ
   tp = named TP n₁ line_end
 
@@ -43,30 +44,28 @@ module _ (n₁ n₂ n₃ n₄ : ℕ) (o : List ℕ) (a : ℕ) where
   unfolding four_lines line named four
   count-text = refl
 
-  module _ (room : a + length (four_lines n₁ n₂ n₃ n₄) ≤ length o) where
-    room-four : a + length (four tp fp fn tn) ≤ length o
-    room-four = subst (λ (x : List ℕ). a + length x ≤ length o) count-text room
+  module _ (room : Room p (four_lines n₁ n₂ n₃ n₄)) where
+    room-four : Room p (four tp fp fn tn)
+    room-four = subst (Room p) count-text room
 
-    pub counts-1 : a + length tp ≤ length o
-    counts-1 = of-four-1 tp fp fn tn o a room-four
+    pub counts-1 : Room p tp
+    counts-1 = of-four-1 tp fp fn tn p room-four
 
-    pub counts-2 : (o₁ : List ℕ) (a₁ : ℕ) → Put o a tp o₁ a₁ → a₁ + length fp ≤ length o₁
-    counts-2 = of-four-2 tp fp fn tn o a room-four
+    pub counts-2 : (q : Page) → Wrote p tp q → Room q fp
+    counts-2 = of-four-2 tp fp fn tn p room-four
 
-    pub counts-3 : (o₁ o₂ : List ℕ) (a₁ a₂ : ℕ) → Put o a tp o₁ a₁ → Put o₁ a₁ fp o₂ a₂ → a₂ + length fn ≤ length o₂
-    counts-3 = of-four-3 tp fp fn tn o a room-four
+    pub counts-3 : (q r : Page) → Wrote p tp q → Wrote q fp r → Room r fn
+    counts-3 = of-four-3 tp fp fn tn p room-four
 
-    pub counts-4 : (o₁ o₂ o₃ : List ℕ) (a₁ a₂ a₃ : ℕ) → Put o a tp o₁ a₁ → Put o₁ a₁ fp o₂ a₂ → Put o₂ a₂ fn o₃ a₃
-        → a₃ + length tn ≤ length o₃
-    counts-4 = of-four-4 tp fp fn tn o a room-four
+    pub counts-4 : (q r s : Page) → Wrote p tp q → Wrote q fp r → Wrote r fn s → Room s tn
+    counts-4 = of-four-4 tp fp fn tn p room-four
 
-  pub counts-put : (o₁ o₂ o₃ o₄ : List ℕ) (a₁ a₂ a₃ a₄ : ℕ) → Put o a tp o₁ a₁ → Put o₁ a₁ fp o₂ a₂ → Put o₂ a₂ fn o₃ a₃
-      → Put o₃ a₃ tn o₄ a₄ → Put o a (four_lines n₁ n₂ n₃ n₄) o₄ a₄
-  counts-put o₁ o₂ o₃ o₄ a₁ a₂ a₃ a₄ p q r s = put_as (sym count-text) (put_four tp fp fn tn o a o₁ o₂ o₃ o₄ a₁ a₂ a₃ a₄ p q r s)
+  pub counts-put : (q r s t : Page) → Wrote p tp q → Wrote q fp r → Wrote r fn s → Wrote s tn t → Wrote p (four_lines n₁ n₂ n₃ n₄) t
+  counts-put q r s t f g h k = put_as (sym count-text) (put_four tp fp fn tn p q r s t f g h k)
 
 -- ---- a measure
 
-module _ (word : List ℕ) (m : Measure) (o : List ℕ) (a : ℕ) where
+module _ (word : List ℕ) (m : Measure) (p : Page) where
   abbrev line_by : Bool → List ℕ
   line_by t = when t then line (word ∷ none_word ∷ []) else line (word ∷ decimal m.part ∷ decimal m.whole ∷ [])
 
@@ -75,19 +74,18 @@ module _ (word : List ℕ) (m : Measure) (o : List ℕ) (a : ℕ) where
     unfolding measure_line line
     none-text = ap line_by (eq-eqb m.whole 0 z) ∙ sym (append_assoc word (space ∷ []) (none_word ++ (line_end ∷ [])))
 
-    module _ (room : a + length (measure_line word m) ≤ length o) where
-      room-none : a + length ((word ++ (space ∷ [])) ++ (none_word ++ (line_end ∷ []))) ≤ length o
-      room-none = subst (λ (x : List ℕ). a + length x ≤ length o) none-text room
+    module _ (room : Room p (measure_line word m)) where
+      room-none : Room p ((word ++ (space ∷ [])) ++ (none_word ++ (line_end ∷ [])))
+      room-none = subst (Room p) none-text room
 
-      pub none_1 : a + length (word ++ (space ∷ [])) ≤ length o
-      none_1 = room-first o (word ++ (space ∷ [])) _ a room-none
+      pub none_1 : Room p (word ++ (space ∷ []))
+      none_1 = room-first p (word ++ (space ∷ [])) _ room-none
 
-      pub none_2 : (o₁ : List ℕ) (a₁ : ℕ) → Put o a (word ++ (space ∷ [])) o₁ a₁ → a₁ + length (none_word ++ (line_end ∷ [])) ≤ length o₁
-      none_2 o₁ a₁ p = room-second (none_word ++ (line_end ∷ [])) p room-none
+      pub none_2 : (q : Page) → Wrote p (word ++ (space ∷ [])) q → Room q (none_word ++ (line_end ∷ []))
+      none_2 q f = room-second (none_word ++ (line_end ∷ [])) f room-none
 
-    pub none-put : (o₁ o₂ : List ℕ) (a₁ a₂ : ℕ) → Put o a (word ++ (space ∷ [])) o₁ a₁ → Put o₁ a₁ (none_word ++ (line_end ∷ [])) o₂ a₂
-        → Put o a (measure_line word m) o₂ a₂
-    none-put o₁ o₂ a₁ a₂ p q = put_as (sym none-text) (put_then p q)
+    pub none-put : (q r : Page) → Wrote p (word ++ (space ∷ [])) q → Wrote q (none_word ++ (line_end ∷ [])) r → Wrote p (measure_line word m) r
+    none-put q r f g = put_as (sym none-text) (put_then f g)
 
   module _ (z : m.whole ≡ 0 → ⊥) where
     abbrev first : List ℕ
@@ -100,74 +98,74 @@ module _ (word : List ℕ) (m : Measure) (o : List ℕ) (a : ℕ) where
     unfolding measure_line line named
     some-text = ap line_by (ne_eqb m.whole 0 z) ∙ simp append_assoc
 
-    module _ (room : a + length (measure_line word m) ≤ length o) where
-      room-some : a + length (first ++ second) ≤ length o
-      room-some = subst (λ (x : List ℕ). a + length x ≤ length o) some-text room
+    module _ (room : Room p (measure_line word m)) where
+      room-some : Room p (first ++ second)
+      room-some = subst (Room p) some-text room
 
-      pub some-1 : a + length first ≤ length o
-      some-1 = room-first o first second a room-some
+      pub some-1 : Room p first
+      some-1 = room-first p first second room-some
 
-      pub some-2 : (o₁ : List ℕ) (a₁ : ℕ) → Put o a first o₁ a₁ → a₁ + length second ≤ length o₁
-      some-2 o₁ a₁ p = room-second second p room-some
+      pub some-2 : (q : Page) → Wrote p first q → Room q second
+      some-2 q f = room-second second f room-some
 
-    pub some-put : (o₁ o₂ : List ℕ) (a₁ a₂ : ℕ) → Put o a first o₁ a₁ → Put o₁ a₁ second o₂ a₂ → Put o a (measure_line word m) o₂ a₂
-    some-put o₁ o₂ a₁ a₂ p q = put_as (sym some-text) (put_then p q)
+    pub some-put : (q r : Page) → Wrote p first q → Wrote q second r → Wrote p (measure_line word m) r
+    some-put q r f g = put_as (sym some-text) (put_then f g)
 
 pub ruleset measuring = (none_1, none_2, none-put, some-1, some-2, some-put)
 
 -- ---- the measures
 
-module _ (p r q : Measure) (o : List ℕ) (a : ℕ) where
+module _ (a b c : Measure) (p : Page) where
   abbrev l₁ : List ℕ
-  l₁ = measure_line precision_word p
+  l₁ = measure_line precision_word a
 
   abbrev l₂ : List ℕ
-  l₂ = measure_line recall_word r
+  l₂ = measure_line recall_word b
 
   abbrev l₃ : List ℕ
-  l₃ = measure_line accuracy_word q
+  l₃ = measure_line accuracy_word c
 
-  measures-text : measure_lines p r q ≡ three l₁ l₂ l₃
+  measures-text : measure_lines a b c ≡ three l₁ l₂ l₃
   unfolding measure_lines three
   measures-text = refl
 
-  module _ (room : a + length (measure_lines p r q) ≤ length o) where
-    room-three : a + length (three l₁ l₂ l₃) ≤ length o
-    room-three = subst (λ (x : List ℕ). a + length x ≤ length o) measures-text room
+  module _ (room : Room p (measure_lines a b c)) where
+    room-three : Room p (three l₁ l₂ l₃)
+    room-three = subst (Room p) measures-text room
 
-    pub measures-1 : a + length l₁ ≤ length o
-    measures-1 = of-three-1 l₁ l₂ l₃ o a room-three
+    pub measures-1 : Room p l₁
+    measures-1 = of-three-1 l₁ l₂ l₃ p room-three
 
-    pub measures-2 : (o₁ : List ℕ) (a₁ : ℕ) → Put o a l₁ o₁ a₁ → a₁ + length l₂ ≤ length o₁
-    measures-2 = of-three-2 l₁ l₂ l₃ o a room-three
+    pub measures-2 : (q : Page) → Wrote p l₁ q → Room q l₂
+    measures-2 = of-three-2 l₁ l₂ l₃ p room-three
 
-    pub measures-3 : (o₁ o₂ : List ℕ) (a₁ a₂ : ℕ) → Put o a l₁ o₁ a₁ → Put o₁ a₁ l₂ o₂ a₂ → a₂ + length l₃ ≤ length o₂
-    measures-3 = of-three-3 l₁ l₂ l₃ o a room-three
+    pub measures-3 : (q r : Page) → Wrote p l₁ q → Wrote q l₂ r → Room r l₃
+    measures-3 = of-three-3 l₁ l₂ l₃ p room-three
 
-  pub measures-put : (o₁ o₂ o₃ : List ℕ) (a₁ a₂ a₃ : ℕ) → Put o a l₁ o₁ a₁ → Put o₁ a₁ l₂ o₂ a₂ → Put o₂ a₂ l₃ o₃ a₃
-      → Put o a (measure_lines p r q) o₃ a₃
-  measures-put o₁ o₂ o₃ a₁ a₂ a₃ x y z = put_as (sym measures-text) (put_three l₁ l₂ l₃ o a o₁ o₂ o₃ a₁ a₂ a₃ x y z)
+  pub measures-put : (q r s : Page) → Wrote p l₁ q → Wrote q l₂ r → Wrote r l₃ s → Wrote p (measure_lines a b c) s
+  measures-put q r s f g h = put_as (sym measures-text) (put_three l₁ l₂ l₃ p q r s f g h)
 
 -- ---- all lines
 
-module _ (c : Counts) (p r q : Measure) (hp : p ≡ precision_of c) (hr : r ≡ recall_of c) (hq : q ≡ accuracy_of c) (o : List ℕ) where
-  marks-text_lem : marks_text c ≡ count_lines c ++ measure_lines p r q
+module _ (c : Counts) (x y z : Measure) (hx : x ≡ precision_of c) (hy : y ≡ recall_of c) (hz : z ≡ accuracy_of c) (o : List ℕ) where
+  marks-text_lem : marks_text c ≡ count_lines c ++ measure_lines x y z
   unfolding marks_text
-  marks-text_lem = λ i. count_lines c ++ measure_lines (sym hp i) (sym hr i) (sym hq i)
+  marks-text_lem = λ i. count_lines c ++ measure_lines (sym hx i) (sym hy i) (sym hz i)
 
-  module _ (room : 0 + length (marks_text c) ≤ length o) where
-    room-marks : 0 + length (count_lines c ++ measure_lines p r q) ≤ length o
-    room-marks = subst (λ (x : List ℕ). 0 + length x ≤ length o) marks-text_lem room
+  module _ (p : Page) (e : p.out.now ≡ o) (start : p.at ≡ 0) where
+    module _ (room : 0 + length (marks_text c) ≤ length o) where
+      room-marks : Room p (count_lines c ++ measure_lines x y z)
+      room-marks = subst (Room p) marks-text_lem (new-room o _ p e start room)
 
-    pub marks-1 : 0 + length (count_lines c) ≤ length o
-    marks-1 = room-first o (count_lines c) (measure_lines p r q) 0 room-marks
+      pub marks-1 : Room p (count_lines c)
+      marks-1 = room-first p (count_lines c) (measure_lines x y z) room-marks
 
-    pub marks-2 : (o₁ : List ℕ) (a₁ : ℕ) → Put o 0 (count_lines c) o₁ a₁ → a₁ + length (measure_lines p r q) ≤ length o₁
-    marks-2 o₁ a₁ x = room-second (measure_lines p r q) x room-marks
+      pub marks-2 : (q : Page) → Wrote p (count_lines c) q → Room q (measure_lines x y z)
+      marks-2 q f = room-second (measure_lines x y z) f room-marks
 
-  pub marks-put : (o₁ o₂ : List ℕ) (a₁ a₂ : ℕ) → Put o 0 (count_lines c) o₁ a₁ → Put o₁ a₁ (measure_lines p r q) o₂ a₂
-      → Put o 0 (marks_text c) o₂ a₂
-  marks-put o₁ o₂ a₁ a₂ x y = put_as (sym marks-text_lem) (put_then x y)
+    pub marks-put : (q r : Page) (o' : List ℕ) → Wrote p (count_lines c) q → Wrote q (measure_lines x y z) r → o' ≡ r.out.now
+        → Put o 0 (marks_text c) o' r.at
+    marks-put q r o' f g h = new-put o _ p r o' e start (put_as (sym marks-text_lem) (put_then f g)) h
 
 -- ---- how long they are
 

@@ -34,10 +34,11 @@ use Rattle.miner.specs.declared.mining.Headed.{Headed}
 use Rattle.miner.proofs.FromLog.{whole_by}
 use Rattle.miner.specs.declared.mining.Mined.{Mined}
 use Rattle.report.specs.Lent.{most_in}
-use Rattle.report.specs.Puts.{Put, by_source, row_counts, summary_text}
+use Rattle.report.specs.declared.text.Page.{Page}
+use Rattle.report.specs.Puts.{Put, Room, Wrote, by_source, row_counts, summary_text}
 use Rattle.report.specs.Summary.{others_of, counts_of, summary_of, summary_length, summary_answer, summary_after}
 use Rattle.report.proofs.Lending.{most-few}
-use Rattle.report.proofs.PutLaws.{Left, left-all, left-none, left-room, left-next, put_as, put_then, room-first, room-second}
+use Rattle.report.proofs.PutLaws.{Left, left-all, left-none, left-room, left-next, put_as, put_then, room-first, room-second, new-room, new-put}
 
 -- ---- one row
 
@@ -57,8 +58,8 @@ others_by row one rest tables table a n hr h1 hd hn =
 abbrev pub counts_from : ℕ → Relation → ℕ → List ℕ
 counts_from most r x = list_from (most - x) x (others_of r)
 
-module _ (o : List ℕ) (a most : ℕ) (tables : List ℕ) (table : ℕ) (o₁ : List ℕ) (a₁ x : ℕ)
-    (l : Left o a (row_counts most tables table) o₁ a₁ (counts_from most (in_row (table_at tables table)) x)) where
+module _ (p : Page) (most : ℕ) (tables : List ℕ) (table : ℕ) (q : Page) (x : ℕ)
+    (l : Left p (row_counts most tables table) q (counts_from most (in_row (table_at tables table)) x)) where
   module _ (n : ℕ) (h : x < most) (e : n ≡ others_of (in_row (table_at tables table)) x) where
     counts-text_lem : counts_from most (in_row (table_at tables table)) x ≡ (n ∷ []) ++ counts_from most (in_row (table_at tables table)) (x + 1)
     unfolding list_from
@@ -68,24 +69,24 @@ module _ (o : List ℕ) (a most : ℕ) (tables : List ℕ) (table : ℕ) (o₁ :
         ap (λ (k : ℕ). list_from k x f) one
         ∙ ap₂ (λ (m k : ℕ). m ∷ list_from (most - (x + 1)) k f) (sym e) (sym (add-one x))
 
-    pub counts-room : a + length (row_counts most tables table) ≤ length o → a₁ + 1 ≤ length o₁
+    pub counts-room : Room p (row_counts most tables table) → Room q (n ∷ [])
     counts-room room = left-room l (n ∷ []) _ counts-text_lem room
 
-    pub counts-turn : (o₂ : List ℕ) (a₂ : ℕ) → Put o₁ a₁ (n ∷ []) o₂ a₂
-        → Left o a (row_counts most tables table) o₂ a₂ (counts_from most (in_row (table_at tables table)) (x + 1))
-    counts-turn o₂ a₂ p = left-next l (counts_from most (in_row (table_at tables table)) (x + 1)) counts-text_lem p
+    pub counts-turn : (r : Page) → Wrote q (n ∷ []) r
+        → Left p (row_counts most tables table) r (counts_from most (in_row (table_at tables table)) (x + 1))
+    counts-turn r f = left-next l (counts_from most (in_row (table_at tables table)) (x + 1)) counts-text_lem f
 
-  pub counts_end : most ≤ x → Put o a (row_counts most tables table) o₁ a₁
+  pub counts_end : most ≤ x → Wrote p (row_counts most tables table) q
   unfolding list_from
   counts_end h = let none : most - x ≡ 0 = omega arith in left-none l (ap (λ (k : ℕ). list_from k x (others_of (in_row (table_at tables table)))) none)
 
-pub counts_start : (o : List ℕ) (a most : ℕ) (tables : List ℕ) (table : ℕ)
-    → Left o a (row_counts most tables table) o a (counts_from most (in_row (table_at tables table)) 0)
+pub counts_start : (p : Page) (most : ℕ) (tables : List ℕ) (table : ℕ)
+    → Left p (row_counts most tables table) p (counts_from most (in_row (table_at tables table)) 0)
 unfolding counts_of
-counts_start o a most tables table =
+counts_start p most tables table =
     let text = row_counts most tables table in
     let all : most ≡ most - 0 = omega arith in
-    subst (λ (n : ℕ). Left o a text o a (list_from n 0 (others_of (in_row (table_at tables table))))) all (left-all o a text)
+    subst (λ (n : ℕ). Left p text p (list_from n 0 (others_of (in_row (table_at tables table))))) all (left-all p text)
 
 pub ruleset count-by-count = (counts_start, counts-room, counts-turn, counts_end)
 
@@ -95,19 +96,20 @@ module _ (most : ℕ) (tables c listed o : List ℕ) (hc : c ≡ with_table no_r
   both-text : row_counts most listed 0 ++ row_counts most tables 3 ≡ summary_text most tables
   both-text = ap (λ (x : List ℕ). row_counts most x 0 ++ row_counts most tables 3) (hl ∙ ap (λ (x : List ℕ). rows_of (turned x)) hc)
 
-  module _ (room : 0 + length (summary_text most tables) ≤ length o) where
-    room-both : 0 + length (row_counts most listed 0 ++ row_counts most tables 3) ≤ length o
-    room-both = subst (λ (x : List ℕ). 0 + length x ≤ length o) (sym both-text) room
+  module _ (p : Page) (e : p.out.now ≡ o) (z : p.at ≡ 0) where
+    module _ (room : 0 + length (summary_text most tables) ≤ length o) where
+      room-both : Room p (row_counts most listed 0 ++ row_counts most tables 3)
+      room-both = subst (Room p) (sym both-text) (new-room o _ p e z room)
 
-    pub summary-1 : 0 + length (row_counts most listed 0) ≤ length o
-    summary-1 = room-first o (row_counts most listed 0) (row_counts most tables 3) 0 room-both
+      pub summary-1 : Room p (row_counts most listed 0)
+      summary-1 = room-first p (row_counts most listed 0) (row_counts most tables 3) room-both
 
-    pub summary-2 : (o₁ : List ℕ) (a₁ : ℕ) → Put o 0 (row_counts most listed 0) o₁ a₁ → a₁ + length (row_counts most tables 3) ≤ length o₁
-    summary-2 o₁ a₁ p = room-second (row_counts most tables 3) p room-both
+      pub summary-2 : (q : Page) → Wrote p (row_counts most listed 0) q → Room q (row_counts most tables 3)
+      summary-2 q f = room-second (row_counts most tables 3) f room-both
 
-  pub summary-put : (o₁ o₂ : List ℕ) (a₁ a₂ : ℕ) → Put o 0 (row_counts most listed 0) o₁ a₁ → Put o₁ a₁ (row_counts most tables 3) o₂ a₂
-      → Put o 0 (summary_text most tables) o₂ a₂
-  summary-put o₁ o₂ a₁ a₂ p q = put_as both-text (put_then p q)
+    pub summary-put : (q r : Page) (o' : List ℕ) → Wrote p (row_counts most listed 0) q → Wrote q (row_counts most tables 3) r → o' ≡ r.out.now
+        → Put o 0 (summary_text most tables) o' r.at
+    summary-put q r o' f g h = new-put o _ p r o' e z (put_as both-text (put_then f g)) h
 
 -- ---- they are the rules'
 

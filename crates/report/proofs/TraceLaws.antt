@@ -13,7 +13,8 @@ use Rattle.calllog.specs.Logs.{part_at}
 use Rattle.tally.specs.Passes.{walked}
 use Rattle.tally.proofs.Walks.{walked_next, walked_end, walked_start}
 use Rattle.report.specs.Listing.{trace_line, trace_lines}
-use Rattle.report.specs.Puts.{Put}
+use Rattle.report.specs.Puts.{Room, Wrote}
+use Rattle.report.specs.declared.text.Page.{Page}
 use Rattle.report.proofs.PutLaws.{Left, left-all, left_as, left-next, left-room, left-none}
 
 module _ (events : Set) (q : Relations) (m : State) (log : List ℕ) (n : ℕ) where
@@ -24,10 +25,10 @@ module _ (events : Set) (q : Relations) (m : State) (log : List ℕ) (n : ℕ) w
   abbrev pub traces_text : ℕ → List ℕ
   traces_text k = trace_lines (replay_from events q m 0) k (walked log (n - k) k)
 
-  pub traces-start : (o : List ℕ) (a : ℕ) → Left o a (trace_lines (replay_from events q m 0) 0 (walked log n 0)) o a (traces_text 0)
-  traces-start o a = left_as (left-all o a _) (ap (trace_lines (replay_from events q m 0) 0) (sym (walked_start log n)))
+  pub traces-start : (p : Page) → Left p (trace_lines (replay_from events q m 0) 0 (walked log n 0)) p (traces_text 0)
+  traces-start p = left_as (left-all p _) (ap (trace_lines (replay_from events q m 0) 0) (sym (walked_start log n)))
 
-  module _ (o : List ℕ) (a : ℕ) (whole o₁ : List ℕ) (a₁ k : ℕ) (l : Left o a whole o₁ a₁ (traces_text k)) where
+  module _ (p : Page) (whole : List ℕ) (p₁ : Page) (k : ℕ) (l : Left p whole p₁ (traces_text k)) where
     module _ (h : k < n) (cut : List ℕ) (e : cut ≡ part_at log k) where
       traces-text_lem : traces_text k ≡ trace_line k (length cut) (ended cut) ++ traces_text (k + 1)
       unfolding trace_lines
@@ -37,13 +38,12 @@ module _ (events : Set) (q : Relations) (m : State) (log : List ℕ) (n : ℕ) w
           (walked log (n - (k + 1)) (k + 1))) (sym (add-one k))
           ∙ ap (λ (σ : List ℕ). trace_line k (length σ) (ended σ) ++ traces_text (k + 1)) (sym e)
 
-      pub traces-room : a + length whole ≤ length o → a₁ + length (trace_line k (length cut) (ended cut)) ≤ length o₁
+      pub traces-room : Room p whole → Room p₁ (trace_line k (length cut) (ended cut))
       traces-room room = left-room l (trace_line k (length cut) (ended cut)) (traces_text (k + 1)) traces-text_lem room
 
-      pub traces-turn : (o₂ : List ℕ) (a₂ : ℕ) → Put o₁ a₁ (trace_line k (length cut) (ended cut)) o₂ a₂
-          → Left o a whole o₂ a₂ (traces_text (k + 1))
-      traces-turn o₂ a₂ q = left-next l (traces_text (k + 1)) traces-text_lem q
+      pub traces-turn : (p₂ : Page) → Wrote p₁ (trace_line k (length cut) (ended cut)) p₂ → Left p whole p₂ (traces_text (k + 1))
+      traces-turn p₂ f = left-next l (traces_text (k + 1)) traces-text_lem f
 
-    pub traces-end : n ≤ k → Put o a whole o₁ a₁
+    pub traces-end : n ≤ k → Wrote p whole p₁
     unfolding trace_lines
     traces-end h = left-none l (ap (trace_lines (replay_from events q m 0) k) (walked_end log n k h))

@@ -38,27 +38,28 @@ use Rattle.miner.proofs.FromLog.{walk-all}
 use Rattle.report.specs.Lines.{line_end, line, refused_word, C, R, I, E}
 use Rattle.report.specs.Pairs.{Pair, pairs_of, pair_count}
 use Rattle.report.specs.Listing.{first_line, pair_lines, trace_line, trace_lines, relation_lines, lines_of, refused_line, listing_of}
-use Rattle.report.specs.Puts.{Put, named, three, four, counts_text, pair_counts, heading_text, relations_text, by_source, lines_text}
+use Rattle.report.specs.declared.text.Page.{Page}
+use Rattle.report.specs.Puts.{Put, Room, Wrote, named, three, four, counts_text, pair_counts, heading_text, relations_text, by_source, lines_text}
 use Rattle.report.specs.Puts.{graph_text}
-use Rattle.report.proofs.PutLaws.{put_as, of-three-1, of-three-2, of-three-3, put_three}
+use Rattle.report.proofs.PutLaws.{put_as, new-room, new-put, of-three-1, of-three-2, of-three-3, put_three}
 use Rattle.report.proofs.PairLaws.{pairs-ext}
 
 -- ---- the line of a refusal
 
-module _ (o : List ℕ) (x : Answer) (n : ℕ) (h : n ≡ number_of x) where
+module _ (o : List ℕ) (x : Answer) (n : ℕ) (h : n ≡ number_of x) (p : Page) (e : p.out.now ≡ o) (z : p.at ≡ 0) where
   refused-text : refused_line x ≡ named refused_word n line_end
   unfolding refused_line line named
   refused-text = ap (λ (k : ℕ). named refused_word k line_end) (sym h)
 
-  pub refused-room : 0 + length (refused_line x) ≤ length o → 0 + length (named refused_word n line_end) ≤ length o
-  refused-room room = subst (λ (y : List ℕ). 0 + length y ≤ length o) refused-text room
+  pub refused-room : 0 + length (refused_line x) ≤ length o → Room p (named refused_word n line_end)
+  refused-room room = subst (Room p) refused-text (new-room o _ p e z room)
 
-  pub refused-put : (o₁ : List ℕ) (a₁ : ℕ) → Put o 0 (named refused_word n line_end) o₁ a₁ → Put o 0 (refused_line x) o₁ a₁
-  refused-put o₁ a₁ p = put_as (sym refused-text) p
+  pub refused-put : (q : Page) (o' : List ℕ) → Wrote p (named refused_word n line_end) q → o' ≡ q.out.now → Put o 0 (refused_line x) o' q.at
+  refused-put q o' f g = new-put o _ p q o' e z (put_as (sym refused-text) f) g
 
 -- ---- the three parts, with the conditions turned round first
 
-module _ (head : Head) (tables c listed log : List ℕ) (n : ℕ) (o : List ℕ)
+module _ (head : Head) (tables c listed log : List ℕ) (n : ℕ) (p : Page)
     (hc : c ≡ with_table no_rows 0 (table_at tables 0)) (hl : listed ≡ rows_of (turned c)) where
   abbrev heading : List ℕ
   heading = heading_text (count_below width (mem head.events)) (pair_counts listed tables) n
@@ -75,34 +76,34 @@ module _ (head : Head) (tables c listed log : List ℕ) (n : ℕ) (o : List ℕ)
       three (heading_text (count_below width (mem head.events)) (pair_counts x tables) n) (relations_text x tables) replays)
       (hl ∙ ap (λ (x : List ℕ). rows_of (turned x)) hc)
 
-  module _ (room : 0 + length (lines_text head tables log n) ≤ length o) where
-    room-all : 0 + length (three heading pairs replays) ≤ length o
-    room-all = subst (λ (x : List ℕ). 0 + length x ≤ length o) (sym by-source_lem) room
+  module _ (room : Room p (lines_text head tables log n)) where
+    room-all : Room p (three heading pairs replays)
+    room-all = subst (Room p) (sym by-source_lem) room
 
-    pub lines-1 : 0 + length heading ≤ length o
-    lines-1 = of-three-1 heading pairs replays o 0 room-all
+    pub lines-1 : Room p heading
+    lines-1 = of-three-1 heading pairs replays p room-all
 
-    pub lines-2 : (o₁ : List ℕ) (a₁ : ℕ) → Put o 0 heading o₁ a₁ → a₁ + length pairs ≤ length o₁
-    lines-2 o₁ a₁ p = of-three-2 heading pairs replays o 0 room-all o₁ a₁ p
+    pub lines-2 : (q : Page) → Wrote p heading q → Room q pairs
+    lines-2 q f = of-three-2 heading pairs replays p room-all q f
 
-    pub lines-3 : (o₁ o₂ : List ℕ) (a₁ a₂ : ℕ) → Put o 0 heading o₁ a₁ → Put o₁ a₁ pairs o₂ a₂ → a₂ + length replays ≤ length o₂
-    lines-3 o₁ o₂ a₁ a₂ p q = of-three-3 heading pairs replays o 0 room-all o₁ o₂ a₁ a₂ p q
+    pub lines-3 : (q r : Page) → Wrote p heading q → Wrote q pairs r → Room r replays
+    lines-3 q r f g = of-three-3 heading pairs replays p room-all q r f g
 
-  pub lines-put : (o₁ o₂ o₃ : List ℕ) (a₁ a₂ a₃ : ℕ) → Put o 0 heading o₁ a₁ → Put o₁ a₁ pairs o₂ a₂ → Put o₂ a₂ replays o₃ a₃
-      → Put o 0 (lines_text head tables log n) o₃ a₃
-  lines-put o₁ o₂ o₃ a₁ a₂ a₃ p q s = put_as by-source_lem (put_three heading pairs replays o 0 o₁ o₂ o₃ a₁ a₂ a₃ p q s)
+  pub lines-put : (q r s : Page) → Wrote p heading q → Wrote q pairs r → Wrote r replays s → Wrote p (lines_text head tables log n) s
+  lines-put q r s f g h = put_as by-source_lem (put_three heading pairs replays p q r s f g h)
 
 -- ---- all traces of a log
 
-module _ (head : Head) (tables log o : List ℕ) (n : ℕ) (h : n ≡ traces_in log) where
+module _ (head : Head) (tables log o : List ℕ) (n : ℕ) (h : n ≡ traces_in log) (p : Page) (e : p.out.now ≡ o) (z : p.at ≡ 0) where
   all-traces : graph_text (graph_of head tables) log ≡ lines_text head tables log n
   all-traces = ap (lines_text head tables log) (sym h)
 
-  pub graph-room : 0 + length (graph_text (graph_of head tables) log) ≤ length o → 0 + length (lines_text head tables log n) ≤ length o
-  graph-room room = subst (λ (x : List ℕ). 0 + length x ≤ length o) all-traces room
+  pub graph-room : 0 + length (graph_text (graph_of head tables) log) ≤ length o → Room p (lines_text head tables log n)
+  graph-room room = subst (Room p) all-traces (new-room o _ p e z room)
 
-  pub graph-put : (o₁ : List ℕ) (a₁ : ℕ) → Put o 0 (lines_text head tables log n) o₁ a₁ → Put o 0 (graph_text (graph_of head tables) log) o₁ a₁
-  graph-put o₁ a₁ p = put_as (sym all-traces) p
+  pub graph-put : (q : Page) (o' : List ℕ) → Wrote p (lines_text head tables log n) q → o' ≡ q.out.now
+      → Put o 0 (graph_text (graph_of head tables) log) o' q.at
+  graph-put q o' f g = new-put o _ p q o' e z (put_as (sym all-traces) f) g
 
 -- ---- the parts are the definition's
 

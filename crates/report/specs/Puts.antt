@@ -1,6 +1,6 @@
 -- What the functions that put text into the lent buffer say. A reader of `write_listing` need not believe this file: its own statement
 -- names the bytes of the buffer.
-use Rattle.std.specs.Prelude.{◌≡◌, List, [], ◌∷◌, ◌++◌, ℕ, ◌+◌, length}
+use Rattle.std.specs.Prelude.{◌≡◌, List, [], ◌∷◌, ◌++◌, ℕ, ◌+◌, ◌≤◌, length}
 use Rattle.std.proofs.lemmas.List.Edits.{sets}
 use Rattle.sets.specs.Members.{width, mem, count_below}
 use Rattle.sets.specs.Rows.{no_rows, in_row, rows_of}
@@ -16,11 +16,21 @@ use Rattle.report.specs.Lines.{space, line_end, decimal, events_word, traces_wor
 use Rattle.report.specs.Pairs.{pairs_of, pair_count}
 use Rattle.report.specs.Summary.{counts_of}
 use Rattle.report.specs.Listing.{pair_lines, trace_lines}
+use Rattle.report.specs.declared.text.Page.{Page}
 
 -- the text stands from `at` on, all else is as it was, and the next place is the one after it
 pub record Put (before : List ℕ) (at : ℕ) (text : List ℕ) (after : List ℕ) (next : ℕ) : Type 0 where
   pub place : next ≡ at + length text
   pub bytes : after ≡ sets before at text
+
+-- the page has room for the text from its place on
+abbrev pub Room : Page → List ℕ → Type 0
+Room p text = p.at + length text ≤ length p.out.now
+
+-- the text was put into the page, which is of the same buffer
+pub record Wrote (p : Page) (text : List ℕ) (q : Page) : Type 0 where
+  pub same : q.out.ghost_name ≡ p.out.ghost_name
+  pub put : Put p.out.now p.at text q.out.now q.at
 
 -- a word, a space, a number, and the byte after it
 unfoldable pub named : List ℕ → ℕ → ℕ → List ℕ

@@ -1,15 +1,16 @@
 // The first line: how many events, pairs of each relation, and traces.
-ghost use Rattle.std.specs.Prelude.{◌≡◌, ◌+◌, ◌≤◌, length};
+ghost use Rattle.std.specs.Prelude.{◌≡◌};
 ghost use Rattle.sets.specs.Members.{width, mem, count_below};
 ghost use Rattle.sets.specs.Rows.{in_row};
 ghost use Rattle.sets.specs.Tables.{table_at};
 ghost use Rattle.report.specs.Lines.{space, events_word};
 ghost use Rattle.report.specs.Pairs.{pair_count};
-ghost use Rattle.report.specs.Puts.{Put, named, counts_text, pair_counts, heading_text};
+ghost use Rattle.report.specs.Puts.{Room, Wrote, named, counts_text, pair_counts, heading_text};
 
-use crate::text;
-use engine::{Relations, graph};
-use sets::{Activity, Rows, Set, tables};
+use crate::graph::ListedGraph;
+use crate::text::{LINE_END, Page, SPACE};
+use engine::graph;
+use sets::{Activity, Set, tables};
 
 const EVENTS: [u8; 6] = *b"events";
 
@@ -29,64 +30,50 @@ fn pair_count(tables: &[u64], table: u8) -> usize
     ensures { result ≡ pair_count (in_row (table_at tables.now table)) }
 {
     let mut n: usize = 0;
-    let mut a: u8 = 0;
-    while a < Activity::LIMIT {
+    for a in 0..Activity::LIMIT {
         n += tables::row(tables, table, Activity(a)).count() as usize;
-        a += 1;
     }
     n
 }
 
 // The four counts of pairs, each after its relation's letter.
-fn put_counts(out: &mut [u8], at: usize, c: usize, r: usize, i: usize, e: usize) -> usize
-    requires { at + length (counts_text c r i e) ≤ length out.old }
-    ensures { Put out.old at (counts_text c r i e) out.new result }
+fn put_counts(page: &mut Page<'_>, c: usize, r: usize, i: usize, e: usize)
+    requires { Room page.old (counts_text c r i e) }
+    ensures { Wrote page.old (counts_text c r i e) page.new }
 {
-    let after_c = text::put_named(out, at, &CONDITIONS, c, text::SPACE);
-    let after_r = text::put_named(out, after_c, &RESPONSES, r, text::SPACE);
-    let after_i = text::put_named(out, after_r, &INCLUDES, i, text::SPACE);
-    text::put_named(out, after_i, &EXCLUDES, e, text::SPACE)
+    page.named(&CONDITIONS, c, SPACE);
+    page.named(&RESPONSES, r, SPACE);
+    page.named(&INCLUDES, i, SPACE);
+    page.named(&EXCLUDES, e, SPACE);
 }
 
 // The same, of the conditions by source and of the other relations.
-fn put_pair_counts<'a>(
-    out: &mut [u8],
-    at: usize,
-    listed: &'a Rows,
-    relations: &'a Relations,
-) -> usize
-    requires { at + length (pair_counts listed.now relations.now) ≤ length out.old }
-    ensures { Put out.old at (pair_counts listed.now relations.now) out.new result }
+fn put_pair_counts(page: &mut Page<'_>, g: &ListedGraph<'_>)
+    requires { Room page.old (pair_counts g.now.by_source.now g.now.relations.now) }
+    ensures { Wrote page.old (pair_counts g.now.by_source.now g.now.relations.now) page.new }
 {
-    let c = pair_count(listed, 0);
+    let (by_source, relations) = (g.by_source, g.relations);
+    let c = pair_count(by_source, 0);
     let r = pair_count(relations, graph::RESPONSES);
     let i = pair_count(relations, graph::INCLUDES);
     let e = pair_count(relations, graph::EXCLUDES);
-    put_counts(out, at, c, r, i, e)
+    put_counts(page, c, r, i, e);
 }
 
 // The number of events, after its word.
-fn put_events(out: &mut [u8], at: usize, events: Set) -> usize
-    requires { at + length (named events_word (count_below width (mem events)) space) ≤ length out.old }
-    ensures { Put out.old at (named events_word (count_below width (mem events)) space) out.new result }
+fn put_events(page: &mut Page<'_>, events: Set)
+    requires { Room page.old (named events_word (count_below width (mem events)) space) }
+    ensures { Wrote page.old (named events_word (count_below width (mem events)) space) page.new }
 {
-    let n = events.count();
-    text::put_named(out, at, &EVENTS, n as usize, text::SPACE)
+    page.named(&EVENTS, events.count() as usize, SPACE);
 }
 
 // The whole line.
-pub(crate) fn put_heading<'a>(
-    out: &mut [u8],
-    at: usize,
-    events: Set,
-    traces: usize,
-    listed: &'a Rows,
-    relations: &'a Relations,
-) -> usize
-    requires { at + length (heading_text (count_below width (mem events)) (pair_counts listed.now relations.now) traces) ≤ length out.old }
-    ensures { Put out.old at (heading_text (count_below width (mem events)) (pair_counts listed.now relations.now) traces) out.new result }
+pub(crate) fn put_heading(page: &mut Page<'_>, g: &ListedGraph<'_>, traces: usize)
+    requires { Room page.old (heading_text (count_below width (mem g.now.head.events)) (pair_counts g.now.by_source.now g.now.relations.now) traces) }
+    ensures { Wrote page.old (heading_text (count_below width (mem g.now.head.events)) (pair_counts g.now.by_source.now g.now.relations.now) traces) page.new }
 {
-    let after_events = put_events(out, at, events);
-    let after_counts = put_pair_counts(out, after_events, listed, relations);
-    text::put_named(out, after_counts, &TRACES, traces, text::LINE_END)
+    put_events(page, g.head.events);
+    put_pair_counts(page, g);
+    page.named(&TRACES, traces, LINE_END);
 }

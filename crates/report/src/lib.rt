@@ -2,6 +2,7 @@
 #![tactic(auto)]
 
 pub mod choice;
+mod graph;
 mod heading;
 pub mod lent;
 pub mod marked;

@@ -1,10 +1,11 @@
 // The text of marks (02, 9/12), into a lent buffer.
 ghost use Rattle.std.specs.Prelude.{◌≡◌, ◌+◌, ◌≤◌, length};
-ghost use Rattle.report.specs.Marks.{four_lines, count_lines, measure_line, measure_lines, marks_text, marked_of, marked_after};
-ghost use Rattle.report.specs.Puts.{Put};
+ghost use Rattle.report.specs.Marks.{count_lines, measure_line, measure_lines, marks_text, marked_of, marked_after};
+ghost use Rattle.report.specs.Puts.{Put, Room, Wrote};
 
+use crate::text::{LINE_END, Page, SPACE};
+use crate::writer;
 use crate::writer::Listed;
-use crate::{text, writer};
 use marks::{Counts, Marked, Measure};
 use sets::Answer;
 
@@ -28,50 +29,39 @@ const ACCURACY: [u8; 8] = *b"accuracy";
 
 const NONE: [u8; 4] = *b"none";
 
-// A line for each of four counts.
-fn put_four(out: &mut [u8], at: usize, tp: usize, fp: usize, missed: usize, tn: usize) -> usize
-    requires { at + length (four_lines tp fp missed tn) ≤ length out.old }
-    ensures { Put out.old at (four_lines tp fp missed tn) out.new result }
-{
-    let after_tp = text::put_named(out, at, &TRUE_POSITIVES, tp, text::LINE_END);
-    let after_fp = text::put_named(out, after_tp, &FALSE_POSITIVES, fp, text::LINE_END);
-    let after_fn = text::put_named(out, after_fp, &FALSE_NEGATIVES, missed, text::LINE_END);
-    text::put_named(out, after_fn, &TRUE_NEGATIVES, tn, text::LINE_END)
-}
-
 // A line for each count of the table.
-fn put_counts(out: &mut [u8], at: usize, c: Counts) -> usize
-    requires { at + length (count_lines c) ≤ length out.old }
-    ensures { Put out.old at (count_lines c) out.new result }
+fn put_counts(page: &mut Page<'_>, c: Counts)
+    requires { Room page.old (count_lines c) }
+    ensures { Wrote page.old (count_lines c) page.new }
 {
-    let tp = c.true_positives as usize;
-    let fp = c.false_positives as usize;
-    let missed = c.false_negatives as usize;
-    let tn = c.true_negatives as usize;
-    put_four(out, at, tp, fp, missed, tn)
+    page.named(&TRUE_POSITIVES, c.true_positives as usize, LINE_END);
+    page.named(&FALSE_POSITIVES, c.false_positives as usize, LINE_END);
+    page.named(&FALSE_NEGATIVES, c.false_negatives as usize, LINE_END);
+    page.named(&TRUE_NEGATIVES, c.true_negatives as usize, LINE_END);
 }
 
 // The line of a measure: its two numbers, or `none` where the whole is 0.
-fn put_measure(out: &mut [u8], at: usize, word: &[u8], m: Measure) -> usize
-    requires { at + length (measure_line word.now m) ≤ length out.old }
-    ensures { Put out.old at (measure_line word.now m) out.new result }
+fn put_measure(page: &mut Page<'_>, word: &[u8], m: Measure)
+    requires { Room page.old (measure_line word.now m) }
+    ensures { Wrote page.old (measure_line word.now m) page.new }
 {
     if m.whole == 0 {
-        let next = text::put_word(out, at, word, text::SPACE);
-        return text::put_word(out, next, &NONE, text::LINE_END);
+        page.word(word, SPACE);
+        page.word(&NONE, LINE_END);
+    } else {
+        page.named(word, m.part as usize, SPACE);
+        page.number(m.whole as usize, LINE_END);
     }
-    let next = text::put_named(out, at, word, m.part as usize, text::SPACE);
-    text::put_number(out, next, m.whole as usize, text::LINE_END)
 }
 
 // A line for each measure.
-fn put_measures(out: &mut [u8], at: usize, p: Measure, r: Measure, a: Measure) -> usize
-    requires { at + length (measure_lines p r a) ≤ length out.old }
-    ensures { Put out.old at (measure_lines p r a) out.new result }
+fn put_measures(page: &mut Page<'_>, p: Measure, r: Measure, a: Measure)
+    requires { Room page.old (measure_lines p r a) }
+    ensures { Wrote page.old (measure_lines p r a) page.new }
 {
-    let after_p = put_measure(out, at, &PRECISION, p);
-    let after_r = put_measure(out, after_p, &RECALL, r);
-    put_measure(out, after_r, &ACCURACY, a)
+    put_measure(page, &PRECISION, p);
+    put_measure(page, &RECALL, r);
+    put_measure(page, &ACCURACY, a);
 }
 
 // All lines.
@@ -82,8 +72,10 @@ fn put_marks(out: &mut [u8], c: Counts) -> usize
     let p = c.precision();
     let r = c.recall();
     let a = c.accuracy();
-    let next = put_counts(out, 0, c);
-    put_measures(out, next, p, r, a)
+    let mut page = Page::new(out);
+    put_counts(&mut page, c);
+    put_measures(&mut page, p, r, a);
+    page.at
 }
 
 // The text of marks: gives their answer and the text's length; 7 and 0 where the buffer is smaller than `LONGEST_MARKS`.

@@ -1,73 +1,55 @@
 // The pairs of the relations, one a line.
-ghost use Rattle.std.specs.Prelude.{◌+◌, ◌≤◌, length};
 ghost use Rattle.sets.specs.Members.{width, mem};
 ghost use Rattle.sets.specs.Rows.{in_row};
 ghost use Rattle.sets.specs.Tables.{table_at};
 ghost use Rattle.report.specs.Pairs.{passing, with_each, pairs_of};
 ghost use Rattle.report.specs.Listing.{pair_line, pair_lines};
-ghost use Rattle.report.specs.Puts.{Put, relations_text};
+ghost use Rattle.report.specs.Puts.{Room, Wrote, relations_text};
 
-use crate::{heading, text};
-use engine::{Relations, graph};
-use sets::{Activity, Rows, Set, tables};
+use crate::graph::ListedGraph;
+use crate::heading;
+use crate::text::{LINE_END, Page, SPACE};
+use engine::graph;
+use sets::{Activity, Set, tables};
 
 // The line of one pair.
-fn put_pair(out: &mut [u8], at: usize, letter: &[u8], s: Activity, t: Activity) -> usize
-    requires { at + length (pair_line letter.now (record { source = s.0; target = t.0 })) ≤ length out.old }
-    ensures { Put out.old at (pair_line letter.now (record { source = s.0; target = t.0 })) out.new result }
+fn put_pair(page: &mut Page<'_>, letter: &[u8], s: Activity, t: Activity)
+    requires { Room page.old (pair_line letter.now (record { source = s.0; target = t.0 })) }
+    ensures { Wrote page.old (pair_line letter.now (record { source = s.0; target = t.0 })) page.new }
 {
-    let next = text::put_named(out, at, letter, s.0 as usize, text::SPACE);
-    text::put_number(out, next, t.0 as usize, text::LINE_END)
+    page.named(letter, s.0 as usize, SPACE);
+    page.number(t.0 as usize, LINE_END);
 }
 
 // The lines of a source with each of its targets, from the least on.
-fn put_row(out: &mut [u8], at: usize, letter: &[u8], s: Activity, targets: Set) -> usize
-    requires { at + length (pair_lines letter.now (with_each s.0 (passing (mem targets) width 0))) ≤ length out.old }
-    ensures { Put out.old at (pair_lines letter.now (with_each s.0 (passing (mem targets) width 0))) out.new result }
+fn put_row(page: &mut Page<'_>, letter: &[u8], s: Activity, targets: Set)
+    requires { Room page.old (pair_lines letter.now (with_each s.0 (passing (mem targets) width 0))) }
+    ensures { Wrote page.old (pair_lines letter.now (with_each s.0 (passing (mem targets) width 0))) page.new }
 {
-    let mut next = at;
-    let mut rest = targets;
-    while !rest.is_empty() {
-        let t = rest.least();
-        next = put_pair(out, next, letter, s, t);
-        rest = rest.without_least();
+    for t in targets.members() {
+        put_pair(page, letter, s, t);
     }
-    next
 }
 
 // The lines of the pairs in the rows of a table.
-fn put_pairs<'a>(out: &mut [u8], at: usize, letter: &'a [u8], tables: &'a [u64], table: u8) -> usize
-    requires { at + length (pair_lines letter.now (pairs_of (in_row (table_at tables.now table)))) ≤ length out.old }
-    ensures { Put out.old at (pair_lines letter.now (pairs_of (in_row (table_at tables.now table)))) out.new result }
+fn put_pairs<'a>(page: &mut Page<'_>, letter: &'a [u8], tables: &'a [u64], table: u8)
+    requires { Room page.old (pair_lines letter.now (pairs_of (in_row (table_at tables.now table)))) }
+    ensures { Wrote page.old (pair_lines letter.now (pairs_of (in_row (table_at tables.now table)))) page.new }
 {
-    let mut next = at;
-    let mut a: u8 = 0;
-    while a < Activity::LIMIT {
+    for a in 0..Activity::LIMIT {
         let s = Activity(a);
-        next = put_row(out, next, letter, s, tables::row(tables, table, s));
-        a += 1;
+        put_row(page, letter, s, tables::row(tables, table, s));
     }
-    next
 }
 
 // The lines of the four relations: of the conditions by source, and of the others.
-pub(crate) fn put_relations<'a>(
-    out: &mut [u8],
-    at: usize,
-    listed: &'a Rows,
-    relations: &'a Relations,
-) -> usize
-    requires { at + length (relations_text listed.now relations.now) ≤ length out.old }
-    ensures { Put out.old at (relations_text listed.now relations.now) out.new result }
+pub(crate) fn put_relations(page: &mut Page<'_>, g: &ListedGraph<'_>)
+    requires { Room page.old (relations_text g.now.by_source.now g.now.relations.now) }
+    ensures { Wrote page.old (relations_text g.now.by_source.now g.now.relations.now) page.new }
 {
-    let after_c = put_pairs(out, at, &heading::CONDITIONS, listed, 0);
-    let after_r = put_pairs(
-        out,
-        after_c,
-        &heading::RESPONSES,
-        relations,
-        graph::RESPONSES,
-    );
-    let after_i = put_pairs(out, after_r, &heading::INCLUDES, relations, graph::INCLUDES);
-    put_pairs(out, after_i, &heading::EXCLUDES, relations, graph::EXCLUDES)
+    let (by_source, relations) = (g.by_source, g.relations);
+    put_pairs(page, &heading::CONDITIONS, by_source, 0);
+    put_pairs(page, &heading::RESPONSES, relations, graph::RESPONSES);
+    put_pairs(page, &heading::INCLUDES, relations, graph::INCLUDES);
+    put_pairs(page, &heading::EXCLUDES, relations, graph::EXCLUDES);
 }

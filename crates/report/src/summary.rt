@@ -2,10 +2,11 @@
 ghost use Rattle.std.specs.Prelude.{◌≡◌, ◌+◌, ◌≤◌, length};
 ghost use Rattle.sets.specs.Rows.{in_row};
 ghost use Rattle.sets.specs.Tables.{table_at};
-ghost use Rattle.report.specs.Puts.{Put, row_counts, summary_text};
+ghost use Rattle.report.specs.Puts.{Put, Room, Wrote, row_counts, summary_text};
 ghost use Rattle.report.specs.Summary.{others_of, summary_answer, summary_after};
 
-use crate::{lent, text};
+use crate::lent;
+use crate::text::Page;
 use engine::Relations;
 use engine::graph::{CONDITIONS, EXCLUDES, KINDS};
 use rules::Profile;
@@ -22,18 +23,13 @@ fn others(tables: &[u64], table: u8, a: Activity) -> u8
 }
 
 // The same of the first activities, a byte each.
-fn put_counts(out: &mut [u8], at: usize, most: u8, tables: &[u64], table: u8) -> usize
-    requires { at + length (row_counts most tables.now table) ≤ length out.old }
-    ensures { Put out.old at (row_counts most tables.now table) out.new result }
+fn put_counts(page: &mut Page<'_>, most: u8, tables: &[u64], table: u8)
+    requires { Room page.old (row_counts most tables.now table) }
+    ensures { Wrote page.old (row_counts most tables.now table) page.new }
 {
-    let mut next = at;
-    let mut a: u8 = 0;
-    while a < most {
-        let n = others(tables, table, Activity(a));
-        next = text::put_byte(out, next, n);
-        a += 1;
+    for a in 0..most {
+        page.byte(others(tables, table, Activity(a)));
     }
-    next
 }
 
 // The counts of the conditions by source, then those of the excludes.
@@ -43,8 +39,10 @@ fn put_summary(out: &mut [u8], most: u8, relations: &Relations) -> usize
 {
     let conditions = tables::taken(relations, CONDITIONS);
     let listed = rows::turned(&conditions);
-    let at = put_counts(out, 0, most, &listed, 0);
-    put_counts(out, at, most, relations, EXCLUDES)
+    let mut page = Page::new(out);
+    put_counts(&mut page, most, &listed, 0);
+    put_counts(&mut page, most, relations, EXCLUDES);
+    page.at
 }
 
 // Summarizes a log's graph, two bytes for each activity that the log may have: the log's answer, or 7 where the buffer has fewer.

@@ -1,74 +1,86 @@
-// Bytes, words and numbers, put into a lent buffer from a place on. Each function gives the place after what it put.
-ghost use Rattle.std.specs.Prelude.{[], ◌∷◌, ◌++◌, ◌+◌, ◌≤◌, length};
+// Bytes, words and numbers, put one after another into a lent buffer.
+ghost use Rattle.std.specs.Prelude.{◌≡◌, [], ◌∷◌, ◌++◌};
 ghost use Rattle.report.specs.Lines.{figures, decimal};
-ghost use Rattle.report.specs.Puts.{Put, named};
+ghost use Rattle.report.specs.Puts.{Room, Wrote, named};
 
 // What stands between two words of a line, and at its end.
-pub const SPACE: u8 = 32;
+pub const SPACE: u8 = b' ';
 
-pub const LINE_END: u8 = 10;
+pub const LINE_END: u8 = b'\n';
 
-// One byte.
-pub(crate) fn put_byte(out: &mut [u8], at: usize, b: u8) -> usize
-    requires { at + 1 ≤ length out.old }
-    ensures { Put out.old at (b ∷ []) out.new result }
-{
-    out[at] = b;
-    at + 1
+// A lent buffer, and the place where the next byte goes.
+#[derive(Drop)]
+pub struct Page<'a> {
+    out: &'a mut [u8],
+    pub at: usize,
 }
 
-// A fixed byte string.
-fn put_bytes(out: &mut [u8], at: usize, word: &[u8]) -> usize
-    requires { at + length word.now ≤ length out.old }
-    ensures { Put out.old at word.now out.new result }
-{
-    let mut i: usize = 0;
-    while i < word.len() {
-        out[at + i] = word[i];
-        i += 1;
+impl<'a> Page<'a> {
+    pub fn new(out: &'a mut [u8]) -> Page<'a>
+        ensures same_buffer { result.out.ghost_name ≡ out.entry.ghost_name }
+        ensures bytes { result.out.now ≡ out.old }
+        ensures place { result.at ≡ 0 }
+    {
+        Page { out, at: 0 }
     }
-    at + i
-}
 
-// A word, and the byte that ends it: a space, or the end of the line.
-pub(crate) fn put_word(out: &mut [u8], at: usize, word: &[u8], end: u8) -> usize
-    requires { at + length (word.now ++ (end ∷ [])) ≤ length out.old }
-    ensures { Put out.old at (word.now ++ (end ∷ [])) out.new result }
-{
-    let next = put_bytes(out, at, word);
-    put_byte(out, next, end)
-}
-
-// The last figures of a number, at most k of them.
-fn put_figures(out: &mut [u8], at: usize, k: usize, n: usize) -> usize
-    requires { at + length (figures k n) ≤ length out.old }
-    ensures { Put out.old at (figures k n) out.new result }
-{
-    if k == 0 {
-        return at;
+    // One byte.
+    pub fn byte(&mut self, b: u8)
+        requires { Room self.old (b ∷ []) }
+        ensures { Wrote self.old (b ∷ []) self.new }
+    {
+        self.out[self.at] = b;
+        self.at += 1;
     }
-    let last = (48 + n % 10) as u8;
-    if n < 10 {
-        return put_byte(out, at, last);
+
+    // A fixed byte string.
+    fn bytes(&mut self, word: &[u8])
+        requires { Room self.old word.now }
+        ensures { Wrote self.old word.now self.new }
+    {
+        let end = self.at + word.len();
+        self.out[self.at..end].copy_from_slice(word);
+        self.at = end;
     }
-    let next = put_figures(out, at, k - 1, n / 10);
-    put_byte(out, next, last)
-}
 
-// A number in decimal, and the byte that ends it.
-pub(crate) fn put_number(out: &mut [u8], at: usize, n: usize, end: u8) -> usize
-    requires { at + length (decimal n ++ (end ∷ [])) ≤ length out.old }
-    ensures { Put out.old at (decimal n ++ (end ∷ [])) out.new result }
-{
-    let next = put_figures(out, at, 5, n);
-    put_byte(out, next, end)
-}
+    // A word, and the byte that ends it: a space, or the end of the line.
+    pub fn word(&mut self, word: &[u8], end: u8)
+        requires { Room self.old (word.now ++ (end ∷ [])) }
+        ensures { Wrote self.old (word.now ++ (end ∷ [])) self.new }
+    {
+        self.bytes(word);
+        self.byte(end);
+    }
 
-// A word, a space, a number, and the byte that ends it.
-pub(crate) fn put_named(out: &mut [u8], at: usize, word: &[u8], n: usize, end: u8) -> usize
-    requires { at + length (named word.now n end) ≤ length out.old }
-    ensures { Put out.old at (named word.now n end) out.new result }
-{
-    let next = put_word(out, at, word, SPACE);
-    put_number(out, next, n, end)
+    // The last figures of a number, at most k of them.
+    fn figures(&mut self, k: u8, n: usize)
+        requires { Room self.old (figures k n) }
+        ensures { Wrote self.old (figures k n) self.new }
+    {
+        if k == 0 {
+            return;
+        }
+        if 10 <= n {
+            self.figures(k - 1, n / 10);
+        }
+        self.byte(b'0' + (n % 10) as u8);
+    }
+
+    // A number in decimal, and the byte that ends it.
+    pub fn number(&mut self, n: usize, end: u8)
+        requires { Room self.old (decimal n ++ (end ∷ [])) }
+        ensures { Wrote self.old (decimal n ++ (end ∷ [])) self.new }
+    {
+        self.figures(5, n);
+        self.byte(end);
+    }
+
+    // A word, a space, a number, and the byte that ends it.
+    pub fn named(&mut self, word: &[u8], n: usize, end: u8)
+        requires { Room self.old (named word.now n end) }
+        ensures { Wrote self.old (named word.now n end) self.new }
+    {
+        self.word(word, SPACE);
+        self.number(n, end);
+    }
 }

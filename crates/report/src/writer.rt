@@ -2,9 +2,11 @@
 ghost use Rattle.std.specs.Prelude.{◌≡◌, ◌+◌, ◌≤◌, length};
 ghost use Rattle.engine.specs.Relations.{graph_of};
 ghost use Rattle.report.specs.Listing.{refused_line, listed_of, listing_after};
-ghost use Rattle.report.specs.Puts.{Put, lines_text, graph_text};
+ghost use Rattle.report.specs.Puts.{Put, Room, Wrote, lines_text, graph_text};
 
-use crate::{heading, lent, relations, replays, text};
+use crate::graph::ListedGraph;
+use crate::text::{LINE_END, Page};
+use crate::{heading, lent, relations, replays};
 use engine::graph::{CONDITIONS, KINDS};
 use engine::{Head, Relations};
 use rules::Profile;
@@ -25,27 +27,32 @@ pub(crate) fn put_refused(out: &mut [u8], answer: Answer) -> usize
     requires { 0 + length (refused_line answer) ≤ length out.old }
     ensures { Put out.old 0 (refused_line answer) out.new result }
 {
-    let n = answer.number();
-    text::put_named(out, 0, &REFUSED, n as usize, text::LINE_END)
+    let mut page = Page::new(out);
+    page.named(&REFUSED, answer.number() as usize, LINE_END);
+    page.at
 }
 
 // The lines of a graph and of a log's first traces.
 fn put_lines<'a>(
-    out: &mut [u8],
+    page: &mut Page<'_>,
     log: &'a [u8],
     traces: usize,
     head: Head,
     relations: &'a Relations,
-) -> usize
-    requires { 0 + length (lines_text head relations.now log.now traces) ≤ length out.old }
-    ensures { Put out.old 0 (lines_text head relations.now log.now traces) out.new result }
+)
+    requires { Room page.old (lines_text head relations.now log.now traces) }
+    ensures { Wrote page.old (lines_text head relations.now log.now traces) page.new }
 {
-    // the conditions by source, as they are listed
     let conditions = tables::taken(relations, CONDITIONS);
-    let listed = rows::turned(&conditions);
-    let at = heading::put_heading(out, 0, head.events, traces, &listed, relations);
-    let end = relations::put_relations(out, at, &listed, relations);
-    replays::put_traces(out, end, log, traces, head, relations)
+    let by_source = rows::turned(&conditions);
+    let g = ListedGraph {
+        head,
+        relations,
+        by_source: &by_source,
+    };
+    heading::put_heading(page, &g, traces);
+    relations::put_relations(page, &g);
+    replays::put_traces(page, &g, log, traces);
 }
 
 // The lines of a graph and of all traces of a log that was mined, and so judged: its head has their number.
@@ -54,7 +61,9 @@ fn put_graph<'a>(out: &mut [u8], log: &'a [u8], head: Head, relations: &'a Relat
     ensures { Put out.old 0 (graph_text (graph_of head relations.now) log.now) out.new result }
 {
     let traces = calllog::trace::trace_count(log);
-    put_lines(out, log, traces, head, relations)
+    let mut page = Page::new(out);
+    put_lines(&mut page, log, traces, head, relations);
+    page.at
 }
 
 // Lists a log: reads it, mines it in the profile, replays it on its graph.

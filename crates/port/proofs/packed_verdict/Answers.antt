@@ -5,5 +5,5 @@ use Rattle.port.proofs.packed_verdict.Goals as goal
 pub returns-then-accepting-clause-value : goal.returns-then-accepting-clause-value
 returns-then-accepting-clause-value c = search (verdict-yes, rules)
 
-pub returns-clause-value : goal.returns-clause-value
-returns-clause-value c = search (verdict-no, rules)
+pub returns-else-accepting-clause-value : goal.returns-else-accepting-clause-value
+returns-else-accepting-clause-value c = search (verdict-no, rules)

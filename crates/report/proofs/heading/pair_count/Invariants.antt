@@ -8,8 +8,5 @@ use Rattle.report.specs.Pairs.{pairs_from, pair_count}
 use Rattle.report.proofs.heading.pair_count.Given as goal
 
 abbrev pub invariant-loop-a : goal.invariant-loop-a
-invariant-loop-a l = (l.a ≤ width) × (l.n ≤ width * width)
+invariant-loop-a l = (l.n ≤ width * width)
     × (l.n + length (pairs_from (in_row (table_at l.tables l.table)) (width - l.a) l.a) ≡ pair_count (in_row (table_at l.tables l.table)))
-
-abbrev pub decreases-loop-a : goal.decreases-loop-a
-decreases-loop-a l = width - l.a

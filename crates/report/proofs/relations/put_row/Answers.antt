@@ -1,16 +1,15 @@
-use Rattle.report.proofs.LineLaws.{members}
-use Rattle.sets.proofs.Passing.{fewer-left}
 use borrow.Author.Rules.{rules}
+use Rattle.report.proofs.LineLaws.{row-start, row_room, row-turn, row-end}
 use Rattle.report.proofs.relations.put_row.Goals as goal
 
-pub put_pair-next-requires : goal.put_pair-next-requires
-put_pair-next-requires c = search (members, rules)
+pub loop-t-init : goal.loop-t-init
+loop-t-init c = search (row-start, rules)
 
-pub loop-s-smaller : goal.loop-s-smaller
-loop-s-smaller c = search (fewer-left, rules)
+pub put_pair-requires : goal.put_pair-requires
+put_pair-requires c = row_room _ _ _ _ _ _ c.loop-t.invariant _ _ c.in-Some.ensures.steps c.requires
 
-pub loop-s-preserved : goal.loop-s-preserved
-loop-s-preserved c = search (members, rules)
+pub loop-t-preserved : goal.loop-t-preserved
+loop-t-preserved c = row-turn _ _ _ _ _ _ c.loop-t.invariant _ _ c.in-Some.ensures.steps _ c.put_pair.ensures
 
 pub returns : goal.returns
-returns c = search (members, rules)
+returns c = search (row-end, rules)

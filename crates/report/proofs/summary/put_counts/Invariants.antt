@@ -1,4 +1,3 @@
-use Prim.Native.Nat.{◌-◌, ◌≤◌}
 use Rattle.sets.specs.Rows.{in_row}
 use Rattle.sets.specs.Tables.{table_at}
 use Rattle.report.specs.Puts.{row_counts}
@@ -7,7 +6,4 @@ use Rattle.report.proofs.SummaryLaws.{counts_from}
 use Rattle.report.proofs.summary.put_counts.Given as goal
 
 abbrev pub invariant-loop-a : goal.invariant-loop-a
-invariant-loop-a l = (l.a ≤ l.most) × Left l.initial.out l.at (row_counts l.most l.tables l.table) l.out l.next (counts_from l.most (in_row (table_at l.tables l.table)) l.a)
-
-abbrev pub decreases-loop-a : goal.decreases-loop-a
-decreases-loop-a l = l.most - l.a
+invariant-loop-a l = Left l.initial.page (row_counts l.most l.tables l.table) l.page (counts_from l.most (in_row (table_at l.tables l.table)) l.a)
