@@ -26,6 +26,7 @@ fn reduced_row<const WIDE: bool>(rows: &Rows, source: Activity) -> Set
     let mut kept = Set::EMPTY;
     let mut targets = from;
     let mut middles = from.members();
+    // No loop over members(): a turn takes more than the least of the targets.
     'target: while !targets.is_empty() {
         let target = targets.least();
         'middle: while let Some(middle) = middles.next() {

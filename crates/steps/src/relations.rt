@@ -33,15 +33,6 @@ pub fn unbroken(events: Set, tables: &[u64], broken: u8) -> Rows
 
 // ---- steps 1, 3, 4 and 5: what excludes a target
 
-fn excludes_itself<'a>(tables: &'a [u64], before: u8, chains: &'a Rows, a: Activity) -> bool
-    ensures { result ≡ excludes_itself (table_at tables.now before) chains.now a.0 }
-{
-    if !tables::row(tables, before, a).has(a) {
-        return true;
-    }
-    !rows::row(chains, a).is_empty()
-}
-
 // Of the sources of one step's pairs the smallest. An empty set has the width as its least member, which no set can hold.
 fn smallest(sources: Set) -> Set
     ensures { result ≡ those (smallest (mem sources)) }
@@ -49,40 +40,55 @@ fn smallest(sources: Set) -> Set
     Set::one(sources.least())
 }
 
-// Step 4: what is never in a trace with the target.
-fn apart_row(events: Set, tables: &[u64], before: u8, later: u8, a: Activity) -> Set
-    ensures { result ≡ those (apart events (table_at tables.now before) (table_at tables.now later) a.0) }
-{
-    let together = tables::row(tables, before, a).union(tables::row(tables, later, a));
-    others(events, a).difference(together)
-}
-
-// Step 5: for a target that does not exclude itself, what comes after it and never before.
-fn closing_row(events: Set, itself: bool, tables: &[u64], before: u8, later: u8, a: Activity) -> Set
-    ensures { result ≡ those (closing events itself (table_at tables.now before) (table_at tables.now later) a.0) }
-{
-    if itself {
-        return Set::EMPTY;
-    }
-    let after = events.intersection(tables::row(tables, later, a));
-    after.difference(tables::row(tables, before, a))
-}
-
-fn excluders<'a>(
-    events: Set,
+// The tables that steps 1 to 5 ask: of what stands before an activity, and of what stands after it.
+#[derive(Clone, Copy)]
+struct Sides<'a> {
     tables: &'a [u64],
     before: u8,
     later: u8,
-    chains: &'a Rows,
-    a: Activity,
-) -> Set
-    ensures { result ≡ those (excluders events (table_at tables.now before) (table_at tables.now later)
-        chains.now a.0) }
-{
-    let itself = excludes_itself(tables, before, chains, a);
-    let four = smallest(apart_row(events, tables, before, later, a));
-    let five = smallest(closing_row(events, itself, tables, before, later, a));
-    Set::one_if(itself, a).union(four).union(five)
+}
+
+impl<'a> Sides<'a> {
+    fn excludes_itself(&self, chains: &Rows, a: Activity) -> bool
+        ensures { result ≡ excludes_itself (table_at self.now.tables.now self.now.before) chains.now a.0 }
+    {
+        if !tables::row(self.tables, self.before, a).has(a) {
+            return true;
+        }
+        !rows::row(chains, a).is_empty()
+    }
+
+    // Step 4: what is never in a trace with the target.
+    fn apart_row(&self, events: Set, a: Activity) -> Set
+        ensures { result ≡ those (apart events (table_at self.now.tables.now self.now.before)
+            (table_at self.now.tables.now self.now.later) a.0) }
+    {
+        let before = tables::row(self.tables, self.before, a);
+        let together = before.union(tables::row(self.tables, self.later, a));
+        others(events, a).difference(together)
+    }
+
+    // Step 5: for a target that does not exclude itself, what comes after it and never before.
+    fn closing_row(&self, events: Set, itself: bool, a: Activity) -> Set
+        ensures { result ≡ those (closing events itself (table_at self.now.tables.now self.now.before)
+            (table_at self.now.tables.now self.now.later) a.0) }
+    {
+        if itself {
+            return Set::EMPTY;
+        }
+        let after = events.intersection(tables::row(self.tables, self.later, a));
+        after.difference(tables::row(self.tables, self.before, a))
+    }
+
+    fn excluders(&self, events: Set, chains: &Rows, a: Activity) -> Set
+        ensures { result ≡ those (excluders events (table_at self.now.tables.now self.now.before)
+            (table_at self.now.tables.now self.now.later) chains.now a.0) }
+    {
+        let itself = self.excludes_itself(chains, a);
+        let four = smallest(self.apart_row(events, a));
+        let five = smallest(self.closing_row(events, itself, a));
+        Set::one_if(itself, a).union(four).union(five)
+    }
 }
 
 // Steps 1 to 5: for each target what excludes it. It may itself, and so does the smallest source of step 4's own pairs and of step 5's.
@@ -96,10 +102,12 @@ pub fn excluded_by<'a>(
     ensures { result ≡ rows_for events (excluders events (table_at tables.now before) (table_at tables.now later)
         chains.now) }
 {
-    rows_at(
-        events,
-        |a| excluders(events, tables, before, later, chains, a),
-    )
+    let sides = Sides {
+        tables,
+        before,
+        later,
+    };
+    rows_at(events, |a| sides.excluders(events, chains, a))
 }
 
 // ---- step 6

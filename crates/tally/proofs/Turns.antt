@@ -204,18 +204,6 @@ pub where-held : (x z y : List ℕ) (b : Bool) → (b ≡ true → x ≡ z) → 
 where-held x z y true h = h refl
 where-held x z y false h = refl
 
-pub all-reached : (e : ℕ) → reaches true e ≡ true
-unfolding reaches ◌or◌
-all-reached e = refl
-
-pub low-reached : (e : ℕ) → e < word → reaches false e ≡ true
-unfolding reaches ◌or◌
-low-reached e l = lt-ltb e word l
-
-pub high-unreached : (e : ℕ) → word ≤ e → reaches false e ≡ false
-unfolding reaches ◌or◌
-high-unreached e l = le-ltb e word l
-
 twice-held : (r p : Bool) → (r and (r and p)) ≡ (r and p)
 twice-held = by2 (λ r p. r and (r and p)) (λ r p. r and p) (unfold ◌and◌ ◌or◌ non in tt)
 
@@ -268,15 +256,6 @@ module _ (wide : Bool) (tables : List ℕ) (e : ℕ) where
         ap (λ (l : List ℕ). when reaches wide e then l else tables) (thrice-as tables later_table unanswered_table followed_table e _ _ _ _ _ _
         (λ x l. ap (λ (t : Bool). reaches wide x and t) (after-in x l) ∙ twice-held (reaches wide x) (rest has x))
         (λ x l. ap (λ (t : Bool). reaches wide x and non t) (after-in x l) ∙ not-held (reaches wide x) (rest has x)) (λ x l. ap (λ (t : Bool). reaches wide x and t) (next-in x l)))
-
--- the pass in the form that was asked for
-pub as-asked-cut : (wide form : Bool) (p : Fact) (rows rows' σ : List ℕ) → wide ≡ form → rows' ≡ forward (gains (cut form p)) rows [] σ
-    → rows' ≡ forward (gains (cut wide p)) rows [] σ
-as-asked-cut wide form p rows rows' σ h e = e ∙ ap (λ (b : Bool). forward (gains (cut b p)) rows [] σ) (sym h)
-
-pub as-asked : (wide form : Bool) (p : Fact) (rows rows' σ : List ℕ) → wide ≡ form → rows' ≡ forward (gains_in form p) rows [] σ
-    → rows' ≡ forward (gains_in wide p) rows [] σ
-as-asked wide form p rows rows' σ h e = e ∙ ap (λ (b : Bool). forward (gains_in b p) rows [] σ) (sym h)
 
 -- the forward loop: before the first turn, one turn further, after the last
 module _ (turn : Turn) (σ all : List ℕ) where

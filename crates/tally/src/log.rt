@@ -13,6 +13,9 @@ use crate::passes;
 use sets::Set;
 use sets::rows::WORDS;
 
+// The numbers of the tables. They are no enum: the steps and sets::tables take the number of any table, so an enum would be cast at each use
+// and matched at none.
+
 // Row t: what stands before some t.
 pub const BEFORE: u8 = 0;
 // Row s: what stands after some s.

@@ -2,7 +2,7 @@ use mathlib.Core.Path.{refl}
 use Rattle.sets.specs.Tests.{◌and◌}
 use Rattle.sets.proofs.MadeSets.{joined, less, is-those, is_row, unless-true, unless-false}
 use Rattle.steps.specs.Rowwise.{closing}
-use Rattle.steps.proofs.relations.closing_row.Goals as goal
+use Rattle.steps.proofs.relations.Sides.closing_row.Goals as goal
 
 pub returns-then-itself : goal.returns-then-itself
 unfolding closing

@@ -1,6 +1,6 @@
 use borrow.Author.Rules.{rules}
 use Rattle.steps.proofs.Sources.{never-again, only-after}
-use Rattle.steps.proofs.relations.excludes_itself.Goals as goal
+use Rattle.steps.proofs.relations.Sides.excludes_itself.Goals as goal
 
 pub returns-then-not-has : goal.returns-then-not-has
 returns-then-not-has c = search (never-again, rules)
