@@ -44,9 +44,8 @@ impl Pairs {
         if k % 4 != 0 {
             return false;
         }
-        let open = self
-            .to
-            .intersection(relations::union_of(doubts, 0, self.from));
+        let Pairs { from, to } = self;
+        let open = to.intersection(relations::union_of(doubts, 0, from));
         open.is_empty()
     }
 
@@ -179,9 +178,8 @@ impl<'a> Sources<'a> {
             (table_at self.now.held.now 3) (traces_of self.now.traces.now) u.0) left.new }
     {
         let from = rows::row(followers, u);
-        let to = self
-            .shut_out(u)
-            .intersection(relations::union_of(left, 0, from));
+        let shut = self.shut_out(u);
+        let to = shut.intersection(relations::union_of(left, 0, from));
         if !to.is_empty() {
             self.settle(u, Pairs { from, to }, left);
         }
