@@ -8,8 +8,8 @@ ghost use Rattle.marks.specs.Marks.{is_yes, judged_marks, marks_of, judged_guess
 ghost use Rattle.marks.specs.Replays.{part_replay};
 
 use crate::counts::Counts;
-use crate::replays::Replaying;
 use crate::labels;
+use crate::replays::Replaying;
 use calllog::MOST_TRACES;
 use engine::{Head, Relations};
 use sets::Answer;

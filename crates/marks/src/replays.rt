@@ -59,7 +59,12 @@ impl Replaying<'_> {
         ensures { result ≡ walked_of (part_replay self.now.head self.now.relations.now self.now.log.now k) }
     {
         let trace = calllog::trace::trace_at(self.log, k);
-        replay::walk(self.head.events, self.relations, self.head.opening.state, trace)
+        replay::walk(
+            self.head.events,
+            self.relations,
+            self.head.opening.state,
+            trace,
+        )
     }
 
     // The verdict on part k.
