@@ -6,7 +6,7 @@ use Prim.Native.Nat.{ℕ, zero, suc, ◌+◌, ◌≤◌, ◌<◌}
 use native.Mathlib.Nat.{zero-add, add-suc, suc-add}
 use native.Mathlib.Numerals.{add-one}
 use native.Mathlib.Omega.{arith}
-use lib.ListN.{length, get_or, drop, set, length-set}
+use lib.ListN.{length, get_or, drop, set}
 use lib.Seq.{drop-cons, set_at, append_snoc}
 use Rattle.sets.specs.Tests.{◌and◌, when◌then◌else◌}
 use Rattle.sets.specs.Rows.{list_from}

@@ -8,8 +8,8 @@ ghost use Rattle.marks.specs.Marks.{is_yes, judged_marks, marks_of, judged_guess
 ghost use Rattle.marks.specs.Replays.{part_replay};
 
 use crate::counts::Counts;
+use crate::labels;
 use crate::replays::Replaying;
-use crate::{labels, replays};
 use calllog::MOST_TRACES;
 use engine::{Head, Relations};
 use sets::Answer;
@@ -54,12 +54,12 @@ fn count_guesses<'a>(guesses: &'a [u8], labels: &'a [u8]) -> Counts
 
 // The refusals of the log, of the graph, then of the labels.
 #[tactic(auto, using(crate::proofs::Asking::judging))]
-fn judge_marks<'a>(head: Head, relations: &'a Relations, log: &'a [u8], labels: &'a [u8]) -> Answer
-    ensures { result ≡ judged_marks (graph_of head relations.now) log.now labels.now }
+fn judge_marks(replaying: &Replaying, labels: &[u8]) -> Answer
+    ensures { result ≡ judged_marks (graph_of replaying.now.head replaying.now.relations.now) replaying.now.log.now labels.now }
 {
-    let judged = calllog::judge::judge_log(log);
+    let judged = calllog::judge::judge_log(replaying.log);
     let first = judged.answer;
-    let answer = replays::judge_after(first, head, relations);
+    let answer = replaying.judge_after(first);
     if !answer.is_done() {
         return answer;
     }
@@ -71,18 +71,18 @@ fn judge_marks<'a>(head: Head, relations: &'a Relations, log: &'a [u8], labels: 
 pub fn mark<'a>(head: Head, relations: &'a Relations, log: &'a [u8], labels: &'a [u8]) -> Marked
     ensures { result ≡ marks_of (graph_of head relations.now) log.now labels.now }
 {
-    let answer = judge_marks(head, relations, log, labels);
+    let replaying = Replaying {
+        head,
+        relations,
+        log,
+    };
+    let answer = judge_marks(&replaying, labels);
     if !answer.is_done() {
         return Marked {
             answer,
             counts: Counts::NONE,
         };
     }
-    let replaying = Replaying {
-        head,
-        relations,
-        log,
-    };
     Marked {
         answer,
         counts: count_verdicts(&replaying, labels),

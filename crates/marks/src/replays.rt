@@ -23,16 +23,6 @@ pub struct Replays {
     pub traces: usize,
 }
 
-// What was answered before, then the graph's refusals.
-pub(crate) fn judge_after(first: Answer, head: Head, relations: &Relations) -> Answer
-    ensures { result ≡ then_ask first (judged (graph_of head relations.now)) }
-{
-    if !first.is_done() {
-        return first;
-    }
-    engine::judge::judge_for(head, relations, 0)
-}
-
 // Yes where it is done and accepting.
 #[tactic(auto, using(crate::proofs::Replaying::judging_one))]
 fn is_yes(r: Walked) -> bool
@@ -45,7 +35,7 @@ fn is_yes(r: Walked) -> bool
     r.accepting
 }
 
-// A log and the graph to replay it on. The caller has judged both.
+// A log and the graph to replay it on. A replay asks that both were judged.
 #[derive(Clone, Copy)]
 pub(crate) struct Replaying<'a> {
     pub head: Head,
@@ -54,12 +44,27 @@ pub(crate) struct Replaying<'a> {
 }
 
 impl Replaying<'_> {
+    // What was answered before, then the graph's refusals.
+    pub fn judge_after(&self, first: Answer) -> Answer
+        ensures { result ≡ then_ask first (judged (graph_of self.now.head self.now.relations.now)) }
+    {
+        if !first.is_done() {
+            return first;
+        }
+        engine::judge::judge_for(self.head, self.relations, 0)
+    }
+
     // Where the replay of part k of the log ends.
     fn ended(&self, k: usize) -> Walked
         ensures { result ≡ walked_of (part_replay self.now.head self.now.relations.now self.now.log.now k) }
     {
         let trace = calllog::trace::trace_at(self.log, k);
-        replay::walk(self.head.events, self.relations, self.head.opening.state, trace)
+        replay::walk(
+            self.head.events,
+            self.relations,
+            self.head.opening.state,
+            trace,
+        )
     }
 
     // The verdict on part k.
@@ -106,9 +111,14 @@ pub fn write_replays<'a, 'w>(
     ensures value { result ≡ replays_of (graph_of head relations.now) log.now (length out.old) }
     ensures out_after { out.new ≡ replays_after (graph_of head relations.now) log.now out.old }
 {
+    let replaying = Replaying {
+        head,
+        relations,
+        log,
+    };
     let judged = calllog::judge::judge_log(log);
     let first = judged.answer;
-    let answer = judge_after(first, head, relations);
+    let answer = replaying.judge_after(first);
     if !answer.is_done() {
         return Replays { answer, traces: 0 };
     }
@@ -119,11 +129,6 @@ pub fn write_replays<'a, 'w>(
             traces: 0,
         };
     }
-    let replaying = Replaying {
-        head,
-        relations,
-        log,
-    };
     replaying.put(&mut out[..traces]);
     Replays { answer, traces }
 }

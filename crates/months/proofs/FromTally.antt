@@ -9,7 +9,7 @@ use lib.Dec.{eqb, ltb, lt→ltb, ltb→lt}
 use lib.ListN.{get_or}
 use Rattle.sets.specs.Tests.{◌and◌, ◌or◌, non, when◌then◌else◌}
 use Rattle.sets.specs.Members.{width, mem, those, no_set, some_below, is_empty, Takes}
-use Rattle.sets.specs.Rows.{Relation, row_words, no_rows, row_at, with_row, in_row, rows_of, rows_for, turned}
+use Rattle.sets.specs.Rows.{Relation, row_words, no_rows, row_at, with_row, in_row, rows_of, rows_for}
 use Rattle.sets.specs.Tables.{no_tables, table_at, with_table, tables_of}
 use Rattle.sets.specs.declared.set.Set.{Set}
 use Rattle.sets.proofs.Tests.{T-ext, true-and, false-and, or-true, or-false}
@@ -23,12 +23,11 @@ use Rattle.octets.specs.Sets.{set_length}
 use Rattle.octets.proofs.Codec.{Bytes}
 use Rattle.octets.proofs.SetLaws.{set-whole}
 use Rattle.rules.specs.declared.Profile.{Profile}
-use Rattle.rules.specs.declared.Profile.TheVariants.{Full, Light}
-use Rattle.steps.specs.Rowwise.{unbroken, absent, excluders, in_either, reduced_of}
-use Rattle.tally.specs.Tallies.{table_count, before_table, later_table, unchained_table, unalternated_table, followed_table}
-use Rattle.miner.specs.Stages.{conditions_of, responses_of, chains_of, excludes_six, four_tables}
+use Rattle.steps.specs.Rowwise.{reduced_of}
+use Rattle.tally.specs.Tallies.{table_count}
+use Rattle.miner.specs.Stages.{conditions_of, responses_of, excludes_six, four_tables}
 use Rattle.months.specs.Layout.{tally_width, row_set, pair_set, set_in}
-use Rattle.months.specs.Readings.{between_in, unfollowing, includers, includes_in, redundant_by, excluded, excludes_from}
+use Rattle.months.specs.Readings.{between_in, includers, includes_in, redundant_by, excluded, excludes_from}
 use Rattle.months.specs.Readings.{relations_from}
 
 -- a set of the code's bytes is one of the code's sets

@@ -1,16 +1,14 @@
 -- The pass over a trace: one pair that gains, all pairs of a place, one place further, one trace further. Assumes nothing.
-use mathlib.Core.Path.{◌≡◌, refl, sym, ap, ◌∙◌, subst}
+use mathlib.Core.Path.{◌≡◌, refl, sym, ap, ◌∙◌}
 use mathlib.Core.Bool.{Bool, true, false}
 use mathlib.Core.List.{List}
 use Prim.Native.Nat.{ℕ, zero, suc, ◌+◌, ◌*◌, ◌≤◌, ◌<◌}
 use native.Mathlib.Nat.{add-zero, add-suc, suc-add, zero-add}
 use native.Mathlib.Numerals.{add-one}
-use native.Mathlib.Omega.{arith}
 use borrow.Author.Tests.{lt-ltb, le-ltb, ltb-true}
 use lib.Dec.{eqb, ltb}
 use lib.ListN.{length}
 use Rattle.sets.specs.Tests.{◌and◌, ◌or◌}
-use Rattle.sets.specs.Members.{mem, those}
 use Rattle.sets.specs.declared.set.Set.{Set}
 use Rattle.sets.proofs.Tests.{true→T, and_l, T→true, or-false, or_assoc, false-or, true-and, false-and}
 use Rattle.octets.specs.Sets.{set_length, set_at, set_put}
@@ -19,7 +17,7 @@ use Rattle.rules.specs.Traces.{◌has◌, at_some, some_trace}
 use Rattle.rules.specs.Mining.{between}
 use Rattle.tally.specs.Passes.{walked}
 use Rattle.calllog.specs.Logs.{part_at}
-use Rattle.months.specs.Layout.{tally_width, pair_set, set_in}
+use Rattle.months.specs.Layout.{tally_width, set_in}
 use Rattle.months.specs.Pairs.{Pairs, Gained}
 use Rattle.months.proofs.Packed.{packed-ext}
 

@@ -7,7 +7,7 @@ use Prim.Native.Nat.{ℕ, zero, suc, ◌-◌, ◌*◌, ◌/◌, ◌%◌, ◌≤�
 use native.Mathlib.Omega.{arith}
 use borrow.Author.Tests.{lt-ltb, le-ltb, ltb-true, ltb-false}
 use lib.Dec.{ltb}
-use lib.ListN.{length, set, drop, length-append, length-set, length-drop}
+use lib.ListN.{length, set, length-set}
 use lib.Seq.{get_or-set_same, set-append_left}
 use Rattle.sets.specs.Tests.{◌and◌, ◌or◌}
 use Rattle.sets.specs.Members.{those}

@@ -12,24 +12,22 @@ use sets::{Activity, Answer, Set, tables};
 use tally::{Tally, log};
 
 // Set w before any trace is asked for its pairs: the events, the rows of the tables, and else the empty set.
+#[tactic(auto, using(crate::proofs::Initial::initials))]
 fn initial(events: Set, tables: &Tally, w: usize) -> Set
     ensures { result ≡ initial_of events tables.now w }
 {
-    if w < layout::EVENTS {
-        return Set::EMPTY;
+    match w {
+        layout::EVENTS => events,
+        layout::FIRST_ROW..layout::ROWS_END => {
+            let i = w - layout::FIRST_ROW;
+            tables::row(
+                tables,
+                (i / layout::WIDTH) as u8,
+                Activity((i % layout::WIDTH) as u8),
+            )
+        }
+        _ => Set::EMPTY,
     }
-    if w < layout::FIRST_ROW {
-        return events;
-    }
-    if layout::ROWS_END <= w {
-        return Set::EMPTY;
-    }
-    let i = w - layout::FIRST_ROW;
-    tables::row(
-        tables,
-        (i / layout::WIDTH) as u8,
-        Activity((i % layout::WIDTH) as u8),
-    )
 }
 
 // All sets, so that nothing is left of what the bytes held.

@@ -85,6 +85,7 @@ impl Reading<'_> {
     }
 
     // By target what includes it. Row t of `never` has what t never directly follows.
+    // A loop of its own: `rows_at` of steps asks something of its caller, so it can't be public.
     fn includers(&self, chains: &Rows, never: &Rows) -> Rows
         ensures { result ≡ rows_for self.now.events (includers self.now.events chains.now never.now (between_in self.now.tally.now)) }
     {

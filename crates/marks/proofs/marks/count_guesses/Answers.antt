@@ -16,21 +16,21 @@ loop-guess-init c = search (counting, rules)
 pub with-counts-requires : goal.with-counts-requires
 with-counts-requires c =
     let at = zip_turn c.args.guesses.now c.args.labels.now c.loop-guess.yielded c.into_iter-guess-iterator.result _ c.next.new.self _ (cc) (cc)
-        c.loop-guess.yielded_by _ c.in-Some.is c.next.ensures.steps in
+    c.loop-guess.yielded_by _ c.in-Some.is c.next.ensures.steps in
     few (says_yes c.args.guesses.now) (says_yes c.args.labels.now) (length c.loop-guess.yielded) c.loop-guess.counts c.loop-guess.invariant
-        (length c.args.labels.now) at.1 c.requires.labels_len_bound
+    (length c.args.labels.now) at.1 c.requires.labels_len_bound
 
 pub loop-guess-preserved : goal.loop-guess-preserved
 loop-guess-preserved c =
     let at = zip_turn c.args.guesses.now c.args.labels.now c.loop-guess.yielded c.into_iter-guess-iterator.result _ c.next.new.self _ (cc) (cc)
-        c.loop-guess.yielded_by _ c.in-Some.is c.next.ensures.steps in
+    c.loop-guess.yielded_by _ c.in-Some.is c.next.ensures.steps in
     count-yielded c.loop-guess.yielded _ (says_yes c.args.guesses.now) (says_yes c.args.labels.now) c.loop-guess.counts _
-        (eqb c.in-Some.field-0-0.now 1) c.loop-guess.invariant (ap (λ (n : ℕ). eqb n 1) (at.2 0))
-        (c.with-counts.ensures ∙ ap (λ (n : ℕ). counted_of c.loop-guess.counts (eqb c.in-Some.field-0-0.now 1) (eqb n 1)) (at.3 0))
+    (eqb c.in-Some.field-0-0.now 1) c.loop-guess.invariant (ap (λ (n : ℕ). eqb n 1) (at.2 0))
+    (c.with-counts.ensures ∙ ap (λ (n : ℕ). counted_of c.loop-guess.counts (eqb c.in-Some.field-0-0.now 1) (eqb n 1)) (at.3 0))
 
 pub returns : goal.returns
 returns c =
     let end = zip_end c.args.guesses.now c.args.labels.now c.loop-guess.yielded c.into_iter-guess-iterator.result _ c.next.new.self _ (cc) (cc)
-        c.loop-guess.yielded_by c.in-None.is c.next.ensures.steps in
+    c.loop-guess.yielded_by c.in-None.is c.next.ensures.steps in
     let all : length c.loop-guess.yielded ≡ length c.args.labels.now = omega (arith, end, c.requires.guesses_len) in
     c.loop-guess.invariant ∙ ap (λ (n : ℕ). counts_of n (says_yes c.args.guesses.now) (says_yes c.args.labels.now)) all

@@ -1,5 +1,4 @@
 use mathlib.Core.Path.{◌≡◌}
-use lib.ListN.{length}
 use Rattle.marks.specs.Replays.{replay_byte, part_replay}
 use Rattle.marks.proofs.Replaying.{bytes_put}
 use Rattle.marks.proofs.replays.Replaying.put.Given as goal
