@@ -82,6 +82,7 @@ impl Search<'_> {
             return step::is_accepting(s).then_some(Way::NONE);
         }
         let live = settle::candidates(self.events, self.settlers, s, left);
+        // Not a `for` over these: that no other step is tried only `open_from` states, which the wrong version any_included_is_tried leans on.
         let mut open = self.open_from(live, s, 0);
         while let Some(a) = open {
             if let Some(rest) = self.first_way(step::next(self.relations, s, a), left - 1) {
