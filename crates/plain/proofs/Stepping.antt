@@ -14,7 +14,6 @@ use Rattle.sets.specs.Tests.{◌and◌, ◌or◌, non, when◌then◌else◌}
 use Rattle.sets.specs.Members.{width, mem, those, some_below, least_below}
 use Rattle.sets.specs.declared.activity.Activity.{Activity}
 use Rattle.sets.specs.declared.set.Set.{Set}
-use Rattle.sets.specs.declared.answer.Answer.{Answer}
 use Rattle.sets.specs.declared.answer.Answer.TheVariants.{Waiting}
 use Rattle.sets.proofs.Tests.{and_l, and_r, and_i, T-ext, T→true, F→false, eqb_of, split}
 use Rattle.sets.proofs.Ways.{taken, passed-by}
