@@ -96,7 +96,12 @@ fn the_steps(rt: &impl Print, g: &Graph<'_>) -> io::Result<()> {
     a_step(rt, "step 0", g, handed(all, both))?;
     a_step(rt, "step 0 at a marking outside", g, handed(outside, both))?;
     a_step(rt, "step 0 with 2 enabled", g, handed(all, all))?;
-    a_step(rt, "step 0 with 1 not enabled", g, handed(all, Set::below(1)))?;
+    a_step(
+        rt,
+        "step 0 with 1 not enabled",
+        g,
+        handed(all, Set::below(1)),
+    )?;
     a_step(rt, "step 0 with 3 enabled", g, handed(all, far))?;
     a_step(rt, "step 0 outside, 2 enabled", g, handed(outside, all))
 }

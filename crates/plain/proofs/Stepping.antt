@@ -14,9 +14,9 @@ use Rattle.sets.specs.Tests.{◌and◌, ◌or◌, non, when◌then◌else◌}
 use Rattle.sets.specs.Members.{width, mem, those, some_below, least_below}
 use Rattle.sets.specs.declared.activity.Activity.{Activity}
 use Rattle.sets.specs.declared.set.Set.{Set}
-use Rattle.sets.specs.declared.answer.Answer.{Answer}
 use Rattle.sets.specs.declared.answer.Answer.TheVariants.{Waiting}
 use Rattle.sets.proofs.Tests.{and_l, and_r, and_i, T-ext, T→true, F→false, eqb_of, split}
+use Rattle.sets.proofs.Ways.{taken, passed-by}
 use Rattle.sets.proofs.Below.{some-e, least-only, some-least, some-last}
 use Rattle.sets.proofs.Members.{Fits, is-those, those-ext, those-of}
 use Rattle.engine.specs.declared.marking.State.{State}
@@ -136,9 +136,15 @@ module _ (r : Relations) (m : State) (e : ℕ) (b : Activity) (h : b.0 ≡ least
   unfolding waits
   waits-not l = sym (some-least width (blocking r m e) ∙ ap (λ (n : ℕ). ltb n width) (sym h) ∙ le-ltb b.0 width l)
 
-  pub blocker-is : Waiting b ≡ Waiting (blocker r m e)
+  blocker-is : Waiting b ≡ Waiting (blocker r m e)
   unfolding blocker
   blocker-is i = Waiting (record { 0 = h i })
+
+pub waiting-for : (events : Set) (r : Relations) (m : State) (e : ℕ) (b : Activity) → false ≡ non (mem events e)
+    → false ≡ non (mem m.included e) → true ≡ waits r m e → b.0 ≡ least_below width (blocking r m e) → Waiting b ≡ enabled events r m e
+unfolding enabled
+waiting-for events r m e b event included waiting least =
+    passed-by _ _ _ _ event (passed-by _ _ _ _ included (taken _ _ _ _ waiting (blocker-is r m e b least)))
 
 -- ---- a set that gains or loses members, one pair after another: both are an operation f that takes a test to what it was unless some pair
 -- changes it

@@ -19,30 +19,6 @@ pub struct Filled {
 // Source and target of the pairs to ask for, rising by source, then target, are counted through in one number: k / WIDTH and k % WIDTH.
 const QUESTIONS: usize = WIDTH * WIDTH;
 
-// Whether the relation has the pair of number k. Conditions are kept by their target (01, "Graph").
-fn has_pair(relations: &Relations, kind: u8, k: usize) -> bool
-    requires { k < questions }
-    ensures { result ≡ is_pair (relation_at relations.now kind) k }
-{
-    let s = Activity((k / WIDTH) as u8);
-    let t = Activity((k % WIDTH) as u8);
-    if kind == CONDITIONS {
-        return tables::row(relations, kind, t).has(s);
-    }
-    tables::row(relations, kind, s).has(t)
-}
-
-// How many pairs the relation has.
-fn count(relations: &Relations, kind: u8) -> usize
-    ensures { result ≡ length (pairs_of (relation_at relations.now kind)) }
-{
-    let mut n: usize = 0;
-    for k in 0..QUESTIONS {
-        n += usize::from(has_pair(relations, kind, k));
-    }
-    n
-}
-
 // Stores the pair of number k at place n, if it is wanted, and gives the place after it.
 fn put_pair(memory: &mut [u16], n: usize, k: usize, wanted: bool) -> usize
     requires { (k < questions) × (n + digit wanted ≤ length memory.old) }
@@ -56,15 +32,48 @@ fn put_pair(memory: &mut [u16], n: usize, k: usize, wanted: bool) -> usize
     n + 1
 }
 
-// Stores all pairs of the relation.
-fn put_pairs(relations: &Relations, kind: u8, memory: &mut [u16])
-    requires { length (pairs_of (relation_at relations.now kind)) ≤ length memory.old }
-    ensures { memory.new ≡ put_down (pairs_of (relation_at relations.now kind)) memory.old }
-{
-    let mut n: usize = 0;
-    for k in 0..QUESTIONS {
-        let wanted = has_pair(relations, kind, k);
-        n = put_pair(memory, n, k, wanted);
+// One relation of a graph on sets, by its number.
+#[derive(Clone, Copy)]
+struct Relation<'a> {
+    relations: &'a Relations,
+    kind: u8,
+}
+
+impl Relation<'_> {
+    // Whether the relation has the pair of number k. Conditions are kept by their target (01, "Graph").
+    fn has_pair(&self, k: usize) -> bool
+        requires { k < questions }
+        ensures { result ≡ is_pair (relation_at self.now.relations.now self.now.kind) k }
+    {
+        let s = Activity((k / WIDTH) as u8);
+        let t = Activity((k % WIDTH) as u8);
+        let relations = self.relations;
+        if self.kind == CONDITIONS {
+            return tables::row(relations, self.kind, t).has(s);
+        }
+        tables::row(relations, self.kind, s).has(t)
+    }
+
+    // How many pairs the relation has.
+    fn count(&self) -> usize
+        ensures { result ≡ length (pairs_of (relation_at self.now.relations.now self.now.kind)) }
+    {
+        let mut n: usize = 0;
+        for k in 0..QUESTIONS {
+            n += usize::from(self.has_pair(k));
+        }
+        n
+    }
+
+    // Stores all pairs of the relation.
+    fn put_pairs(&self, memory: &mut [u16])
+        requires { length (pairs_of (relation_at self.now.relations.now self.now.kind)) ≤ length memory.old }
+        ensures { memory.new ≡ put_down (pairs_of (relation_at self.now.relations.now self.now.kind)) memory.old }
+    {
+        let mut n: usize = 0;
+        for k in 0..QUESTIONS {
+            n = put_pair(memory, n, k, self.has_pair(k));
+        }
     }
 }
 
@@ -74,14 +83,15 @@ pub fn fill(relations: &Relations, kind: u8, memory: &mut [u16]) -> Filled
     ensures value { result ≡ filled_of (relation_at relations.now kind) memory.old }
     ensures memory_after { memory.new ≡ memory_after (relation_at relations.now kind) memory.old }
 {
-    let pairs = count(relations, kind);
+    let relation = Relation { relations, kind };
+    let pairs = relation.count();
     if memory.len() < pairs {
         return Filled {
             answer: Answer::BufferTooSmall,
             pairs: 0,
         };
     }
-    put_pairs(relations, kind, memory);
+    relation.put_pairs(memory);
     Filled {
         answer: Answer::Done,
         pairs,

@@ -44,10 +44,7 @@ impl Graph<'_> {
         ensures { result ≡ lists_fit self.now.conditions.now self.now.responses.now
             self.now.includes.now self.now.excludes.now }
     {
-        fits(self.conditions)
-            && fits(self.responses)
-            && fits(self.includes)
-            && fits(self.excludes)
+        fits(self.conditions) && fits(self.responses) && fits(self.includes) && fits(self.excludes)
     }
 
     // Whether the pairs of all four are within the events.

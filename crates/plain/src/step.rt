@@ -1,10 +1,10 @@
 // Enabled, the step and accepting (01, "A step"), each rule as a walk through a list of pairs.
-ghost use Rattle.std.specs.Prelude.{◌≡◌, [], eqb, ltb};
+ghost use Rattle.std.specs.Prelude.{◌≡◌, MatchOption, false, true, eqb, ltb};
 ghost use Rattle.sets.specs.Tests.{◌and◌, ◌or◌, non, when◌then◌else◌};
 ghost use Rattle.sets.specs.Members.{width, mem, those, least_below};
 ghost use Rattle.engine.specs.Steps as rules;
 ghost use Rattle.plain.specs.Pairs.{pair_of, source_of, target_of, in_pairs, blocks};
-ghost use Rattle.plain.specs.Graphs.{plain_held, plain_relations, in_lists};
+ghost use Rattle.plain.specs.Graphs.{plain_held, plain_relations};
 ghost use Rattle.plain.specs.Results.{plain_enabled_of, plain_stepped_of, plain_accepting_of};
 
 use crate::graph::Graph;
@@ -43,14 +43,20 @@ fn smaller(least: Activity, pair: u16, s: State, a: Activity) -> Activity
 
 // The smallest source that keeps the activity waiting. The walk begins with a number above every activity's, and ends with it where
 // no condition is blocking.
-fn blocker(conditions: &[u16], s: State, a: Activity) -> Activity
-    ensures { result.0 ≡ least_below width (rules.blocking (in_lists conditions.now [] [] []) s a.0) }
+fn blocker(g: &Graph<'_>, s: State, a: Activity) -> Option<Activity>
+    ensures { MatchOption result (false ≡ rules.waits (plain_relations (plain_held g.now)) s a.0)
+        (λ b. (true ≡ rules.waits (plain_relations (plain_held g.now)) s a.0)
+        × (b.0 ≡ least_below width (rules.blocking (plain_relations (plain_held g.now)) s a.0))) }
 {
     let mut least = Activity(Activity::LIMIT);
-    for &pair in conditions {
+    for &pair in g.conditions {
         least = smaller(least, pair, s, a);
     }
-    least
+    if least.0 < Activity::LIMIT {
+        Some(least)
+    } else {
+        None
+    }
 }
 
 // Rules 8, 9, 10.
@@ -63,11 +69,10 @@ pub(crate) fn ask(g: &Graph<'_>, s: State, a: Activity) -> Answer
     if !s.included.has(a) {
         return Answer::NotIncluded;
     }
-    let least = blocker(g.conditions, s, a);
-    if least.0 < Activity::LIMIT {
-        return Answer::Waiting(least);
+    match blocker(g, s, a) {
+        Some(least) => Answer::Waiting(least),
+        None => Answer::Done,
     }
-    Answer::Done
 }
 
 // The set, with the pair's target where its source is the activity.
