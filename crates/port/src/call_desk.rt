@@ -5,7 +5,7 @@ ghost use Rattle.std.specs.Prelude.{◌≡◌};
 ghost use Rattle.port.specs.Desk.{desk_open_number, desk_open_table, desk_step_number, desk_step_table};
 ghost use Rattle.port.specs.Desk.{desk_close_number, desk_close_table};
 
-use crate::{NO_RELATIONS, lent, packed, packed_blocker};
+use crate::{EMPTY_RELATIONS, lent, packed, packed_blocker};
 use sets::{Activity, Answer};
 
 // Opens the lowest free place: the number and the place; 255 where it is refused.
@@ -23,8 +23,7 @@ pub fn skelfora_desk_open(file: &[u8], table: &mut [u8]) -> u64
     }
     let head = r.graph.head;
     let opened = desk::open(head, &r.graph.relations, table);
-    let a = opened.answer;
-    packed(a, opened.place)
+    packed(opened.answer, opened.place)
 }
 
 // One activity at one place: the number, and the blocker.
@@ -37,7 +36,7 @@ pub fn skelfora_desk_step(file: &[u8], table: &mut [u8], place: usize, activity:
     if !asked.is_done() {
         return packed_blocker(asked, 0, false);
     }
-    let mut relations = NO_RELATIONS;
+    let mut relations = EMPTY_RELATIONS;
     let r = graphfile::read_bare(file, &mut relations);
     let answer = r.answer;
     if !answer.is_done() {
@@ -57,7 +56,7 @@ pub fn skelfora_desk_close(file: &[u8], table: &mut [u8], place: usize) -> u64
     if !asked.is_done() {
         return packed(asked, 0);
     }
-    let mut relations = NO_RELATIONS;
+    let mut relations = EMPTY_RELATIONS;
     let r = graphfile::read_bare(file, &mut relations);
     let answer = r.answer;
     if !answer.is_done() {

@@ -1,5 +1,5 @@
 // What a caller lends, and how many bytes it has: by the edition of the file that goes with it, or by the A of the head where there is no
-// file (02, 10/12). So for A up to 64 they are those of before.
+// file (02, 10/12). So for A up to 64 they are those of before. Each function here is one call, and says whose bytes tell the form.
 ghost use Rattle.std.specs.Prelude.{◌≡◌};
 ghost use Rattle.octets.specs.Editions.{wide_in};
 ghost use Rattle.graphfile.specs.Heads.{lone_head_length, wide_head};

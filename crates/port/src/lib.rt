@@ -36,15 +36,14 @@ const ACCEPTING: u64 = 1 << 32;
 const BLOCKER: u64 = 1 << 40;
 
 // What a file's relations are read into.
-pub(crate) const NO_RELATIONS: Relations = [0; KINDS as usize * WORDS];
+pub(crate) const EMPTY_RELATIONS: Relations = [0; KINDS as usize * WORDS];
 
 // The number, and a length or place above it: 256 times. No length or place here reaches the 24 bits that it has.
 pub(crate) fn packed(answer: Answer, n: usize) -> u64
     ensures value { result ≡ packed_of answer n }
     ensures upper_bound { result < 2 ^ 32 }
 {
-    let low = answer.number() as u64;
-    low + PLACE * (n % PLACES) as u64
+    answer.number() as u64 + PLACE * (n % PLACES) as u64
 }
 
 // The same, and 2^32 where accepting.
@@ -64,7 +63,8 @@ pub(crate) fn packed_blocker(answer: Answer, n: usize, accepting: bool) -> u64
     low + BLOCKER * answer.blocker() as u64
 }
 
-// The marking after a step into the lent bytes, where it was done; its number and blocker.
+// The marking after a step into the lent bytes, where it was done; its number and blocker. The form is a parameter like any other: it is
+// known from a file only, and nothing is gone through here.
 pub(crate) fn store(s: Stepped, marking: &mut [u8], wide: bool) -> u64
     ensures value { result ≡ step_number s }
     ensures marking_after { marking.new ≡ stored_of wide s marking.old }
@@ -88,11 +88,10 @@ fn put(answer: Answer, head: Head, relations: &Relations, out: &mut [u8]) -> u64
         return packed(answer, 0);
     }
     let w = graphfile::write_unjudged(head, relations, out);
-    let a = w.answer;
-    packed(a, w.length)
+    packed(w.answer, w.length)
 }
 
-// The profile that a number asks for: none but for 0 and 1.
+// The profile that a number asks for: none but for 0 and 1. No TryFrom, since the numbers are C's and the type's own crate has none.
 pub(crate) fn profile_of(n: u8) -> Option<Profile>
     ensures { MatchOption result (1 < n) (λ p. (n ≤ 1) × (p ≡ profile_of n)) }
 {
@@ -108,7 +107,7 @@ fn mine(log: &[u8], profile: Profile, file: &mut [u8]) -> u64
     ensures value { result ≡ mine_number log.now (length file.old) profile }
     ensures file_after { file.new ≡ mine_buffer log.now profile file.old }
 {
-    let mut relations = NO_RELATIONS;
+    let mut relations = EMPTY_RELATIONS;
     let m = miner::mine_into(log, profile, &mut relations);
     let answer = m.answer;
     put(answer, m.head, &relations, file)
@@ -131,8 +130,7 @@ fn list(log: &[u8], profile: Profile, out: &mut [u8]) -> u64
     ensures out_after { out.new ≡ listing_after log.now profile out.old }
 {
     let listed = report::write_listing(log, profile, out);
-    let answer = listed.answer;
-    packed(answer, listed.length)
+    packed(listed.answer, listed.length)
 }
 
 // The same for a profile by its number.
@@ -154,8 +152,7 @@ pub fn skelfora_summary(log: &[u8], profile: u8, out: &mut [u8]) -> u64
     let Some(p) = profile_of(profile) else {
         return packed(Answer::WrongArgument, 0);
     };
-    let answer = report::write_summary(log, p, out);
-    answer.number() as u64
+    report::write_summary(log, p, out).number() as u64
 }
 
 // Reads a graph file and writes it again.
@@ -173,7 +170,7 @@ pub fn skelfora_rewrite(file: &[u8], out: &mut [u8]) -> u64
 pub fn skelfora_replay(file: &[u8], trace: &[u8]) -> u64
     ensures { result ≡ replay_number file.now trace.now }
 {
-    let mut relations = NO_RELATIONS;
+    let mut relations = EMPTY_RELATIONS;
     let r = graphfile::read_bare(file, &mut relations);
     let answer = r.answer;
     if !answer.is_done() {
@@ -189,9 +186,7 @@ pub fn skelfora_replay(file: &[u8], trace: &[u8]) -> u64
         trace,
         graphfile::is_wide(file),
     );
-    let a = p.answer;
-    let place = p.place.0;
-    packed_blocker(a, place, p.accepting)
+    packed_blocker(p.answer, p.place.0, p.accepting)
 }
 
 // A step on the graph of a file: the file's refusals, then 7 where the marking has too few bytes, then the step's. Reading has judged
@@ -199,7 +194,7 @@ pub fn skelfora_replay(file: &[u8], trace: &[u8]) -> u64
 fn stepped<'a>(file: &'a [u8], marking: &'a [u8], a: Activity) -> Stepped
     ensures { result ≡ step_of file.now marking.now a.0 }
 {
-    let mut relations = NO_RELATIONS;
+    let mut relations = EMPTY_RELATIONS;
     let r = graphfile::read_bare(file, &mut relations);
     let answer = r.answer;
     if !answer.is_done() {

@@ -51,20 +51,17 @@ fn two_counts(low: u16, high: u16) -> u64
 fn packed_counts(m: Marked) -> u64
     ensures { result ≡ counts_number m }
 {
-    let answer = m.answer;
     let counts = m.counts;
     let positives = two_counts(counts.true_positives, counts.false_positives);
     let negatives = two_counts(counts.false_negatives, counts.true_negatives);
-    let low = answer.number() as u64;
-    low + POSITIVES * positives + NEGATIVES * negatives
+    m.answer.number() as u64 + POSITIVES * positives + NEGATIVES * negatives
 }
 
 // The marks of a file's graph in one number: true positives, false positives, false negatives, true negatives.
 pub fn skelfora_marks<'a>(file: &'a [u8], log: &'a [u8], labels: &'a [u8]) -> u64
     ensures { result ≡ counts_number (marks_in file.now log.now labels.now) }
 {
-    let m = marked(file, log, labels);
-    packed_counts(m)
+    packed_counts(marked(file, log, labels))
 }
 
 // Marks as text: their number, or 7, and 256 times the text's length.
@@ -73,8 +70,7 @@ fn put_text(m: Marked, out: &mut [u8]) -> u64
     ensures out_after { out.new ≡ marked_after m out.old }
 {
     let listed = report::write_marks(m, out);
-    let answer = listed.answer;
-    packed(answer, listed.length)
+    packed(listed.answer, listed.length)
 }
 
 // The text of the marks of a file's graph.
@@ -87,8 +83,7 @@ pub fn skelfora_marks_text<'a, 'w>(
     ensures value { result ≡ text_number (marks_in file.now log.now labels.now) (length out.old) }
     ensures out_after { out.new ≡ marked_after (marks_in file.now log.now labels.now) out.old }
 {
-    let m = marked(file, log, labels);
-    put_text(m, out)
+    put_text(marked(file, log, labels), out)
 }
 
 // The text of the marks of guesses.
@@ -118,6 +113,5 @@ pub fn skelfora_replays<'a, 'w>(file: &'a [u8], log: &'a [u8], out: &'w mut [u8]
     }
     let head = r.graph.head;
     let done = marks::write_replays(head, &r.graph.relations, log, out);
-    let a = done.answer;
-    packed(a, done.traces)
+    packed(done.answer, done.traces)
 }

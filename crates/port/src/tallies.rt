@@ -28,8 +28,7 @@ pub fn skelfora_tally(log: &[u8], tally: &mut [u8]) -> u64
     ensures value { result ≡ number_of (fill_answer log.now tally.old) }
     ensures tally_after { tally.new ≡ filled_of log.now tally.old }
 {
-    let answer = months::fill(log, tally);
-    answer.number() as u64
+    months::fill(log, tally).number() as u64
 }
 
 // Joins another tally to the first: the number.
@@ -37,8 +36,7 @@ pub fn skelfora_tally_join(tally: &mut [u8], other: &[u8]) -> u64
     ensures value { result ≡ number_of (join_answer tally.old other.now) }
     ensures tally_after { tally.new ≡ joined_of tally.old other.now }
 {
-    let answer = months::join(tally, other);
-    answer.number() as u64
+    months::join(tally, other).number() as u64
 }
 
 // Row i of all: the relations one after another.
@@ -84,8 +82,7 @@ fn relations_read(tally: &[u8], profile: Profile, out: &mut [u8]) -> u64
         return answer.number() as u64;
     }
     if out.len() < LENGTH {
-        let few = Answer::BufferTooSmall;
-        return few.number() as u64;
+        return Answer::BufferTooSmall.number() as u64;
     }
     put_known(known, out);
     answer.number() as u64

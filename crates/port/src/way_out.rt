@@ -4,14 +4,14 @@ ghost use Rattle.sets.specs.Answers.{number_of};
 ghost use Rattle.port.specs.WayOut.{way_into, way_after, finish_in, finish_number, finish_bytes, shut_number};
 ghost use Rattle.port.specs.WayOut.{desk_finish_in, desk_finish_number, desk_finish_bytes};
 
-use crate::{NO_RELATIONS, lent, packed};
+use crate::{EMPTY_RELATIONS, lent, packed};
 use finish::{Finished, Way};
 use sets::{Activity, Answer};
 
 // How many bytes a way takes.
 const LENGTH: usize = 4;
 
-// What stands where nothing shut the step out, and beside a refusal.
+// What stands where nothing shut the step out, and beside a refusal: C reads a number there.
 const NOTHING: usize = 255;
 
 // Puts a way into the first bytes; where there are fewer than four, nothing changes.
@@ -45,7 +45,7 @@ fn given(f: Finished, way: &mut [u8]) -> u64
 fn finished<'a>(file: &'a [u8], marking: &'a [u8], room: usize) -> Finished
     ensures { result ≡ finish_in file.now marking.now room }
 {
-    let mut relations = NO_RELATIONS;
+    let mut relations = EMPTY_RELATIONS;
     let r = graphfile::read_bare(file, &mut relations);
     let answer = r.answer;
     if !answer.is_done() {
@@ -92,7 +92,7 @@ fn finished_at<'a>(file: &'a [u8], table: &'a [u8], place: usize, room: usize) -
             way: Way::NONE,
         };
     }
-    let mut relations = NO_RELATIONS;
+    let mut relations = EMPTY_RELATIONS;
     let r = graphfile::read_bare(file, &mut relations);
     let answer = r.answer;
     if !answer.is_done() {

@@ -25,7 +25,7 @@ pub const INCLUDES: [u8; 1] = *b"I";
 
 pub const EXCLUDES: [u8; 1] = *b"E";
 
-// How many pairs stand in the rows of a table.
+// How many pairs stand in the rows of a table: the tables and the number of one are parameters here, as they are of `tables::row`.
 fn pair_count(tables: &[u64], table: u8) -> usize
     ensures { result ≡ pair_count (in_row (table_at tables.now table)) }
 {
