@@ -107,6 +107,12 @@ joined_free r s out left one u e t hl ht ho hu =
 pub marked-by_lem : (events : Set) (r : Relations) (s : State) (u : Set) → u ≡ enabled_set events r s → marking_of s u ≡ marked events r s
 marked-by_lem events r s u h j = marking_of s (h j)
 
+pub true-in : (e all x : Set) (t : Bool) → all ≡ x → t ≡ within e all → t ≡ within e x
+true-in e all x t h k = k ∙ ap (within e) h
+
+pub true_of : (e all x : Set) (t : Bool) → all ≡ x → t ≡ within all e → t ≡ within x e
+true_of e all x t h k = k ∙ ap (λ (u : Set). within u e) h
+
 pub same_true : (e all x : Set) (t : Bool) → Fits e → Fits all → all ≡ x → t ≡ (eqb e.low all.low && eqb e.high all.high) → t ≡ (within e x and within x e)
 same_true e all x t fe fa h k = k ∙ equal-within e all fe fa ∙ (λ j. within e (h j) and within (h j) e)
 
