@@ -1,8 +1,7 @@
 -- The set of enabled activities, gathered from the events that are included; and a marking that is true has that very set. Assumes nothing.
 use mathlib.Core.Path.{◌≡◌, refl, sym, ap, ap₂, ◌∙◌, subst}
 use mathlib.Core.Bool.{Bool, true, false, ◌&&◌}
-use Prim.Native.Nat.{ℕ, ◌≤◌, ◌<◌}
-use native.Mathlib.Omega.{arith}
+use Prim.Native.Nat.{ℕ, ◌<◌}
 use borrow.Author.Tests.{lt-ltb}
 use lib.Dec.{T, eqb, ltb}
 use Rattle.sets.specs.Tests.{◌and◌, ◌or◌, non, when◌then◌else◌}
@@ -12,7 +11,6 @@ use Rattle.sets.specs.declared.set.Set.{Set}
 use Rattle.sets.specs.declared.answer.Answer.TheVariants.{Done, NoEvent, NotIncluded, Waiting}
 use Rattle.sets.proofs.Tests.{T-ext, T-eq, and_l, and_r, and_i, T→true, true→T, true-and}
 use Rattle.sets.proofs.Below.{some-ext, end-past}
-use Rattle.sets.proofs.Loops.{Gathered}
 use Rattle.sets.proofs.Members.{Fits, Whole, equal-within, those-ext, those-of, within-i, within-e, mem-those}
 use Rattle.sets.proofs.MadeSets.{joined, is-those}
 use Rattle.engine.specs.declared.marking.State.{State}
@@ -91,10 +89,6 @@ module _ (events : Set) (r : Relations) (s : State) where
         ∙ T-ext _ _ (λ h. and_i _ _ (and_l _ _ h) (and_r _ _ (and_r _ _ h)))
         (λ h. and_i _ _ (and_l _ _ h) (and_i _ _ (below_end a l (and_l _ _ h)) (and_r _ _ h)))
         ∙ sym (done-parts a))
-
--- a loop over the activities below an end has gathered those of them
-pub gathered-to : (p : ℕ → Bool) (out : Set) (i end : ℕ) → i ≤ end → Gathered p out i → end ≤ i → out ≡ those (λ a. ltb a end and p a)
-gathered-to p out i end l inv h = let e : i ≡ end = omega arith in inv.got ∙ ap (λ (n : ℕ). those (λ a. ltb a n and p a)) e
 
 -- what the code makes: the set with one more where nothing blocks it, and the marking of a state
 pub joined_free : (r : Relations) (s : State) (out left one u : Set) (e : ℕ) (t : Bool) → left ≡ those (blocking r s e) → t ≡ is_empty left

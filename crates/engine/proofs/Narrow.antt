@@ -39,10 +39,6 @@ use Rattle.engine.proofs.Running.{run-next, walk-stop}
 pub few-by : (s low u : Set) → low ≡ those (λ a. ltb a word) → u ≡ those (λ a. mem s a and mem low a) → u ≡ few_of s
 few-by s low u hl hu = hu ∙ those-of low (λ a. ltb a word) (λ a t. mem s a and t) hl
 
-pub few-in-by : (s m : State) (x p i : Set) → x ≡ few_of s.executed → p ≡ few_of s.pending → i ≡ few_of s.included → m ≡ state_of x p i
-    → m ≡ few_in s
-few-in-by s m x p i hx hp hi hm = hm ∙ (λ j. state_of (hx j) (hp j) (hi j))
-
 pub gained-by_lem : (tables : List ℕ) (e : ℕ) (r i u : Set) → r ≡ row_at (table_at tables 1) e → i ≡ row_at (table_at tables 2) e
     → u ≡ those (λ a. mem r a or mem i a) → u ≡ those (λ a. (in_tables tables).responses e a or (in_tables tables).includes e a)
 unfolding in_row

@@ -1,4 +1,6 @@
 // Enabled, the step and accepting (01, "A step"). What a caller does often it does on lent relations, with `ask` and `next`.
+// The events and the relations are two parameters and no struct: .ci/statements.py holds a public function to all that it is lent, and reads
+// no reference inside a struct.
 ghost use Rattle.std.specs.Prelude.{◌≡◌};
 ghost use Rattle.sets.specs.Tests.{◌and◌, ◌or◌, non};
 ghost use Rattle.sets.specs.Members.{mem, those};

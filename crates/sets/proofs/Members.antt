@@ -426,9 +426,9 @@ equal-within s t fs ft =
     and_i _ _ (within-i s t (λ a l m. subst (λ (u : Set). T (mem u a)) same m)) (within-i t s (λ a l m. subst (λ (u : Set). T (mem u a)) (sym same) m)))
     (λ w.
     let same : s ≡ t =
-        sym (those-mem s fs)
-        ∙ those-ext (mem s) (mem t) (λ a l. T-ext (mem s a) (mem t a) (within-e s t (and_l _ _ w) a l) (within-e t s (and_r _ _ w) a l))
-        ∙ those-mem t ft in
+    sym (those-mem s fs)
+    ∙ those-ext (mem s) (mem t) (λ a l. T-ext (mem s a) (mem t a) (within-e s t (and_l _ _ w) a l) (within-e t s (and_r _ _ w) a l))
+    ∙ those-mem t ft in
     and_i _ _ (eqb_of (ap (λ (u : Set). u.low) same)) (eqb_of (ap (λ (u : Set). u.high) same)))
 
 -- ---- one activity, and all below a number

@@ -9,7 +9,7 @@ use borrow.Author.Tests.{lt-ltb, le-ltb, ltb-true, ltb-false, eqb-true, eqb-fals
 use lib.Dec.{eqb, ltb}
 use lib.ListN.{length, get_or, set, length-set, length-append, get_or-replicate, get_or-append}
 use lib.Seq.{ext_get_or, get_or-set_same, get_or-set_other, get_or-append-add}
-use Rattle.sets.specs.Tests.{◌and◌, ◌or◌, non, when◌then◌else◌}
+use Rattle.sets.specs.Tests.{◌and◌, ◌or◌, when◌then◌else◌}
 use Rattle.sets.specs.Members.{width, word, bits_of, mem, those, no_set}
 use Rattle.sets.specs.Rows.{Relation, row_words, no_rows, row_at, with_row, in_row, list_from, rows_of}
 use Rattle.sets.specs.declared.set.Set.{Set}
@@ -110,13 +110,6 @@ rows_ext x y hx hy e = ext_get_or 0 x y (hx ∙ sym hy) (λ i h. at i (omega ari
         let same : width + (i - width) ≡ i = omega arith in
         subst (λ (j : ℕ). get_or x j 0 ≡ get_or y j 0) same (ap (λ (s : Set). s.high) (row (i - width) (omega arith))))
 
-pub joined : (rows : List ℕ) (a : ℕ) (s u : Set) → a < width
-    → u ≡ those (λ b. mem (record { low = get_or rows a 0; high = get_or rows (width + a) 0 }) b or mem s b)
-    → set (set rows a u.low) (width + a) u.high ≡ with_row rows a (those (λ b. mem (row_at rows a) b or mem s b))
-joined rows a s u l e = put_in rows a u l ∙ ap (with_row rows a) (e ∙ ap (λ (r : Set). those (λ b. mem r b or mem s b)) (row-in_lem rows a l))
-
-pub ruleset writing = (row-in_lem, row_out, put_in, put-out, joined)
-
 -- ---- rows that are put down from a relation
 
 pub length-list_from : (n i : ℕ) (f : ℕ → ℕ) → length (list_from n i f) ≡ n
@@ -206,8 +199,3 @@ gain-rows_of r k p =
         ap (λ (t : Bool). when t then (mem (row_at (rows_of r) k) b or p b) else r a b) e
         ∙ sym (or-false (r a b))
         ∙ ap (λ (t : Bool). r a b or t) (sym (false-and (p b)) ∙ ap (λ (t : Bool). t and p b) (sym e))
-
--- a row that loses a set, read and put
-pub lost-row : (rows left : List ℕ) (k : ℕ) (gone row new : Set) → row ≡ row_at rows k → new ≡ those (λ b. mem row b and non (mem gone b))
-    → left ≡ with_row rows k new → left ≡ with_row rows k (those (λ b. mem (row_at rows k) b and non (mem gone b)))
-lost-row rows left k gone row new hr hn hl = hl ∙ ap (with_row rows k) (hn ∙ ap (λ (s : Set). those (λ b. mem s b and non (mem gone b))) hr)

@@ -176,12 +176,6 @@ put-comm tables j k a b s t ne =
         (λ q. ne (omega (arith, la, lb, q)))
         ∙ ap (λ (l : List ℕ). with_row_in l j a s) (table-put tables k b t lb)
 
--- a row that is joined with a set
-pub table-join : (tables : List ℕ) (k a : ℕ) (s old new : Set) (out : List ℕ)
-    → old ≡ row_at (table_at tables k) a → new ≡ those (λ b. mem old b or mem s b) → out ≡ with_row_in tables k a new
-    → out ≡ gained_in tables k a s
-table-join tables k a s old new out ho hn h = h ∙ ap (with_row_in tables k a) (hn ∙ ap (λ (u : Set). those (λ b. mem u b or mem s b)) ho)
-
 pub ruleset placing = (word-past, word-put-past, table-row-is, table-row-above, table-put-is, table-put-above)
 
 pub length-rows-in : (tables : List ℕ) (k : ℕ) (rows : List ℕ) (i : ℕ) → length (with_rows_in tables k rows i) ≡ length tables

@@ -12,6 +12,7 @@ use crate::tables;
 // How many words the rows of one relation are: the low words of all rows, then the high ones.
 pub const WORDS: usize = WIDTH * 2;
 
+// Plain words and no array of sets: `row_at` and `rows_of` (specs/Rows.antt) are defined of this list of numbers.
 pub type Rows = [u64; WORDS];
 
 // Rows that are all empty.

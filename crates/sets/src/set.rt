@@ -33,7 +33,7 @@ impl Set {
                 high: 1 << (n - WORD),
             }
         } else {
-            Set { low: 0, high: 0 }
+            Set::EMPTY
         }
     }
 
@@ -134,7 +134,7 @@ impl Set {
         (u64::count_ones(self.low) + u64::count_ones(self.high)) as u8
     }
 
-    // The least member; the width where there is none.
+    // The least member; the width where there is none, as `least_below` says (docs/STATEMENTS.md). `members().next()` gives an Option.
     pub fn least(self) -> Activity
         ensures { result.0 ≡ least_below width (mem self) }
     {
@@ -174,7 +174,7 @@ impl Set {
         Members { rest: self }
     }
 
-    // The least member above a; the width where there is none.
+    // The least member above a; the width where there is none, as `next_above` says (docs/STATEMENTS.md).
     pub fn next(self, a: Activity) -> Activity
         ensures { result.0 ≡ next_above self a.0 }
     {

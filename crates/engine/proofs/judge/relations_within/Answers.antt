@@ -1,13 +1,12 @@
 use borrow.Author.Rules.{rules}
-use borrow.Author.Count.{below_none}
 use Rattle.sets.proofs.Ways.{every-turn}
 use Rattle.engine.specs.Judged.{relations_within}
 use Rattle.engine.proofs.judge.relations_within.Goals as goal
 
 pub returns-then-not-rows_within : goal.returns-then-not-rows_within
 unfolding relations_within
-returns-then-not-rows_within c = search (below_none, every-turn, rules)
+returns-then-not-rows_within c = search (every-turn, rules)
 
 pub returns : goal.returns
 unfolding relations_within
-returns c = search (below_none, every-turn, rules)
+returns c = search (every-turn, rules)

@@ -1,5 +1,4 @@
 use borrow.Author.Rules.{rules}
-use borrow.Author.Count.{below_none}
 use Rattle.sets.proofs.Ways.{every-turn}
 use Rattle.engine.specs.Judged.{rows_within}
 use Rattle.engine.proofs.Judging.{row_read}
@@ -7,8 +6,8 @@ use Rattle.engine.proofs.judge.rows_within.Goals as goal
 
 pub returns-then-not-row_within : goal.returns-then-not-row_within
 unfolding rows_within
-returns-then-not-row_within c = search (below_none, every-turn, row_read, rules)
+returns-then-not-row_within c = search (every-turn, row_read, rules)
 
 pub returns : goal.returns
 unfolding rows_within
-returns c = search (below_none, every-turn, row_read, rules)
+returns c = search (every-turn, row_read, rules)
