@@ -160,6 +160,8 @@ row-length_lem wide out out' at a next s f = set-kept wide (set out at a) out' n
 
 pub ruleset one-row = (for-none, for-one, row-none, row_one, place_none, place-one, room-key)
 
+pub ruleset storing = (row-none, row_one, place_none, place-one, room-key, row_fits, row-length_lem)
+
 pub ruleset counts = (count-begin, count_turn, count-end)
 
 pub ruleset each_row = (place-begin, rows-begin, place-room, place-turn, rows-turn, place_end, rows-end_lem)

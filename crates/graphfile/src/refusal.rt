@@ -32,6 +32,7 @@ fn judge_head(file: &File) -> Answer
     judge_sets(file)
 }
 
+#[tactic(auto, using(crate::proofs::Judging::entries))]
 fn judge_entry(file: &File, r: usize) -> Answer
     requires { r < relation_count }
     ensures { result ≡ judged_entry file.now.bytes.now r }
@@ -57,6 +58,7 @@ fn judge_entries(file: &File) -> Answer
     Answer::Done
 }
 
+#[tactic(auto, using(crate::proofs::Judging::ends))]
 fn judge_end(file: &File) -> Answer
     ensures { result ≡ judged_end file.now.bytes.now }
 {

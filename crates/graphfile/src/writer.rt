@@ -50,7 +50,8 @@ pub(crate) fn row_count<const WIDE: bool>(relations: &Relations, r: u8) -> usize
     n
 }
 
-// Stores the row of an activity, if it is not empty, and gives the place after it.
+// Stores the row of an activity, if it is not empty, and gives the place after it. Buffer and place stay two parameters: the public functions of octets
+// take them so, and a struct of both would be taken apart at each call.
 fn put_row<const WIDE: bool>(out: &mut [u8], at: usize, key: Activity, s: Set) -> usize
     requires { at + rows_length WIDE (rows_for s) ≤ length out.old }
     ensures value { result ≡ at + rows_length WIDE (rows_for s) }

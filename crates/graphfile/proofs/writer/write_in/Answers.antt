@@ -9,13 +9,13 @@ pub overflow_add-length : goal.overflow_add-length
 overflow_add-length g c = search (file-fits, rules)
 
 pub returns-then-out-length-clause-value : goal.returns-then-out-length-clause-value
-returns-then-out-length-clause-value g c = search (room_small, small-keeps, total-by, rules)
+returns-then-out-length-clause-value g c = search (room_small, total-by, rules)
 
 pub returns-then-out-length-clause-out_after : goal.returns-then-out-length-clause-out_after
-returns-then-out-length-clause-out_after g c = search (room_small, small-keeps, total-by, rules)
+returns-then-out-length-clause-out_after g c = search (small-keeps, total-by, rules)
 
 pub put_file-requires-clause-relation_count_in_bounds : goal.put_file-requires-clause-relation_count_in_bounds
-put_file-requires-clause-relation_count_in_bounds g c = search (file-fits, room_small, small-keeps, total-by, file-room, rules)
+put_file-requires-clause-relation_count_in_bounds g c = search (total-by, file-room, rules)
 
 pub returns-clause-value : goal.returns-clause-value
 returns-clause-value g c = (room_whole (graph_of _ _) _ _ _ _ _ c.requires
