@@ -92,7 +92,8 @@ impl Replaying<'_> {
     // The bytes of as many parts as there is room for.
     #[tactic(auto, using(crate::proofs::Replaying::byte_by_byte))]
     fn put(&self, out: &mut [u8])
-        ensures { out.new ≡ list_from (length out.old) 0 (λ k. replay_byte (part_replay self.now.head self.now.relations.now self.now.log.now k)) }
+        ensures { out.new ≡ list_from (length out.old) 0
+            (λ k. replay_byte (part_replay self.now.head self.now.relations.now self.now.log.now k)) }
     {
         for (k, byte) in out.iter_mut().enumerate() {
             *byte = self.byte(k);
