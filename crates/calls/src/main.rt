@@ -8,8 +8,8 @@ use std::io;
 use std::io::Read;
 
 // Reads until the buffer is full or the input ends, and gives how many bytes it put at the start of the buffer. The same stands in listing:
-// std reads so into memory that it allocates alone, and no library can hold it, since what one lets others call leaves one outcome
-// (docs/STATEMENTS.md), and a read does not.
+// std reads to an input's end only into memory that it allocates, and a library here can't have it, since what one lets others call leaves
+// one outcome (docs/STATEMENTS.md), and a read does not. The place is kept by hand, as each read says how far it came.
 fn read_full(from: &mut impl Read, buf: &mut [u8]) -> io::Result<usize>
     ensures { IfOk result (λ n. n ≤ length buf.new) }
 {
@@ -58,7 +58,7 @@ fn show(rt: &impl Print, log: &[u8]) -> io::Result<()> {
 }
 
 fn main(rt: HostRuntime) -> io::Result<()> {
-    // One byte more than the longest log has, as in the listing program.
+    // One byte more than the longest log has, as in the listing program. An array, since the programs allocate nothing (docs/DECISIONS.md).
     let mut log = [0u8; 36871];
     let n = read_full(&mut rt.reader(), &mut log)?;
     show(&rt, &log[..n])

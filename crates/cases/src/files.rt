@@ -1,4 +1,5 @@
-// The words of a case, and the files that they name.
+// The words of a case, and the files that they name. Buffers are arrays in this program, since the programs allocate nothing
+// (docs/DECISIONS.md).
 ghost use Rattle.io.specs.Counts.{IsPrefixLen};
 
 use crate::text;
@@ -7,8 +8,9 @@ use std::io::Read;
 use std::rt::Files;
 use std::{fs, io, str};
 
-// Whether there is an argument i. One that has bytes does not fit where there is no room, but it is there. The same stands in listing, since
-// no library can hold it: what one lets others call leaves one outcome (docs/STATEMENTS.md), and a contract can't say what the arguments are.
+// Whether there is an argument i. One that has bytes does not fit where there is no room, but it is there. The same stands in listing,
+// since no library can hold it: what one lets others call leaves one outcome (docs/STATEMENTS.md), and a contract can't say what the
+// arguments are.
 pub fn is_given(rt: &impl Env, i: usize) -> bool {
     !matches!(rt.arg(i, &mut []), Err(FillError::NotPresent))
 }
@@ -39,7 +41,7 @@ pub fn say_words(rt: &(impl Env + Print), i: u32) -> io::Result<()> {
 }
 
 // Reads until the buffer is full, the file ends or a read fails, and gives how many bytes it put at the start of the buffer. A loop of its
-// own, since that of calls and listing gives an error in place of the bytes before it.
+// own, since that of calls and listing gives an error in place of the bytes before it; the place is kept by hand as there.
 fn read_full(file: &mut impl Read, buf: &mut [u8]) -> usize
     ensures { IsPrefixLen result buf.new }
 {

@@ -44,7 +44,7 @@ fn list_into(rt: &impl Print, log: &[u8], profile: Profile, out: &mut [u8]) -> i
 
 // Lists a log.
 fn list_log(rt: &impl Print, log: &[u8], profile: Profile) -> io::Result<()> {
-    // No listing is longer.
+    // No listing is longer. Buffers are arrays here, since the programs allocate nothing (docs/DECISIONS.md).
     let mut out = [0u8; 671799];
     list_into(rt, log, profile, &mut out)
 }
