@@ -26,9 +26,9 @@ use Rattle.engine.specs.Enabled.{marked, graph_at}
 use Rattle.rules.specs.declared.Profile.{Profile}
 use Rattle.rules.specs.declared.Profile.TheVariants.{Full, Light}
 use Rattle.rules.specs.Traces.{Traces}
-use Rattle.steps.specs.Rowwise.{in_either, reduced_of, waited}
+use Rattle.steps.specs.Rowwise.{excluders, in_either, reduced_of, waited}
 use Rattle.tally.specs.Passes.{event_in, cut}
-use Rattle.tally.specs.Tallies.{tallied_for}
+use Rattle.tally.specs.Tallies.{tallied_for, before_table, later_table}
 use Rattle.tally.proofs.Folds.{forward-rows_of, through-rows_of}
 use Rattle.miner.specs.Stages.{four_tables, conditions_of, chains_of, responses_of, never_of, five_of, followers_of, redundant_by, seven_from}
 use Rattle.miner.specs.Stages.{includes_in, excludes_six, waited_in, ahead_of, missed_of, tables_in, graph_found_in}
@@ -168,11 +168,11 @@ module _ (wide : Bool) (L : Traces) (events : Set) (tally : List ℕ) where
     abbrev after_seven : List ℕ
     after_seven = seven_from events tally (includes_in wide p events tally L) (excludes_six p events tally) L
 
-    pub eight-by : (t t₁ t₂ t₃ t₄ t₅ : List ℕ) → t₁ ≡ with_table t 2 (includes_in wide p events tally L) → t₂ ≡ with_table t₁ 3 (excludes_six p events tally)
+    pub eight-from : (t t₁ t₂ t₃ t₄ t₅ : List ℕ) → t₁ ≡ with_table t 2 (includes_in wide p events tally L) → t₂ ≡ with_table t₁ 3 (excludes_six p events tally)
         → ((r : Relation) → table_at t₂ 3 ≡ rows_of r → t₃ ≡ with_table t₂ 3 (seven_from events tally (table_at t₂ 2) (table_at t₂ 3) L))
         → t₄ ≡ with_table t₃ 0 eight_of → t₅ ≡ with_table t₄ 1 answers_of
         → length t ≡ relation_count * row_words → t₅ ≡ four_tables eight_of answers_of (includes_in wide p events tally L) after_seven
-    eight-by t t₁ t₂ t₃ t₄ t₅ h₁ h₂ h₃ h₄ h₅ long =
+    eight-from t t₁ t₂ t₃ t₄ t₅ h₁ h₂ h₃ h₄ h₅ long =
         let rows = excludes-some p in
         let included = held-i _ _ _ _ _ t₁ _ (held_any t long) (length-includes p) h₁ in
         let six = held_x _ _ _ _ _ t₂ _ included (ap length rows.1 ∙ length-rows_of _) h₂ in
@@ -181,6 +181,38 @@ module _ (wide : Bool) (L : Traces) (events : Set) (tally : List ℕ) where
         let eight = held-c _ _ _ _ _ t₄ _ seven (length-for events _) h₄ in
         held-is _ _ _ _ (length-for events _) (length-for events _) (length-includes p) (length-rows_of _) t₅
         (held-r _ _ _ _ _ t₅ _ eight (length-for events _) h₅)
+
+    -- the same by the excludes of steps 1 to 5 as they are made, by target, and of whatever tables step 6 leaves
+    abbrev excluded_of : List ℕ
+    excluded_of = rows_for events (excluders events (table_at tally before_table) (table_at tally later_table) (chains_of events tally))
+
+    pub eight-by : (t t₁ t₂ t₃ t₄ t₅ t₆ t₇ : List ℕ) → t₁ ≡ with_table t 2 (rows_of (turned (chains_of events tally)))
+        → t₂ ≡ with_table t₁ 3 excluded_of → t₃ ≡ with_table t₂ 3 (rows_of (turned (with_table no_rows 0 (table_at t₂ 3))))
+        → length t₄ ≡ length t₃
+        → (length t₃ ≡ relation_count * row_words → table_at t₃ 2 ≡ includes_in wide Light events tally L → table_at t₄ 2 ≡ includes_in wide p events tally L)
+        → (length t₃ ≡ relation_count * row_words → table_at t₃ 2 ≡ includes_in wide Light events tally L
+        → table_at t₃ 3 ≡ excludes_six Light events tally → table_at t₄ 3 ≡ excludes_six p events tally)
+        → ((r : Relation) → table_at t₄ 3 ≡ rows_of r → t₅ ≡ with_table t₄ 3 (seven_from events tally (table_at t₄ 2) (table_at t₄ 3) L))
+        → t₆ ≡ with_table t₅ 0 eight_of → t₇ ≡ with_table t₆ 1 answers_of
+        → length t ≡ relation_count * row_words → t₇ ≡ four_tables eight_of answers_of (includes_in wide p events tally L) after_seven
+    eight-by t t₁ t₂ t₃ t₄ t₅ t₆ t₇ h₁ h₂ h₃ l₄ i₄ x₄ h₅ h₆ h₇ long =
+        let three = held-i _ _ _ _ _ t₁ _ (held_any t long) (length-rows_of _) h₁ in
+        let excluded = held_x _ _ _ _ _ t₂ _ three (length-for events _) h₂ in
+        let five = held_x _ _ _ _ _ t₃ (five_of events tally) excluded (length-rows_of _)
+        (h₃ ∙ ap (λ (x : List ℕ). with_table t₂ 3 (rows_of (turned x))) (taken-from t₂ 3 excluded_of excluded.excludes (length-for events _))) in
+        let six : Held t₄ (table_at t₄ 0) (table_at t₄ 1) (includes_in wide p events tally L) (excludes_six p events tally) = record {
+          long = l₄ ∙ five.long;
+          conditions = refl;
+          responses = refl;
+          includes = i₄ five.long five.includes;
+          excludes = x₄ five.long five.includes five.excludes;
+        } in
+        let seven = held_x _ _ _ _ _ t₅ after_seven six (length-rows_of _)
+        (h₅ (excludes-some p).0 (six.excludes ∙ (excludes-some p).1)
+        ∙ ap₂ (λ (i x : List ℕ). with_table t₄ 3 (seven_from events tally i x L)) six.includes six.excludes) in
+        let eight = held-c _ _ _ _ _ t₆ _ seven (length-for events _) h₆ in
+        held-is _ _ _ _ (length-for events _) (length-for events _) (length-includes p) (length-rows_of _) t₇
+        (held-r _ _ _ _ _ t₇ _ eight (length-for events _) h₇)
 
 -- steps 9 and 10, and the head
 module _ (wide : Bool) (A : ℕ) (L : Traces) (p : Profile) (events : Set) (t t₁ t₂ t₃ : List ℕ) (s : State) (opening : Marking) where

@@ -27,18 +27,18 @@ put-none p = record { same = refl; put = record { place = sym (add-zero p.at); b
 pub put_as : {p q : Page} {v w : List ℕ} → v ≡ w → Wrote p v q → Wrote p w q
 put_as {p} {q} e f = subst (λ (x : List ℕ). Wrote p x q) e f
 
--- one text, then another
-pub put_then : {p q r : Page} {v w : List ℕ} → Wrote p v q → Wrote q w r → Wrote p (v ++ w) r
-put_then {p} {q} {r} {v} {w} f g =
-    let p₁ = f.put.place in
-    let p₂ = g.put.place in
+-- one text, then another: in any buffer, and on a page
+pub put-after : {o o₁ o₂ v w : List ℕ} {a a₁ a₂ : ℕ} → Put o a v o₁ a₁ → Put o₁ a₁ w o₂ a₂ → Put o a (v ++ w) o₂ a₂
+put-after {o} {o₁} {o₂} {v} {w} {a} {a₁} {a₂} f g =
+    let p₁ = f.place in
+    let p₂ = g.place in
     record {
-      same = g.same ∙ f.same;
-      put = record {
-        place = omega (arith, length-append v w);
-        bytes = g.put.bytes ∙ (λ i. sets (f.put.bytes i) (f.put.place i) w) ∙ sets-append v w p.out.now p.at;
-      };
+      place = omega (arith, length-append v w);
+      bytes = g.bytes ∙ (λ i. sets (f.bytes i) (f.place i) w) ∙ sets-append v w o a;
     }
+
+pub put_then : {p q r : Page} {v w : List ℕ} → Wrote p v q → Wrote q w r → Wrote p (v ++ w) r
+put_then f g = record { same = g.same ∙ f.same; put = put-after f.put g.put }
 
 -- where both have room, so has the first, and after it the second
 pub room-first : (p : Page) (v w : List ℕ) → Room p (v ++ w) → Room p v
