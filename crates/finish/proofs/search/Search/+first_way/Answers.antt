@@ -22,7 +22,7 @@ loop-open-smaller t c = search (searching, rules)
 
 pub loop-open-preserved : goal.loop-open-preserved
 loop-open-preserved t c =
-    way-turn _ _ _ _ _ _ c.candidates-live.ensures c.args.self.now.turned _ _ _ _ c.loop-open.invariant c.in-Some.is c.next.ensures
+    way-turn _ _ _ _ _ _ c.candidates-live.ensures c.args.self.turned _ _ _ _ c.loop-open.invariant c.in-Some.is c.next.ensures
     (sym c.in_default-first_way.is ∙ c.first_way.ensures) c.open_from-open-in-Some.ensures
 
 pub returns : goal.returns
