@@ -116,9 +116,8 @@ fn replay_trace<'a, const WIDE: bool>(
     let mut included = in_form(events, WIDE);
     for &n in trace {
         let e = Activity(n);
-        let then = included_after::<WIDE>(included, held, e);
         waiting.note::<WIDE>(e, seen, included);
-        included = then;
+        included = included_after::<WIDE>(included, held, e);
         seen = and_then(seen, e);
     }
 }

@@ -67,7 +67,8 @@ fn left_after(after: Set, last: &Places, e: Activity, at: Place) -> Set
     after
 }
 
-// One place of e: its row gains what comes later and is barred. Then what never directly follows e is barred too, as far as the form holds it.
+// One place of e: its row gains what comes later and is barred. Then what never directly follows e is barred too, as far as the form holds
+// it.
 fn let_in_here<const WIDE: bool>(
     e: Activity,
     after: Set,

@@ -60,7 +60,8 @@ fn put_eight<const WIDE: bool>(
     put_responses(events, tally, out);
 }
 
-// The same of a log's first traces; it gives their events, as far as the form holds them. The tally, the largest of all, is gone when it returns.
+// The same of a log's first traces; it gives their events, as far as the form holds them. The tally, the largest of all, is gone when it
+// returns.
 fn tables_eight<const WIDE: bool>(traces: &Traces, profile: Profile, out: &mut Relations) -> Set
     ensures value { result ≡ those (event_in WIDE (traces_of traces.now)) }
     ensures out_after { length out.old ≡ relation_count * row_words
@@ -112,8 +113,8 @@ pub struct Headed {
     pub head: Head,
 }
 
-// Mines a log, with all ten steps or without the sixth. The relations are put into tables that the caller lends, whatever they held: by value they
-// would be copied, 8 KB of stack each time (02, 4/12).
+// Mines a log, with all ten steps or without the sixth. The relations are put into tables that the caller lends, whatever they held: by value
+// they would be copied, 8 KB of stack each time (02, 4/12).
 pub fn mine_into(log: &[u8], profile: Profile, relations: &mut Relations) -> Headed
     ensures value { result ≡ headed_of log.now profile }
     ensures relations_after { relations.new ≡ (mined_of log.now profile).graph.relations }

@@ -189,8 +189,8 @@ impl<'a> Sources<'a> {
 
     fn lose_redundant(&self, events: Set, left: &mut Rows)
         ensures { Less left.old (λ s x. some_below width (λ u. mem events u and
-            redundant_by self.now.tally.now (followers_of events self.now.tally.now) (table_at self.now.held.now 2) (table_at self.now.held.now 3)
-            (traces_of self.now.traces.now) u s x)) left.new }
+            redundant_by self.now.tally.now (followers_of events self.now.tally.now) (table_at self.now.held.now 2)
+            (table_at self.now.held.now 3) (traces_of self.now.traces.now) u s x)) left.new }
     {
         let followers = followers(events, self.tally);
         for u in events.members() {

@@ -5,7 +5,7 @@ pub loop-n-init : goal.loop-n-init
 loop-n-init g c events h = replay-start _ _ _ _ _ _ _ _ h
 
 pub loop-n-preserved : goal.loop-n-preserved
-loop-n-preserved g c events h = replay-turn (c.loop-n.invariant events h) c.loop-n-test.true _ _ _ _ c.included_after-then.ensures
+loop-n-preserved g c events h = replay-turn (c.loop-n.invariant events h) c.loop-n-test.true _ _ _ _ c.included_after-included.ensures
     (c.note.ensures.before, c.note.ensures.left) c.and_then-seen.ensures
 
 pub returns-clause-before : goal.returns-clause-before
