@@ -99,13 +99,15 @@ impl Cuts {
         }
     }
 
-    // Where e was not seen, this is its first place.
-    fn put(&mut self, e: Activity)
+    // One place of e. Where e was not seen, this is its first.
+    fn note(&mut self, e: Activity)
+        ensures now_gaps { self.new.gaps ≡ widened self.old.gaps self.old.seen.count e.0 }
         ensures now_seen { self.new.seen ≡ seen_with self.old.seen e.0 }
         ensures now_firsts { self.new.firsts ≡ firsts_with self.old.firsts self.old.seen e.0 }
-        ensures same_gaps { self.new.gaps ≡ self.old.gaps }
     {
+        // Read before a gap is written, so that it's read once.
         let seen = self.seen;
+        self.widen(e);
         if seen.set.has(e) {
             return;
         }
@@ -138,8 +140,7 @@ fn note_along<'a>(trace: &'a [u8], last: &'a Places, tally: &mut [u8])
     for (i, &activity) in trace.iter().enumerate() {
         let e = Activity(activity);
         cuts.join_last(tally, last, Place(i), e);
-        cuts.widen(e);
-        cuts.put(e);
+        cuts.note(e);
     }
 }
 

@@ -17,10 +17,9 @@ pub loop-i-init : goal.loop-i-init
 loop-i-init c = along-start _ _ _ _ (length-replicate {A = ℕ} tally_width 0) c.empty.ensures
 
 pub loop-i-preserved : goal.loop-i-preserved
-loop-i-preserved c = let wide = c.widen.ensures in
-    let put = c.put.ensures in
+loop-i-preserved c = let got = c.note.ensures in
     along-turn c.loop-i.invariant c.loop-i-test.true c.args.last.now c.requires _ _ _ _ (search rules) c.join_last.ensures
-    (put.same_gaps ∙ wide.now_gaps) (cc (put.now_seen, wide.same_seen)) (cc (put.now_firsts, wide.same_firsts, wide.same_seen))
+    got.now_gaps got.now_seen got.now_firsts
 
 pub returns : goal.returns
 returns c = along-end _ _ _ _ _ _ _ c.loop-i.invariant c.loop-i-test.false
