@@ -1,8 +1,8 @@
 -- The figures of a number: how they are put, and how many there are. Assumes nothing.
 use mathlib.Core.Path.{◌≡◌, refl, sym, ap, subst, ◌∙◌}
 use mathlib.Core.Bool.{Bool, true, false}
-use mathlib.Core.List.{[], ◌∷◌, ◌++◌}
-use Prim.Native.Nat.{ℕ, zero, suc, ◌-◌, ◌/◌, ◌^◌, ◌≤◌, ◌<◌}
+use mathlib.Core.List.{List, [], ◌∷◌, ◌++◌}
+use Prim.Native.Nat.{ℕ, zero, suc, ◌+◌, ◌-◌, ◌/◌, ◌^◌, ◌≤◌, ◌<◌}
 use native.Mathlib.Nat.{pow-suc, div-lt_iff_lt-mul}
 use native.Mathlib.Omega.{arith}
 use borrow.Author.Tests.{lt-ltb, le-ltb, ltb-false}
@@ -10,9 +10,8 @@ use lib.Dec.{ltb}
 use lib.ListN.{length, length-append}
 use Rattle.sets.specs.Tests.{when◌then◌else◌}
 use Rattle.report.specs.Lines.{figure, figures, decimal}
-use Rattle.report.specs.Puts.{Room, Wrote}
-use Rattle.report.specs.declared.text.Page.{Page}
-use Rattle.report.proofs.PutLaws.{put-none, put_as, put_then, put-length}
+use Rattle.report.specs.Puts.{Put}
+use Rattle.report.proofs.PutLaws.{nothing-put, put_same, put_on, put-long}
 
 module _ (k n : ℕ) where
   none_left : k ≡ 0 → [] ≡ figures k n
@@ -35,27 +34,28 @@ module _ (k n : ℕ) where
         ap (λ (b : Bool). (when b then [] else figures (k - 1) (n / 10)) ++ (figure n ∷ [])) (sym (le-ltb n 10 l))
         ∙ ap (λ (j : ℕ). figures j n) (sym one-more_lem)
 
-    module _ (p : Page) (room : Room p (figures k n)) where
-      pub one-room : n < 10 → Room p (figure n ∷ [])
+    module _ (o : List ℕ) (a : ℕ) (room : a + length (figures k n) ≤ length o) where
+      pub one-room : n < 10 → a + 1 ≤ length o
       one-room l = let e = ap length (one_left l) in omega arith
 
-      pub more_room : 10 ≤ n → Room p (figures (k - 1) (n / 10))
+      pub more_room : 10 ≤ n → a + length (figures (k - 1) (n / 10)) ≤ length o
       more_room l = let e = ap length (more_left l) in omega (arith, length-append (figures (k - 1) (n / 10)) (figure n ∷ []))
 
-      pub last-room : (q : Page) → 10 ≤ n → Wrote p (figures (k - 1) (n / 10)) q → Room q (figure n ∷ [])
-      last-room q l f =
+      pub last-room : (o₁ : List ℕ) (a₁ : ℕ) → 10 ≤ n → Put o a (figures (k - 1) (n / 10)) o₁ a₁ → a₁ + 1 ≤ length o₁
+      last-room o₁ a₁ l p =
           let e = ap length (more_left l) in
-          let a = f.put.place in
-          omega (arith, length-append (figures (k - 1) (n / 10)) (figure n ∷ []), put-length f)
+          let q = p.place in
+          omega (arith, length-append (figures (k - 1) (n / 10)) (figure n ∷ []), put-long p)
 
-    pub put_one : (p q : Page) → n < 10 → Wrote p (figure n ∷ []) q → Wrote p (figures k n) q
-    put_one p q l f = put_as (one_left l) f
+    pub put_one : (o o₁ : List ℕ) (a a₁ : ℕ) → n < 10 → Put o a (figure n ∷ []) o₁ a₁ → Put o a (figures k n) o₁ a₁
+    put_one o o₁ a a₁ l p = put_same (one_left l) p
 
-    pub put-more : (p q r : Page) → 10 ≤ n → Wrote p (figures (k - 1) (n / 10)) q → Wrote q (figure n ∷ []) r → Wrote p (figures k n) r
-    put-more p q r l f g = put_as (more_left l) (put_then f g)
+    pub put-more : (o o₁ o₂ : List ℕ) (a a₁ a₂ : ℕ) → 10 ≤ n → Put o a (figures (k - 1) (n / 10)) o₁ a₁ → Put o₁ a₁ (figure n ∷ []) o₂ a₂
+        → Put o a (figures k n) o₂ a₂
+    put-more o o₁ o₂ a a₁ a₂ l p q = put_same (more_left l) (put_on p q)
 
-  pub put-zero : (p : Page) → k ≡ 0 → Wrote p (figures k n) p
-  put-zero p e = put_as (none_left e) (put-none p)
+  pub put-zero : (o : List ℕ) (a : ℕ) → k ≡ 0 → Put o a (figures k n) o a
+  put-zero o a e = put_same (none_left e) (nothing-put o a)
 
 -- ---- a number below a power of ten has at most so many figures
 

@@ -23,7 +23,7 @@ use Rattle.report.specs.declared.text.Page.{Page}
 use Rattle.report.proofs.Figures.{at_most}
 use Rattle.report.proofs.Longest.{refused-most}
 use Rattle.report.proofs.Fitting.{small-given, small-held, fits, put-given, put-held}
-use Rattle.report.proofs.PutLaws.{put_as, put_then, put-after, room-first, room-second, of-three-1, of-three-2, of-three-3, put_three, of-four-1, of-four-2, of-four-3, of-four-4, put_four, new-room, new-put}
+use Rattle.report.proofs.PutLaws.{put_as, put_then, put_on, room-first, room-second, of-three-1, of-three-2, of-three-3, put_three, of-four-1, of-four-2, of-four-3, of-four-4, put_four, new-room, new-put}
 
 -- ---- the counts
 
@@ -154,7 +154,7 @@ module _ (c : Counts) (x y z : Measure) (hx : x ≡ precision_of c) (hy : y ≡ 
 
   pub marks-put : (o₁ o₂ : List ℕ) (a₁ a₂ : ℕ) → Put o 0 (count_lines c) o₁ a₁ → Put o₁ a₁ (measure_lines x y z) o₂ a₂
       → Put o 0 (marks_text c) o₂ a₂
-  marks-put o₁ o₂ a₁ a₂ f g = subst (λ (text : List ℕ). Put o 0 text o₂ a₂) (sym marks-text_lem) (put-after f g)
+  marks-put o₁ o₂ a₁ a₂ f g = subst (λ (text : List ℕ). Put o 0 text o₂ a₂) (sym marks-text_lem) (put_on f g)
 
   module _ (p : Page) (e : p.out.now ≡ o) (start : p.at ≡ 0) where
     module _ (room : 0 + length (marks_text c) ≤ length o) where

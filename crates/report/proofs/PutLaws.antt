@@ -1,12 +1,12 @@
 -- Putting text into a buffer: one text after another is both, one after the other. Assumes nothing.
 use mathlib.Core.Path.{◌≡◌, refl, sym, ap, subst, ◌∙◌}
-use mathlib.Core.List.{List, [], ◌∷◌, ◌++◌, append_assoc}
-use Prim.Native.Nat.{ℕ, suc, ◌+◌, ◌-◌, ◌≤◌}
+use mathlib.Core.List.{List, [], ◌∷◌, ◌++◌}
+use Prim.Native.Nat.{ℕ, suc, ◌+◌, ◌≤◌, ◌<◌}
 use native.Mathlib.Nat.{add-zero, add-suc, suc-add}
+use native.Mathlib.Numerals.{add-one}
 use native.Mathlib.Omega.{arith}
-use borrow.Rule.Slice.PartMut.{put_mid, Post-is}
-use lib.ListN.{length, take, drop, set, length-append}
-use lib.Seq.{sets, sets-eq, length-sets}
+use lib.ListN.{length, get_or, drop, set, length-append, drop_of_length-le}
+use lib.Seq.{sets, length-sets, drop-cons}
 use Rattle.report.specs.Lines.{space, decimal}
 use Rattle.report.specs.Puts.{Put, Room, Wrote, named, three, four}
 use Rattle.report.specs.declared.text.Page.{Page}
@@ -17,28 +17,35 @@ sets-append (a ∷ v) w l i =
     ap (λ (k : ℕ). sets (sets (set l i a) (suc i) v) k w) (add-suc i (length v) ∙ sym (suc-add i (length v)))
     ∙ sets-append v w (set l i a) (suc i)
 
-pub put-length : {p q : Page} {v : List ℕ} → Wrote p v q → length q.out.now ≡ length p.out.now
-put-length {p} {q} {v} f = ap length f.put.bytes ∙ length-sets p.out.now p.at v
+-- the same of bytes at a place that is no page's
+pub put-long : {o o₁ v : List ℕ} {a a₁ : ℕ} → Put o a v o₁ a₁ → length o₁ ≡ length o
+put-long {o} {o₁} {v} {a} p = ap length p.bytes ∙ length-sets o a v
 
-pub put-none : (p : Page) → Wrote p [] p
-put-none p = record { same = refl; put = record { place = sym (add-zero p.at); bytes = refl } }
+pub nothing-put : (o : List ℕ) (a : ℕ) → Put o a [] o a
+nothing-put o a = record { place = sym (add-zero a); bytes = refl }
+
+pub put_same : {o o₁ v w : List ℕ} {a a₁ : ℕ} → v ≡ w → Put o a v o₁ a₁ → Put o a w o₁ a₁
+put_same {o} {o₁} {v} {w} {a} {a₁} e p = subst (λ (x : List ℕ). Put o a x o₁ a₁) e p
+
+pub put_on : {o o₁ o₂ v w : List ℕ} {a a₁ a₂ : ℕ} → Put o a v o₁ a₁ → Put o₁ a₁ w o₂ a₂ → Put o a (v ++ w) o₂ a₂
+put_on {o} {o₁} {o₂} {v} {w} {a} {a₁} {a₂} p q =
+    let p₁ = p.place in
+    let p₂ = q.place in
+    record {
+      place = omega (arith, length-append v w);
+      bytes = q.bytes ∙ (λ i. sets (p.bytes i) (p.place i) w) ∙ sets-append v w o a;
+    }
+
+pub put-length : {p q : Page} {v : List ℕ} → Wrote p v q → length q.out.now ≡ length p.out.now
+put-length f = put-long f.put
 
 -- the same text in other words
 pub put_as : {p q : Page} {v w : List ℕ} → v ≡ w → Wrote p v q → Wrote p w q
 put_as {p} {q} e f = subst (λ (x : List ℕ). Wrote p x q) e f
 
--- one text, then another: in any buffer, and on a page
-pub put-after : {o o₁ o₂ v w : List ℕ} {a a₁ a₂ : ℕ} → Put o a v o₁ a₁ → Put o₁ a₁ w o₂ a₂ → Put o a (v ++ w) o₂ a₂
-put-after {o} {o₁} {o₂} {v} {w} {a} {a₁} {a₂} f g =
-    let p₁ = f.place in
-    let p₂ = g.place in
-    record {
-      place = omega (arith, length-append v w);
-      bytes = g.bytes ∙ (λ i. sets (f.bytes i) (f.place i) w) ∙ sets-append v w o a;
-    }
-
+-- one text, then another
 pub put_then : {p q r : Page} {v w : List ℕ} → Wrote p v q → Wrote q w r → Wrote p (v ++ w) r
-put_then f g = record { same = g.same ∙ f.same; put = put-after f.put g.put }
+put_then f g = record { same = g.same ∙ f.same; put = put_on f.put g.put }
 
 -- where both have room, so has the first, and after it the second
 pub room-first : (p : Page) (v w : List ℕ) → Room p (v ++ w) → Room p v
@@ -109,13 +116,6 @@ new-put o text p q o' e z f g =
       bytes = g ∙ f.put.bytes ∙ (λ i. sets (e i) (z i) text);
     }
 
--- a word that is copied into the middle of it
-pub put_middle : (a : ℕ) (o w v : List ℕ) → v ≡ w → a + length w ≤ length o → put_mid a (a + length w - a) o v ≡ sets o a w
-put_middle a o w v e r =
-    (λ i. take a o ++ (e i ++ Post-is a (a + length w) o (omega arith) i))
-    ∙ sym (append_assoc (take a o) w (drop (a + length w) o))
-    ∙ sym (sets-eq w o a r)
-
 -- ---- a loop that puts a text part by part: with what is left put from here on, the whole text is put
 
 pub record Left (p : Page) (whole : List ℕ) (q : Page) (left : List ℕ) : Type 0 where
@@ -159,6 +159,21 @@ module _ {p : Page} {whole : List ℕ} {q : Page} {left : List ℕ} (l : Left p 
         place = omega (arith, length-append v rest);
         bytes = (λ i. sets (f.put.bytes i) (f.put.place i) rest) ∙ sets-append v rest q.out.now q.at ∙ ap (sets q.out.now q.at) (sym e) ∙ l.bytes;
       }
+
+-- ---- one byte after another of a word
+
+module _ (p : Page) (word : List ℕ) (q : Page) (i : ℕ) (l : Left p word q (drop i word)) where
+  one-byte : i < length word → drop i word ≡ (get_or word i 0 ∷ []) ++ drop (i + 1) word
+  one-byte h = drop-cons word i 0 h ∙ ap (λ (k : ℕ). get_or word i 0 ∷ drop k word) (sym (add-one i))
+
+  pub byte-room : i < length word → Room p word → Room q (get_or word i 0 ∷ [])
+  byte-room h r = left-room l (get_or word i 0 ∷ []) (drop (i + 1) word) (one-byte h) r
+
+  pub byte_next : (r : Page) → i < length word → Wrote q (get_or word i 0 ∷ []) r → Left p word r (drop (i + 1) word)
+  byte_next r h f = left-next l (drop (i + 1) word) (one-byte h) f
+
+  pub byte_last : length word ≤ i → Wrote p word q
+  byte_last h = left-none l (drop_of_length-le word h)
 
 -- ---- a word and a number
 

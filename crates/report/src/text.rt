@@ -1,12 +1,38 @@
 // Bytes, words and numbers, put one after another into a lent buffer.
-ghost use Rattle.std.specs.Prelude.{◌≡◌, [], ◌∷◌, ◌++◌};
+ghost use Rattle.std.specs.Prelude.{◌≡◌, [], ◌∷◌, ◌++◌, ◌+◌, ◌≤◌, length};
 ghost use Rattle.report.specs.Lines.{figures, decimal};
-ghost use Rattle.report.specs.Puts.{Room, Wrote, named};
+ghost use Rattle.report.specs.Puts.{Put, Room, Wrote, named};
 
 // What stands between two words of a line, and at its end.
 pub const SPACE: u8 = b' ';
 
 pub const LINE_END: u8 = b'\n';
+
+// A byte at a place: gives the place after it. The place is no page's here, nor below, since kept in memory it makes each figure slower.
+#[inline]
+fn put_byte(out: &mut [u8], at: usize, b: u8) -> usize
+    requires { at + 1 ≤ length out.old }
+    ensures { Put out.old at (b ∷ []) out.new result }
+{
+    out[at] = b;
+    at + 1
+}
+
+// The last figures of a number, at most k of them.
+fn put_figures(out: &mut [u8], at: usize, k: u8, n: usize) -> usize
+    requires { at + length (figures k n) ≤ length out.old }
+    ensures { Put out.old at (figures k n) out.new result }
+{
+    if k == 0 {
+        return at;
+    }
+    let last = b'0' + (n % 10) as u8;
+    if n < 10 {
+        return put_byte(out, at, last);
+    }
+    let next = put_figures(out, at, k - 1, n / 10);
+    put_byte(out, next, last)
+}
 
 // A lent buffer, and the place where the next byte goes.
 #[derive(Drop)]
@@ -25,6 +51,7 @@ impl<'a> Page<'a> {
     }
 
     // One byte.
+    #[inline]
     pub fn byte(&mut self, b: u8)
         requires { Room self.old (b ∷ []) }
         ensures { Wrote self.old (b ∷ []) self.new }
@@ -33,17 +60,19 @@ impl<'a> Page<'a> {
         self.at += 1;
     }
 
-    // A fixed byte string.
+    // A fixed byte string, byte by byte: most are of one byte, and a copy is slower for so few.
+    #[inline]
     fn bytes(&mut self, word: &[u8])
         requires { Room self.old word.now }
         ensures { Wrote self.old word.now self.new }
     {
-        let end = self.at + word.len();
-        self.out[self.at..end].copy_from_slice(word);
-        self.at = end;
+        for &b in word {
+            self.byte(b);
+        }
     }
 
     // A word, and the byte that ends it: a space, or the end of the line.
+    #[inline]
     pub fn word(&mut self, word: &[u8], end: u8)
         requires { Room self.old (word.now ++ (end ∷ [])) }
         ensures { Wrote self.old (word.now ++ (end ∷ [])) self.new }
@@ -52,30 +81,18 @@ impl<'a> Page<'a> {
         self.byte(end);
     }
 
-    // The last figures of a number, at most k of them.
-    fn figures(&mut self, k: u8, n: usize)
-        requires { Room self.old (figures k n) }
-        ensures { Wrote self.old (figures k n) self.new }
-    {
-        if k == 0 {
-            return;
-        }
-        if 10 <= n {
-            self.figures(k - 1, n / 10);
-        }
-        self.byte(b'0' + (n % 10) as u8);
-    }
-
     // A number in decimal, and the byte that ends it.
+    #[inline]
     pub fn number(&mut self, n: usize, end: u8)
         requires { Room self.old (decimal n ++ (end ∷ [])) }
         ensures { Wrote self.old (decimal n ++ (end ∷ [])) self.new }
     {
-        self.figures(5, n);
+        self.at = put_figures(self.out, self.at, 5, n);
         self.byte(end);
     }
 
     // A word, a space, a number, and the byte that ends it.
+    #[inline]
     pub fn named(&mut self, word: &[u8], n: usize, end: u8)
         requires { Room self.old (named word.now n end) }
         ensures { Wrote self.old (named word.now n end) self.new }
