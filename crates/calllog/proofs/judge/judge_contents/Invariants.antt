@@ -9,4 +9,3 @@ use Rattle.calllog.proofs.judge.judge_contents.Given as goal
 
 abbrev pub invariant-loop-k : goal.invariant-loop-k
 invariant-loop-k l = (l.k-end ≡ traces_in l.bytes) × (l.events ≡ events_before l.bytes l.k) × (l.events ≤ most_events) × (first_refusal l.k (entry_of l.bytes) ≡ Done)
-
