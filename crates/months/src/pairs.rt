@@ -105,7 +105,6 @@ impl Cuts {
         ensures now_seen { self.new.seen ≡ seen_with self.old.seen e.0 }
         ensures now_firsts { self.new.firsts ≡ firsts_with self.old.firsts self.old.seen e.0 }
     {
-        // Read before a gap is written, so that it's read once.
         let seen = self.seen;
         self.widen(e);
         if seen.set.has(e) {
