@@ -178,5 +178,3 @@ module _ (table : List ℕ) (g : Graph) where
   pub close-done : (p : ℕ) → close_answer g table p ≡ Done → (table_length (form_of g) ≤ length table) × T (is_open (form_of g) table p)
   unfolding close_answer
   close-done p h = let all = place-done (form_of g) table p (closing g (marking_at_place (form_of g) table p)) h in (all.0, all.1)
-
-pub ruleset serving = (table_same, table-new, opened-none, opened-at)

@@ -131,8 +131,6 @@ module _ (rows : List ℕ) where
               same = those-ext (in_all rows out' rest') (in_all rows out rest) (λ a l. T-ext _ _ (was a l) (now a l)) ∙ inv.same;
             }
 
-pub ruleset narrowing = (narrow_start, narrow-none, narrow-end, narrow-turn)
-
 -- the same turn, by an iterator over the members
 module _ (rows : List ℕ) (live owed out rest : Set) (inv : Narrowing rows live owed out rest) where
   pub narrow-taken : (out' rest' : Set) (k : ℕ) → Takes rest k rest' → out' ≡ those (λ a. mem out a and in_row rows k a)
