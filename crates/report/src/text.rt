@@ -36,13 +36,13 @@ fn put_figures(out: &mut [u8], at: usize, k: u8, n: usize) -> usize
 
 // A lent buffer, and the place where the next byte goes.
 #[derive(Drop)]
-pub struct Page<'a> {
+pub(crate) struct Page<'a> {
     out: &'a mut [u8],
-    pub at: usize,
+    pub(crate) at: usize,
 }
 
 impl<'a> Page<'a> {
-    pub fn new(out: &'a mut [u8]) -> Page<'a>
+    pub(crate) fn new(out: &'a mut [u8]) -> Page<'a>
         ensures same_buffer { result.out.ghost_name ≡ out.entry.ghost_name }
         ensures bytes { result.out.now ≡ out.old }
         ensures place { result.at ≡ 0 }
@@ -52,7 +52,7 @@ impl<'a> Page<'a> {
 
     // One byte.
     #[inline]
-    pub fn byte(&mut self, b: u8)
+    pub(crate) fn byte(&mut self, b: u8)
         requires { Room self.old (b ∷ []) }
         ensures { Wrote self.old (b ∷ []) self.new }
     {
@@ -73,7 +73,7 @@ impl<'a> Page<'a> {
 
     // A word, and the byte that ends it: a space, or the end of the line.
     #[inline]
-    pub fn word(&mut self, word: &[u8], end: u8)
+    pub(crate) fn word(&mut self, word: &[u8], end: u8)
         requires { Room self.old (word.now ++ (end ∷ [])) }
         ensures { Wrote self.old (word.now ++ (end ∷ [])) self.new }
     {
@@ -83,7 +83,7 @@ impl<'a> Page<'a> {
 
     // A number in decimal, and the byte that ends it.
     #[inline]
-    pub fn number(&mut self, n: usize, end: u8)
+    pub(crate) fn number(&mut self, n: usize, end: u8)
         requires { Room self.old (decimal n ++ (end ∷ [])) }
         ensures { Wrote self.old (decimal n ++ (end ∷ [])) self.new }
     {
@@ -93,7 +93,7 @@ impl<'a> Page<'a> {
 
     // A word, a space, a number, and the byte that ends it.
     #[inline]
-    pub fn named(&mut self, word: &[u8], n: usize, end: u8)
+    pub(crate) fn named(&mut self, word: &[u8], n: usize, end: u8)
         requires { Room self.old (named word.now n end) }
         ensures { Wrote self.old (named word.now n end) self.new }
     {
