@@ -4,18 +4,21 @@ use mathlib.Core.Path.{◌≡◌, refl, sym, ap, ap₂, ◌∙◌, subst}
 use mathlib.Core.Bool.{Bool, true, false}
 use mathlib.Core.List.{List}
 use Prim.Native.Nat.{ℕ, ◌-◌, ◌≤◌, ◌<◌}
+use lib.ListN.{length}
 use native.Mathlib.Omega.{arith}
 use borrow.Author.Rules.{rules}
 use borrow.Author.Tests.{ltb-true, ltb-false}
 use lib.Dec.{T, eqb, eqb→eq, eqb_refl, ltb}
 use Rattle.sets.specs.Tests.{◌and◌, ◌or◌, non}
-use Rattle.sets.specs.Members.{no_set, width, word, mem, those, is_empty, least_below, within, Takes}
-use Rattle.sets.specs.Rows.{row_at, in_row}
+use Rattle.sets.specs.Members.{no_set, width, word, mem, those, is_empty, some_below, least_below, within, Takes}
+use Rattle.sets.specs.Rows.{row_words, row_at, in_row}
+use Rattle.sets.specs.Tables.{table_at}
 use Rattle.sets.specs.declared.set.Set.{Set}
 use Rattle.sets.proofs.Tests.{and_i, and_l, and_r, or-e, or_l, or_r, non-i, non-e, T-ext, T-eq, T→true, true→T, false→F, F→false, split, either}
 use Rattle.sets.proofs.Below.{some-i, some-e, least-is, least-before}
-use Rattle.sets.proofs.Members.{Whole, mem-none, none-those, those-ext, those-of, empty-e, within-e}
-use Rattle.sets.proofs.Passing.{least-low}
+use Rattle.sets.proofs.Members.{Whole, mem-none, none-those, those-ext, those-of, empty-e, within-e, within-i}
+use Rattle.sets.proofs.Passing.{Part, least-low}
+use Rattle.sets.proofs.TableLaws.{row-alone}
 use Rattle.sets.proofs.MadeSets.{Is, is-those, is_row}
 use Rattle.steps.specs.Rowwise.{reduced_of, fits}
 
@@ -99,6 +102,14 @@ judging-first rows s from h =
 pub judging-from : (rows : List ℕ) (s : ℕ) (from rest : Set) → Is from (in_row rows s) → rest ≡ from → Judging rows s no_set from rest
 judging-from rows s from rest h e = subst (λ (m : Set). Judging rows s no_set from m) (sym e) (judging-first rows s from h)
 
+-- what is said of each event's row holds of the row of the source at hand
+pub source-fits : (wide : Bool) (rows : List ℕ) (events all rest rest' : Set) (s : ℕ)
+    → ((a : ℕ) → a < width → mem events a ≡ true → fits wide rows a ≡ true) → all ≡ events → Part all rest → Takes rest s rest'
+    → fits wide rows s ≡ true
+source-fits wide rows events all rest rest' s h e p t =
+    let first = lowest-first rest s _ refl t.0 t.1 in
+    h s first.low (T→true _ (subst (λ (n : Set). T (mem n s)) e (p s first.low first.here)))
+
 -- in the narrow form the row lies below 64
 narrow-within : (wide : Bool) (rows : List ℕ) (s : ℕ) → fits wide rows s ≡ true → wide ≡ false → within (row_at rows s) (those (λ b. ltb b word)) ≡ true
 unfolding fits ◌or◌
@@ -116,6 +127,17 @@ pub fits-narrow : (rows : List ℕ) (s : ℕ) (row low : Set) (r : Bool) → row
     → r ≡ true → fits false rows s ≡ true
 unfolding fits ◌or◌
 fits-narrow rows s row low r hw hl hr ht = ap₂ within (sym hw) (sym hl) ∙ sym hr ∙ ht
+
+-- where all that stands in the events' rows lies below 64, each of these rows does
+pub all-fit : (rows : List ℕ) (events all low : Set) (r : Bool) → length rows ≡ row_words
+    → all ≡ those (λ x. some_below width (λ u. mem events u and in_row (table_at rows 0) u x)) → low ≡ those (λ b. ltb b word)
+    → r ≡ within all low → r ≡ true → (a : ℕ) → a < width → mem events a ≡ true → fits false rows a ≡ true
+unfolding in_row
+all-fit rows events all low r long ha hl hr ht a l m =
+    fits-narrow rows a (row_at rows a) low (within (row_at rows a) low) refl hl refl
+    (T→true _ (within-i (row_at rows a) low (λ x lx t.
+    within-e all low (true→T (sym hr ∙ ht)) x lx
+    (T-eq (sym (is-those all _ ha x lx)) (some-i width _ a l (and_i _ _ (true→T m) (subst (λ (s : Set). T (mem s x)) (sym (row-alone rows long a _ refl)) t)))))))
 
 pub fits-wide : (rows : List ℕ) (s : ℕ) → fits true rows s ≡ true
 unfolding fits ◌or◌
