@@ -169,7 +169,9 @@ module _ (c : Counts) (x y z : Measure) (hx : x ≡ precision_of c) (hy : y ≡ 
 
     pub marks-paged : (q r : Page) (o' : List ℕ) → Wrote p (count_lines c) q → Wrote q (measure_lines x y z) r → o' ≡ r.out.now
         → Put o 0 (marks_text c) o' r.at
-    marks-paged q r o' f g h = new-put o _ p r o' e start (put_as (sym marks-text_lem) (put_then f g)) h
+    marks-paged q r o' f g h =
+        marks-put q.out.now o' q.at r.at (new-put o (count_lines c) p q q.out.now e start f refl)
+        (subst (λ (l : List ℕ). Put q.out.now q.at (measure_lines x y z) l r.at) (sym h) g.put)
 
 -- ---- how long they are
 
