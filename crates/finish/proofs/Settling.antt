@@ -1,5 +1,5 @@
 -- Which steps can be the last: the table of what settles what, how it narrows a set, and that no step is lost by it. Assumes nothing.
-use mathlib.Core.Path.{◌≡◌, refl, sym, ap, ap₂, subst, ◌∙◌}
+use mathlib.Core.Path.{◌≡◌, refl, sym, ap, subst, ◌∙◌}
 use mathlib.Core.Bool.{Bool, true, false}
 use mathlib.Core.List.{List}
 use Prim.Native.Nat.{ℕ, ◌-◌, ◌<◌}
@@ -8,17 +8,17 @@ use borrow.Author.Tests.{eq-eqb, ne_eqb, eqb-true}
 use lib.Dec.{T, eqb, eqb→eq}
 use Rattle.sets.specs.Tests.{◌and◌, ◌or◌, non, when◌then◌else◌}
 use Rattle.sets.specs.Members.{width, mem, those, no_set, some_below, least_below, is_empty, Takes}
-use Rattle.sets.specs.Rows.{Relation, no_rows, row_at, with_row, in_row, rows_of, rows_for, turned}
+use Rattle.sets.specs.Rows.{row_at, in_row, rows_of, rows_for, turned}
 use Rattle.sets.specs.Tables.{table_at}
 use Rattle.sets.specs.Answers.{is_done}
 use Rattle.sets.specs.declared.set.Set.{Set}
-use Rattle.sets.proofs.Tests.{and_l, and_r, and_i, or_l, or_r, non-i, non-e, imp-i, imp-e, true-and, false-and, or-true, or-false}
+use Rattle.sets.proofs.Tests.{and_l, and_r, and_i, or_l, or_r, non-i, non-e, imp-i, imp-e}
 use Rattle.sets.proofs.Tests.{T-eq, T-ext, true→T, F→false, split, either}
 use Rattle.sets.proofs.Below.{some-i, some-e, every-i, every-e, least-is}
 use Rattle.sets.proofs.Members.{Fits, Whole, those-ext, those-mem, those-i, those-e, none-those, some-of_lem, empty-e, empty-none, whole-empty}
-use Rattle.sets.proofs.RowLaws.{in-rows_of, put-rows_of, rows_of-ext, empty-rows_of}
+use Rattle.sets.proofs.RowLaws.{in-rows_of}
 use Rattle.sets.proofs.MadeSets.{is-those, is_row, joined, less, where-true, where-false}
-use Rattle.sets.proofs.Passing.{Part, passed, passed_none, passed-all, passed-turn, part-turn, least-low}
+use Rattle.sets.proofs.Passing.{least-low}
 use Rattle.engine.specs.declared.marking.State.{State}
 use Rattle.engine.specs.Relations.{Relations, in_tables}
 use Rattle.engine.specs.Steps.{enabled, after, accepting}
@@ -143,40 +143,6 @@ module _ (rows : List ℕ) (live owed out rest : Set) (inv : Narrowing rows live
 
   pub narrow-cut : (all : Set) (d : Bool) → d ≡ is_empty out → d ≡ true → owed ≡ all → out ≡ those (in_all rows live all)
   narrow-cut all d h t same = narrow-none rows live owed out rest inv d h t ∙ ap (λ (s : Set). those (in_all rows live s)) same
-
--- ---- rows that are filled at each member passed
-
-module _ (F : Relation) (all : Set) where
-  abbrev pub Filled : Set → List ℕ → Type 0
-  Filled rest out = (Part all rest) × (out ≡ rows_of (λ a x. passed all rest a and F a x))
-
-  pub fill-start : (out : List ℕ) → out ≡ no_rows → Filled all out
-  fill-start out e = (
-    λ a l t. t,
-    e ∙ empty-rows_of (λ a x. passed all all a and F a x) (λ a x la lx. ap (λ (t : Bool). t and F a x) (passed_none all a) ∙ false-and (F a x)),
-  )
-
-  pick : (i a x : ℕ) (b c t : Bool) → eqb a i ≡ t → c ≡ (b or t) → (when t then F i x else (b and F a x)) ≡ (c and F a x)
-  pick i a x b c true e h = ap (λ (n : ℕ). F n x) (sym (eqb-true a i e)) ∙ sym (true-and (F a x)) ∙ ap (λ (q : Bool). q and F a x) (sym (h ∙ or-true b))
-  pick i a x b c false e h = ap (λ (q : Bool). q and F a x) (sym (h ∙ or-false b))
-
-  pub fill-taken : (rest rest' : Set) (k : ℕ) (row : Set) (out out' : List ℕ) → Filled rest out → Takes rest k rest' → row ≡ those (F k)
-      → out' ≡ with_row out k row → Filled rest' out'
-  fill-taken rest rest' k row out out' inv t hr h = (
-    part-turn rest rest' _ refl t.0 t.2 all inv.0,
-    h ∙ ap₂ (λ (r : List ℕ) (u : Set). with_row r k u) inv.1 hr ∙ put-rows_of (λ a x. passed all rest a and F a x) k (F k)
-        ∙ rows_of-ext (λ a x. when eqb a k then F k x else (passed all rest a and F a x)) (λ a x. passed all rest' a and F a x)
-        (λ a x la lx.
-        pick k a x (passed all rest a) (passed all rest' a) (eqb a k) refl
-        (passed-turn rest rest' _ refl t.0 t.2 all inv.0 a la ∙ ap (λ (n : ℕ). passed all rest a or eqb a n) (sym t.1))),
-  )
-
-  pub fill-whole : (rest whole : Set) (out : List ℕ) → Filled rest out → is_empty rest ≡ true → all ≡ whole → out ≡ rows_for whole F
-  unfolding rows_for
-  fill-whole rest whole out inv n same =
-      inv.1
-      ∙ rows_of-ext (λ a x. passed all rest a and F a x) (λ a x. mem whole a and F a x)
-      (λ a x la lx. ap (λ (t : Bool). t and F a x) (passed-all all rest _ refl n a la ∙ ap (λ (s : Set). mem s a) same))
 
 -- ---- the steps to try
 

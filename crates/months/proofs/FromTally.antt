@@ -12,13 +12,13 @@ use Rattle.sets.specs.Members.{width, mem, those, no_set, some_below, is_empty, 
 use Rattle.sets.specs.Rows.{Relation, row_words, no_rows, row_at, with_row, in_row, rows_of, rows_for}
 use Rattle.sets.specs.Tables.{no_tables, table_at, with_table, tables_of}
 use Rattle.sets.specs.declared.set.Set.{Set}
-use Rattle.sets.proofs.Tests.{T-ext, true-and, false-and, or-true, or-false}
+use Rattle.sets.proofs.Tests.{T-ext, true-and, false-and}
 use Rattle.sets.proofs.Below.{some-ext}
 use Rattle.sets.proofs.Members.{Whole, those-ext}
 use Rattle.sets.proofs.MadeSets.{is-those, is_row, joined, less}
 use Rattle.sets.proofs.RowLaws.{row-in_lem, row-rows_of, in-rows_of, rows_of-ext, empty-rows_of, put-rows_of}
 use Rattle.sets.proofs.TableLaws.{table-row-is, tables_of-ext, empty-tables_of, fill-tables_of}
-use Rattle.sets.proofs.Passing.{Part, passed, passed_none, passed-all, passed-turn, part-turn, in_some, union-start, union-turn, union-whole, least-low}
+use Rattle.sets.proofs.Passing.{Part, passed, in_some, union-start, union-turn, union-whole, least-low}
 use Rattle.octets.specs.Sets.{set_length}
 use Rattle.octets.proofs.Codec.{Bytes}
 use Rattle.octets.proofs.SetLaws.{set-whole}
@@ -106,43 +106,6 @@ module _ (R : Relation) (all : Set) where
   gather-end out rest whole inv n same =
       union-whole (rows_of R) all out rest whole inv.1 n same
       ∙ those-ext _ _ (λ x lx. some-ext width _ _ (λ u lu. ap (λ (b : Bool). mem whole u and b) (in-rows_of R u x lu lx)))
-
--- ---- a row for each member that was passed
-
-abbrev pub FilledFrom : Relation → Set → List ℕ → Set → Type 0
-FilledFrom F all out rest = (Part all rest) × (out ≡ rows_of (λ a x. passed all rest a and F a x))
-
-module _ (F : Relation) (all : Set) where
-  pub fill-start : (out : List ℕ) → out ≡ no_rows → FilledFrom F all out all
-  fill-start out h = (
-    λ a l t. t,
-    h ∙ empty-rows_of _ (λ a x la lx. ap (λ (b : Bool). b and F a x) (passed_none all a) ∙ false-and (F a x)),
-  )
-
-  pub fill-turn : (out out' : List ℕ) (row rest rest' : Set) (k : ℕ) → FilledFrom F all out rest → Takes rest k rest' → row ≡ those (F k)
-      → out' ≡ with_row out k row → FilledFrom F all out' rest'
-  fill-turn out out' row rest rest' k inv t hr h = (
-    part-turn rest rest' _ refl t.0 t.2 all inv.0,
-    h ∙ ap₂ (λ (l : List ℕ) (s : Set). with_row l k s) inv.1 hr ∙ put-rows_of (λ a x. passed all rest a and F a x) k (F k)
-        ∙ rows_of-ext _ _ (λ a x la lx. by a x la (eqb a k) refl),
-  )
-    where
-      more : (a : ℕ) → a < width → (b : Bool) → eqb a k ≡ b → (passed all rest a or b) ≡ passed all rest' a
-      more a la b e =
-          ap (λ (c : Bool). passed all rest a or c) (sym e ∙ ap (eqb a) t.1) ∙ sym (passed-turn rest rest' _ refl t.0 t.2 all inv.0 a la)
-
-      by : (a x : ℕ) → a < width → (b : Bool) → eqb a k ≡ b
-          → (when b then F k x else (passed all rest a and F a x)) ≡ (passed all rest' a and F a x)
-      by a x la true e =
-          ap (λ (n : ℕ). F n x) (sym (eqb-true a k e)) ∙ sym (true-and (F a x))
-          ∙ ap (λ (b : Bool). b and F a x) (sym (or-true (passed all rest a)) ∙ more a la true e)
-      by a x la false e = ap (λ (b : Bool). b and F a x) (sym (or-false (passed all rest a)) ∙ more a la false e)
-
-  pub fill-end : (out : List ℕ) (rest whole : Set) → FilledFrom F all out rest → is_empty rest ≡ true → all ≡ whole → out ≡ rows_for whole F
-  unfolding rows_for
-  fill-end out rest whole inv n same =
-      inv.1 ∙ rows_of-ext _ (λ a x. mem whole a and F a x)
-      (λ a x la lx. ap (λ (b : Bool). b and F a x) (passed-all all rest _ refl n a la ∙ ap (λ (s : Set). mem s a) same))
 
 -- what is read of one pair
 pub pair-those : (tally : List ℕ) (u s : ℕ) (r : Set) → (r ≡ set_in tally (pair_set u s)) × (those (mem r) ≡ r)

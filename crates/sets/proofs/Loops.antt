@@ -7,19 +7,20 @@ use Prim.Native.Nat.{ℕ, ◌+◌, ◌-◌, ◌/◌, ◌^◌, ◌≤◌, ◌<◌
 use native.Mathlib.Nat.{zero-add, lt_of_le_of_lt}
 use native.Mathlib.Omega.{arith}
 use borrow.Author.Tests.{lt-ltb, le-ltb, ltb-true, ltb-false, eqb-true, eqb-false}
-use lib.Dec.{T, eqb, eqb→eq, ltb}
+use lib.Dec.{T, eqb, ltb}
 use lib.Pow.{shr_le}
 use lib.Count.{count_trailing_zeros}
 use Rattle.sets.specs.Tests.{◌and◌, ◌or◌, when◌then◌else◌}
-use Rattle.sets.specs.Members.{width, word, bit, mem, those, no_set, least_below, next_above}
+use Rattle.sets.specs.Members.{width, word, bit, mem, those, no_set, least_below, next_above, is_empty, Takes}
 use Rattle.sets.specs.Rows.{Relation, no_rows, row_at, with_row, rows_of, rows_for, turned}
 use Rattle.sets.specs.declared.set.Set.{Set}
-use Rattle.sets.proofs.Tests.{T-ext, and_l, and_r, and_i, or-e, or_l, or_r, T→true, true→T, F→false, false→F, true-and, false-and, and-true, and-false, or-true, or-false, false-or, split, either}
+use Rattle.sets.proofs.Tests.{and_l, and_r, and_i, T→true, true→T, F→false, false→F, true-and, false-and, and-true, and-false, or-true, or-false, false-or, split, either}
 use Rattle.sets.proofs.Bits.{bit-above, bit-shr, bit-shr-none}
-use Rattle.sets.proofs.Below.{least-ext, least-le, least_lt, least-is, least-before, least-only, least-past, trailing-least}
+use Rattle.sets.proofs.Below.{least-ext, least_lt, least-is, least-before, least-only, least-past, trailing-least}
 use Rattle.sets.proofs.RowLaws.{put-rows_of, rows_of-ext, empty-rows_of}
 use Rattle.sets.proofs.Members.{mem-low, mem-high, by_word, word_some, those-ext, those-of}
 use Rattle.sets.proofs.MadeSets.{Is, is-those, is_row, none}
+use Rattle.sets.proofs.Passing.{Part, passed, passed_none, passed-all, part-turn, passed-turn, least-low}
 
 -- ---- from one member to the next
 
@@ -95,127 +96,49 @@ module _ (s : Set) (n : ℕ) where
 
 pub ruleset nexts = (next_low, next-over, next-high, next-none, next_past)
 
--- the members below i: those that a loop has passed
-unfoldable pub below : Set → ℕ → ℕ → Bool
-below s i a = mem s a and ltb a i
-
--- where a loop over the members stands: at one of them, or past all
-pub record At (s : Set) (i : ℕ) : Type 0 where
-  pub reached : i ≤ width
-  pub member : i < width → T (mem s i)
-
-module _ (s : Set) where
-  at_first : (i : ℕ) → i ≡ least_below width (mem s) → At s i
-  at_first i e =
-      record {
-        reached = subst (λ (n : ℕ). n ≤ width) (sym e) (least-le width (mem s));
-        member = λ l. subst (λ (n : ℕ). T (mem s n)) (sym e) (least-is width (mem s) (subst (λ (n : ℕ). n < width) e l));
-      }
-
-  -- the next one is a member, and above
-  next-in : (i i' : ℕ) → i' ≡ next_above s i → i' < width → T (mem s i' and ltb i i')
-  unfolding next_above
-  next-in i i' e l =
-      subst (λ (n : ℕ). T (mem s n and ltb i n)) (sym e) (least-is width (λ b. mem s b and ltb i b) (subst (λ (n : ℕ). n < width) e l))
-
-  at_next : (i i' : ℕ) → i' ≡ next_above s i → At s i'
-  unfolding next_above
-  at_next i i' e =
-      record {
-        reached = subst (λ (n : ℕ). n ≤ width) (sym e) (least-le width (λ b. mem s b and ltb i b));
-        member = λ l. and_l _ _ (next-in i i' e l);
-      }
-
-  above : (i i' : ℕ) → i < width → i' ≡ next_above s i → i < i'
-  above i i' l e =
-      either (split (ltb i' width))
-      (λ t. ltb-true i i' (T→true _ (and_r _ _ (next-in i i' e (ltb-true i' width (T→true _ t))))))
-      (λ g. let far : width ≤ i' = ltb-false i' width (F→false _ g) in omega arith)
-
-  pub nearer : (i i' : ℕ) → i < width → i' ≡ next_above s i → width - i' < width - i
-  nearer i i' l e = omega (arith, above i i' l e)
-
-  below-first : (i : ℕ) → i ≡ least_below width (mem s) → (a : ℕ) → below s i a ≡ false
-  unfolding below
-  below-first i e a =
-      F→false (mem s a and ltb a i)
-      (λ t. false→F (least-before width (mem s) a (subst (λ (n : ℕ). a < n) e (ltb-true a i (T→true _ (and_r _ _ t))))) (and_l _ _ t))
-
-  below_next : (i i' : ℕ) → At s i → i < width → i' ≡ next_above s i → (a : ℕ) → below s i' a ≡ (below s i a or eqb a i)
-  unfolding below next_above
-  below_next i i' h l e a =
-      T-ext (mem s a and ltb a i') (mem s a and ltb a i or eqb a i) there (λ t. either (or-e _ _ t) lower same)
-    where
-      between : T (mem s a) → T (ltb a i') → (T (ltb a i) → ⊥) → (T (eqb a i) → ⊥) → ⊥
-      between m t g d =
-          let up : i ≤ a = ltb-false a i (F→false _ g) in
-          let other = eqb-false a i (F→false _ d) in
-          either (split (ltb i a))
-          (λ k. false→F (least-before width (λ b. mem s b and ltb i b) a (subst (λ (n : ℕ). a < n) e (ltb-true a i' (T→true _ t)))) (and_i _ _ m k))
-          (λ k. let down : a ≤ i = ltb-false i a (F→false _ k) in other (omega arith))
-
-      there : T (mem s a and ltb a i') → T (mem s a and ltb a i or eqb a i)
-      there t =
-          either (split (ltb a i)) (λ b. or_l _ _ (and_i _ _ (and_l _ _ t) b))
-          (λ g. either (split (eqb a i)) (λ q. or_r _ _ q) (λ d. absurd (between (and_l _ _ t) (and_r _ _ t) g d)))
-
-      lower : T (mem s a and ltb a i) → T (mem s a and ltb a i')
-      lower t =
-          let low : a < i = ltb-true a i (T→true _ (and_r _ _ t)) in
-          let up : i < i' = above i i' l e in
-          and_i _ _ (and_l _ _ t) (T-lt a i' (omega arith))
-
-      same : T (eqb a i) → T (mem s a and ltb a i')
-      same q =
-          let here : a ≡ i = eqb→eq a i q in
-          let up : i < i' = above i i' l e in
-          and_i _ _ (subst (λ (n : ℕ). T (mem s n)) (sym here) (h.member l)) (T-lt a i' (omega arith))
-
-  below_all : (i a : ℕ) → width ≤ i → a < width → below s i a ≡ mem s a
-  unfolding below
-  below_all i a h l = ap (λ (t : Bool). mem s a and t) (lt-ltb a i (omega arith)) ∙ and-true (mem s a)
-
 -- ---- a loop that fills row by row, at the members of a set
 
--- the pairs of a relation at the members below i
-unfoldable pub up_to : Set → Relation → ℕ → Relation
-up_to s F i a x = below s i a and F a x
+-- the rows of the members passed are those of the relation, all others empty
+pub record Filled (all : Set) (F : Relation) (out : List ℕ) (rest : Set) : Type 0 where
+  pub part : Part all rest
+  pub rows : out ≡ rows_of (λ a x. passed all rest a and F a x)
 
-pub record Filled (s : Set) (F : Relation) (out : List ℕ) (i : ℕ) : Type 0 where
-  pub at : At s i
-  pub rows : out ≡ rows_of (up_to s F i)
-
-module _ (s : Set) (F : Relation) where
-  pub fill_start : (i : ℕ) (out : List ℕ) → out ≡ no_rows → i ≡ least_below width (mem s) → Filled s F out i
-  unfolding up_to
-  fill_start i out e h =
+module _ (F : Relation) where
+  pub fill_start : (all : Set) (out : List ℕ) → out ≡ no_rows → Filled all F out all
+  fill_start all out e =
       record {
-        at = at_first s i h;
-        rows = e ∙ empty-rows_of (up_to s F i) (λ a x la lx. ap (λ (t : Bool). t and F a x) (below-first s i h a) ∙ false-and (F a x));
+        part = λ a l t. t;
+        rows = e ∙ empty-rows_of _ (λ a x la lx. ap (λ (t : Bool). t and F a x) (passed_none all a) ∙ false-and (F a x));
       }
 
   pick : (i a x : ℕ) (b c t : Bool) → eqb a i ≡ t → c ≡ (b or t) → (when t then F i x else (b and F a x)) ≡ (c and F a x)
   pick i a x b c true e h = ap (λ (n : ℕ). F n x) (sym (eqb-true a i e)) ∙ sym (true-and (F a x)) ∙ ap (λ (q : Bool). q and F a x) (sym (h ∙ or-true b))
   pick i a x b c false e h = ap (λ (q : Bool). q and F a x) (sym (h ∙ or-false b))
 
-  pub fill-turn : (i i' : ℕ) (row : Set) (out out' : List ℕ) → Filled s F out i → i < width → row ≡ those (F i) → out' ≡ with_row out i row
-      → i' ≡ next_above s i → Filled s F out' i'
-  unfolding up_to
-  fill-turn i i' row out out' inv l hr h e =
-      record {
-        at = at_next s i i' e;
-        rows =
-            h ∙ ap₂ (λ (r : List ℕ) (u : Set). with_row r i u) inv.rows hr ∙ put-rows_of (up_to s F i) i (F i)
-            ∙ rows_of-ext (λ a x. when eqb a i then F i x else up_to s F i a x) (up_to s F i')
-            (λ a x la lx. pick i a x (below s i a) (below s i' a) (eqb a i) refl (below_next s i i' inv.at l e a));
-      }
+  module _ {all rest : Set} {out : List ℕ} (inv : Filled all F out rest) where
+    -- the row of a member need be that of the relation below the width alone, where members are
+    pub fill-turn : (k : ℕ) (rest' row : Set) (out' : List ℕ) → Takes rest k rest' → (k < width → row ≡ those (F k)) → out' ≡ with_row out k row
+        → Filled all F out' rest'
+    fill-turn k rest' row out' t hr h =
+        record {
+          part = part-turn rest rest' _ refl t.0 t.2 all inv.part;
+          rows =
+              h ∙ ap₂ (λ (l : List ℕ) (s : Set). with_row l k s) inv.rows (hr low) ∙ put-rows_of (λ a x. passed all rest a and F a x) k (F k)
+              ∙ rows_of-ext _ _
+              (λ a x la lx. pick k a x (passed all rest a) (passed all rest' a) (eqb a k) refl
+              (passed-turn rest rest' _ refl t.0 t.2 all inv.part a la ∙ ap (λ (n : ℕ). passed all rest a or eqb a n) (sym t.1)));
+        }
+      where
+        low : k < width
+        low = subst (λ (n : ℕ). n < width) (sym t.1) (least-low rest rest' _ refl t.0 t.2)
 
-  pub fill_end : (i : ℕ) (out : List ℕ) → Filled s F out i → width ≤ i → out ≡ rows_for s F
-  unfolding up_to rows_for
-  fill_end i out inv h =
-      inv.rows ∙ rows_of-ext (up_to s F i) (λ a x. mem s a and F a x) (λ a x la lx. ap (λ (t : Bool). t and F a x) (below_all s i a h la))
+    pub fill_end : (whole : Set) → is_empty rest ≡ true → all ≡ whole → out ≡ rows_for whole F
+    unfolding rows_for
+    fill_end whole h e =
+        inv.rows ∙ rows_of-ext _ (λ a x. mem whole a and F a x)
+        (λ a x la lx. ap (λ (t : Bool). t and F a x) (passed-all all rest _ refl h a la ∙ ap (λ (s : Set). mem s a) e))
 
-pub ruleset filling = (fill_start, fill-turn, fill_end, nearer)
+pub ruleset filling = (fill_start, fill-turn, fill_end)
 
 -- ---- one number further, where all are passed
 

@@ -1,4 +1,3 @@
 -- The modules of `proofs/` that belong to no one function.
-pub mod Filling
 pub mod Reduction
 pub mod Sources

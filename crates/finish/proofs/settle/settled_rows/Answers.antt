@@ -1,12 +1,12 @@
 use borrow.Author.Rules.{rules}
-use Rattle.finish.proofs.Settling.{fill-start, fill-taken, fill-whole}
+use Rattle.sets.proofs.Loops.{filling, fill-turn}
 use Rattle.finish.proofs.settle.settled_rows.Goals as goal
 
 pub loop-a-init : goal.loop-a-init
-loop-a-init c = search (fill-start, rules)
+loop-a-init c = search (filling, rules)
 
 pub loop-a-preserved : goal.loop-a-preserved
-loop-a-preserved c = fill-taken _ _ _ _ _ _ _ _ c.loop-a.invariant c.in-Some.ensures.steps c.settled.ensures c.put.ensures
+loop-a-preserved c = fill-turn _ c.loop-a.invariant _ _ _ _ c.in-Some.ensures.steps (λ l. c.settled.ensures) c.put.ensures
 
 pub returns : goal.returns
-returns c = fill-whole _ _ _ _ _ c.loop-a.invariant c.in-None.ensures.steps.0 (search rules)
+returns c = search (filling, rules)

@@ -1,7 +1,7 @@
 use Prim.Native.Nat.{◌-◌}
 use Rattle.sets.specs.Members.{width, mem, least_below}
+use Rattle.sets.proofs.Loops.{Filled}
 use Rattle.steps.specs.Rowwise.{reduced_of}
-use Rattle.steps.proofs.Filling.{Filled}
 use Rattle.steps.proofs.Reduction.{Judging, Lowest}
 use Rattle.steps.proofs.reduce.reduced_in.Given as goal
 

@@ -1,6 +1,6 @@
 use Rattle.sets.specs.Rows.{Relation}
+use Rattle.sets.proofs.Loops.{Filled}
 use Rattle.steps.specs.Rules.{IsRuleOf}
-use Rattle.steps.proofs.Filling.{Filled}
 use Rattle.steps.proofs.rowwise.rows_at.Given as goal
 
 abbrev pub invariant-loop-a : goal.invariant-loop-a
