@@ -63,20 +63,17 @@ def asks_nothing(impl):
 
 
 def public(crate):
-    """By symbol, the functions that others can call: the contract, and the modules that it has for others. Of an impl that a derive writes,
-    and of a method that an impl leaves to its trait, std says what it gives: those are not read."""
+    """By symbol, the functions that others can call: the contract, and the modules that it has for others. Of what a method asks, the
+    clauses that are its trait's own have no text there: they say that it may be called. Those that are written at it count."""
     modules, found = written(crate), {}
     for path, said in modules.items():
         if path.startswith(FACADE) and "Statement" in said.get("StandsFor", {}).get("children", []):
             module = path.removeprefix(FACADE)
-            impl = impl_of(modules, module)
-            if module.endswith("/TheImpl") or "derived" in impl:
+            if module.endswith("/TheImpl"):
                 continue
             of = contract(crate, modules, module)
-            if impl and not of["function"]["header"]["Reported"]["bytes"]:
-                continue
-            if asks_nothing(impl):
-                of = {**of, "requires": []}
+            if asks_nothing(impl_of(modules, module)):
+                of = {**of, "requires": [clause for clause in of["requires"] if "Read" in clause["text"]]}
             found.setdefault(of["function"]["symbol"], (of, set()))[1].add(module.replace("/", "."))
     return found
 

@@ -7,9 +7,16 @@ use mathlib.Core.Path.{◌≡◌, sym, ap, ◌∙◌}
 use Rattle.sets.specs.declared.activity.Activity.{Activity}
 use Rattle.sets.specs.declared.each.Members.{Members}
 use Rattle.sets.proofs.Passing.{gives-once}
+use Rattle.sets.proofs.activity.ActivityPartialEq.eq.Reads as ActivityPartialEq-eq
+use Rattle.sets.proofs.activity.ActivityPartialOrd.partial_cmp.Reads as ActivityPartialOrd-partial-cmp
+use Rattle.sets.proofs.activity.ActivityOrd.cmp.Reads as ActivityOrd-cmp
+use Rattle.sets.proofs.activity.PlacePartialEq.eq.Reads as PlacePartialEq-eq
+use Rattle.sets.proofs.activity.PlacePartialOrd.partial_cmp.Reads as PlacePartialOrd-partial-cmp
+use Rattle.sets.proofs.activity.PlaceOrd.cmp.Reads as PlaceOrd-cmp
 use Rattle.sets.proofs.answer.Answer.number.Reads as Answer-number
 use Rattle.sets.proofs.answer.Answer.blocker.Reads as Answer-blocker
 use Rattle.sets.proofs.answer.Answer.is_done.Reads as Answer-is-done
+use Rattle.sets.proofs.set.SetPartialEq.eq.Reads as SetPartialEq-eq
 use Rattle.sets.proofs.set.Set.one.Reads as Set-one
 use Rattle.sets.proofs.set.Set.one_if.Reads as Set-one-if
 use Rattle.sets.proofs.set.Set.below.Reads as Set-below
@@ -25,6 +32,7 @@ use Rattle.sets.proofs.set.Set.least.Reads as Set-least
 use Rattle.sets.proofs.set.Set.without_least.Reads as Set-without-least
 use Rattle.sets.proofs.set.Set.members.Reads as Set-members
 use Rattle.sets.proofs.each.MembersIterator.next.Reads as MembersIterator-next
+use Rattle.sets.proofs.each.MembersIterator.size_hint.Reads as MembersIterator-size-hint
 use Rattle.sets.proofs.set.Set.next.Reads as Set-next
 use Rattle.sets.proofs.set.Set.end.Reads as Set-end
 use Rattle.sets.proofs.rows.empty.Reads as empty
@@ -50,6 +58,8 @@ use Rattle.octets.proofs.edition.edition_for.Reads as edition-for
 use Rattle.octets.proofs.edition.edition_in.Reads as edition-in
 use Rattle.octets.proofs.edition.opens_file.Reads as opens-file
 use Rattle.octets.proofs.edition.is_beyond.Reads as is-beyond
+use Rattle.engine.proofs.marking.StatePartialEq.eq.Reads as StatePartialEq-eq
+use Rattle.engine.proofs.marking.MarkingPartialEq.eq.Reads as MarkingPartialEq-eq
 use Rattle.engine.proofs.marking.State.of.Reads as State-of
 use Rattle.engine.proofs.marking.State.opening.Reads as State-opening
 use Rattle.engine.proofs.enabled.enabled_set.Reads as enabled-set
@@ -206,6 +216,26 @@ module _ {K : Type 0} {A : K → Type 0} {R : K → Type 0} {E : K → Type 0} (
     abbrev OnceLent : Type 0
     OnceLent = (κ : K) (a : A κ) (r r' : R κ) (s s' : E κ) → Post κ a r s → Post κ a r' s' → (r ≡ r') × (left κ s ≡ left κ s')
 
+-- ---- sets: activities and places
+
+pub ActivityPartialEq-eq-once : Once ActivityPartialEq-eq.Post
+ActivityPartialEq-eq-once κ a r r' s s' h h' = h ∙ sym h'
+
+pub ActivityPartialOrd-partial-cmp-once : Once ActivityPartialOrd-partial-cmp.Post
+ActivityPartialOrd-partial-cmp-once κ a r r' s s' h h' = h ∙ sym h'
+
+pub ActivityOrd-cmp-once : Once ActivityOrd-cmp.Post
+ActivityOrd-cmp-once κ a r r' s s' h h' = h ∙ sym h'
+
+pub PlacePartialEq-eq-once : Once PlacePartialEq-eq.Post
+PlacePartialEq-eq-once κ a r r' s s' h h' = h ∙ sym h'
+
+pub PlacePartialOrd-partial-cmp-once : Once PlacePartialOrd-partial-cmp.Post
+PlacePartialOrd-partial-cmp-once κ a r r' s s' h h' = h ∙ sym h'
+
+pub PlaceOrd-cmp-once : Once PlaceOrd-cmp.Post
+PlaceOrd-cmp-once κ a r r' s s' h h' = h ∙ sym h'
+
 -- ---- sets: answers
 
 pub Answer-number-once : Once Answer-number.Post
@@ -218,6 +248,9 @@ pub Answer-is-done-once : Once Answer-is-done.Post
 Answer-is-done-once κ a r r' s s' h h' = h ∙ sym h'
 
 -- ---- sets: sets, by their members
+
+pub SetPartialEq-eq-once : Once SetPartialEq-eq.Post
+SetPartialEq-eq-once κ a r r' s s' h h' = h ∙ sym h'
 
 pub Set-one-once : Once Set-one.Post
 Set-one-once κ a r r' s s' h h' = h ∙ sym h'
@@ -264,6 +297,10 @@ Set-members-once κ a r r' s s' h h' = ap {B = Members} (λ n. record { rest = n
 
 pub MembersIterator-next-once : OnceLent MembersIterator-next.Post (λ κ s. s.0.now)
 MembersIterator-next-once κ a r r' s s' h h' = gives-once a.0.now r r' s.0.now s'.0.now h.0 h'.0
+
+-- the first two of its clauses are those of its trait, the third is the whole
+pub MembersIterator-size-hint-once : Once MembersIterator-size-hint.Post
+MembersIterator-size-hint-once κ a r r' s s' h h' = h.1.1 ∙ sym h'.1.1
 
 pub Set-next-once : Once Set-next.Post
 Set-next-once κ a r r' s s' h h' = ap {B = Activity} (λ n. record { 0 = n }) (h ∙ sym h')
@@ -347,6 +384,12 @@ pub is-beyond-once : Once is-beyond.Post
 is-beyond-once κ a r r' s s' h h' = h ∙ sym h'
 
 -- ---- engine
+
+pub StatePartialEq-eq-once : Once StatePartialEq-eq.Post
+StatePartialEq-eq-once κ a r r' s s' h h' = h ∙ sym h'
+
+pub MarkingPartialEq-eq-once : Once MarkingPartialEq-eq.Post
+MarkingPartialEq-eq-once κ a r r' s s' h h' = h ∙ sym h'
 
 pub State-of-once : Once State-of.Post
 State-of-once κ a r r' s s' h h' = h ∙ sym h'

@@ -1,6 +1,7 @@
 // The members of a set one by one, the least first: `for a in s.members()`.
-ghost use Rattle.std.specs.Prelude.{◌≡◌, true, MatchOption};
-ghost use Rattle.std.specs.Iterator.{at_most};
+ghost use Rattle.std.specs.Prelude.{◌≡◌, true, Some, MatchOption, IfSome};
+ghost use Rattle.std.specs.Iterator.{at_most, UpTo};
+ghost use Rattle.std.specs.Iterator.SizeHint.{IsWithinCount};
 ghost use Rattle.sets.specs.Members.{width, mem, is_empty, count_below, Takes};
 
 use crate::activity::{Activity, WORD};
@@ -31,5 +32,15 @@ impl Iterator for Members {
             return Some(Activity(WORD + u64::trailing_zeros(high) as u8));
         }
         None
+    }
+
+    // How many are still to come, from below and from above.
+    fn size_hint(&self) -> (usize, Option<usize>)
+        ensures lower { IsWithinCount result.0 (at_most (count_below width (mem self.now.rest))) }
+        ensures upper { IfSome result.1 (UpTo (at_most (count_below width (mem self.now.rest)))) }
+        ensures value { result ≡ (count_below width (mem self.now.rest), Some (count_below width (mem self.now.rest))) }
+    {
+        let n = self.rest.count() as usize;
+        (n, Some(n))
     }
 }
