@@ -151,11 +151,11 @@ pub fn close(head: Head, relations: &Relations, table: &mut [u8], place: usize) 
     let Some(held) = Table::over(table, wide) else {
         return Answer::BufferTooSmall;
     };
-    let Some(m) = held.call_at(place) else {
+    let Some(last) = held.call_at(place) else {
         return Answer::NotOpen;
     };
-    let judged = judge::judge_beside(head, relations, m);
-    let answer = ask_closing(judged, m);
+    let judged = judge::judge_beside(head, relations, last);
+    let answer = ask_closing(judged, last);
     if !answer.is_done() {
         return answer;
     }
@@ -177,11 +177,11 @@ pub fn close_on(
     let Some(held) = Table::over(table, wide) else {
         return Answer::BufferTooSmall;
     };
-    let Some(m) = held.call_at(place) else {
+    let Some(marking) = held.call_at(place) else {
         return Answer::NotOpen;
     };
-    let judged = judge::judge_marking(events, relations, m);
-    let answer = ask_closing(judged, m);
+    let judged = judge::judge_marking(events, relations, marking);
+    let answer = ask_closing(judged, marking);
     if !answer.is_done() {
         return answer;
     }
