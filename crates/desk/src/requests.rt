@@ -53,7 +53,8 @@ pub fn open(head: Head, relations: &Relations, table: &mut [u8]) -> Opened
     Opened { answer, place }
 }
 
-// What step, close and a way out ask of the table first: 7, then 14.
+// What step, close and a way out ask of the table first: 7, then 14. This is for `finish_on` and for `port`; the others ask the same of
+// `Table::over` and `Table::call_at`, which give the marking too.
 pub fn judge_place(table: &[u8], place: usize, wide: bool) -> Answer
     ensures { result ≡ place_answer wide table.now place }
 {
