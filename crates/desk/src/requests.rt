@@ -53,7 +53,8 @@ pub fn open(head: Head, relations: &Relations, table: &mut [u8]) -> Opened
     Opened { answer, place }
 }
 
-// What step, close and a way out ask of the table first: 7, then 14.
+// What step, close and a way out ask of the table first: 7, then 14. This is for `finish_on` and for `port`; the others ask the same of
+// `Table::over` and `Table::call_at`, which give the marking too.
 pub fn judge_place(table: &[u8], place: usize, wide: bool) -> Answer
     ensures { result ≡ place_answer wide table.now place }
 {
@@ -151,11 +152,11 @@ pub fn close(head: Head, relations: &Relations, table: &mut [u8], place: usize) 
     let Some(held) = Table::over(table, wide) else {
         return Answer::BufferTooSmall;
     };
-    let Some(m) = held.call_at(place) else {
+    let Some(last) = held.call_at(place) else {
         return Answer::NotOpen;
     };
-    let judged = judge::judge_beside(head, relations, m);
-    let answer = ask_closing(judged, m);
+    let judged = judge::judge_beside(head, relations, last);
+    let answer = ask_closing(judged, last);
     if !answer.is_done() {
         return answer;
     }
@@ -177,11 +178,11 @@ pub fn close_on(
     let Some(held) = Table::over(table, wide) else {
         return Answer::BufferTooSmall;
     };
-    let Some(m) = held.call_at(place) else {
+    let Some(marking) = held.call_at(place) else {
         return Answer::NotOpen;
     };
-    let judged = judge::judge_marking(events, relations, m);
-    let answer = ask_closing(judged, m);
+    let judged = judge::judge_marking(events, relations, marking);
+    let answer = ask_closing(judged, marking);
     if !answer.is_done() {
         return answer;
     }

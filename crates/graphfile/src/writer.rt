@@ -44,7 +44,8 @@ pub(crate) fn row_count<const WIDE: bool>(relations: &Relations, r: u8) -> usize
     ensures upper_bound { result ≤ width }
 {
     let mut n = 0;
-    for a in 0..layout::most_rows(WIDE) {
+    let end = layout::most_rows(WIDE);
+    for a in 0..end {
         n += rows_for(tables::row(relations, r, Activity(a)));
     }
     n
