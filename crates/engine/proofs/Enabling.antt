@@ -9,7 +9,7 @@ use Rattle.sets.specs.Members.{width, word, mem, those, end_below, is_empty, wit
 use Rattle.sets.specs.Answers.{is_done}
 use Rattle.sets.specs.declared.set.Set.{Set}
 use Rattle.sets.specs.declared.answer.Answer.TheVariants.{Done, NoEvent, NotIncluded, Waiting}
-use Rattle.sets.proofs.Tests.{T-ext, T-eq, and_l, and_r, and_i, T→true, true→T, true-and}
+use Rattle.sets.proofs.Tests.{T-ext, T-eq, and_l, and_r, and_i, and_is, T→true, true→T, true-and}
 use Rattle.sets.proofs.Below.{some-ext, end-past}
 use Rattle.sets.proofs.Members.{Fits, Whole, equal-within, those-ext, those-of, within-i, within-e, mem-those}
 use Rattle.sets.proofs.MadeSets.{joined, is-those}
@@ -108,7 +108,11 @@ pub true_of : (e all x : Set) (t : Bool) → all ≡ x → t ≡ within all e �
 true_of e all x t h k = k ∙ ap (λ (u : Set). within u e) h
 
 pub same_true : (e all x : Set) (t : Bool) → Fits e → Fits all → all ≡ x → t ≡ (eqb e.low all.low && eqb e.high all.high) → t ≡ (within e x and within x e)
-same_true e all x t fe fa h k = k ∙ equal-within e all fe fa ∙ (λ j. within e (h j) and within (h j) e)
+same_true e all x t fe fa h k = k ∙ equal-within e all fe fa ∙ ap₂ ◌and◌ (true-in e all x _ h refl) (true_of e all x _ h refl)
+
+-- the same where each is asked by itself
+pub asked_true : (e all x : Set) (a b t : Bool) → all ≡ x → a ≡ within e all → b ≡ within all e → t ≡ (a && b) → t ≡ (within e x and within x e)
+asked_true e all x a b t h ha hb k = k ∙ and_is a b ∙ ap₂ ◌and◌ (true-in e all x a h ha) (true_of e all x b h hb)
 
 -- ---- a true marking
 

@@ -1,5 +1,5 @@
 -- The set of enabled activities, from one walk through the conditions. Assumes nothing.
-use mathlib.Core.Path.{◌≡◌, sym, ap, subst, ◌∙◌}
+use mathlib.Core.Path.{◌≡◌, refl, sym, ap, ap₂, subst, ◌∙◌}
 use mathlib.Core.Bool.{Bool, ◌&&◌}
 use mathlib.Core.List.{List, []}
 use Prim.Native.Nat.{ℕ, ◌≤◌, ◌<◌}
@@ -18,7 +18,7 @@ use Rattle.engine.specs.declared.marking.State.{State}
 use Rattle.engine.specs.declared.marking.Marking.{Marking}
 use Rattle.engine.specs.Steps.{blocking, waits, enabled}
 use Rattle.engine.specs.Enabled.{enabled_set, is_true}
-use Rattle.engine.proofs.Enabling.{done-parts}
+use Rattle.engine.proofs.Enabling.{done-parts, true-in, true_of, asked_true}
 use Rattle.plain.specs.Pairs.{pair_of, source_of, target_of, some_in, is_among, blocks}
 use Rattle.plain.specs.Graphs.{in_lists}
 use Rattle.plain.proofs.PairLaws.{and-is, stands}
@@ -54,7 +54,13 @@ pub equal-true : (c r i x : List ℕ) (events : Set) (m : Marking) (all : Set) (
 unfolding is_true
 equal-true c r i x events m all t fm fa ht ha =
     true-alone c r i x events m t
-    (equal-is m.enabled all fm fa t ht ∙ ap (λ (u : Set). within m.enabled u and within u m.enabled) ha)
+    (equal-is m.enabled all fm fa t ht ∙ ap₂ ◌and◌ (true-in m.enabled all _ _ ha refl) (true_of m.enabled all _ _ ha refl))
+
+-- the same where each is asked by itself
+pub asked-true : (c r i x : List ℕ) (events : Set) (m : Marking) (all : Set) (a b t : Bool) → a ≡ within m.enabled all → b ≡ within all m.enabled
+    → t ≡ (a && b) → all ≡ enabled_set events (in_lists c [] [] []) m.state → t ≡ is_true events (in_lists c r i x) m
+unfolding is_true
+asked-true c r i x events m all a b t ha hb ht h = true-alone c r i x events m t (asked_true m.enabled all _ a b t h ha hb ht)
 
 -- pair p keeps b waiting
 abbrev pub keeps : State → ℕ → ℕ → Bool
