@@ -1,17 +1,11 @@
 -- What shut a step out last and was not followed by what lets it in, for any trace (02, 8/12: "a way out" begins with why a step is refused).
-use Rattle.std.specs.Prelude.{List, [], ◌∷◌, ℕ, Option, None, Some}
+use Rattle.std.specs.Prelude.{List, [], ◌∷◌, ℕ}
 use Rattle.sets.specs.Tests.{when◌then◌else◌}
-use Rattle.sets.specs.declared.activity.Activity.{Activity}
 use Rattle.engine.specs.Relations.{Relations}
 
 -- no activity
 abbrev pub nothing : ℕ
 nothing = 255
-
--- the number of an activity, where there is one
-abbrev pub number_or_nothing : Option Activity → ℕ
-number_or_nothing None = nothing
-number_or_nothing (Some a) = a.0
 
 -- `last` shut a out so far; then comes e. What both includes and excludes lets in, since an include wins (01, "A step").
 unfoldable pub shut_after : Relations → ℕ → ℕ → ℕ → ℕ
