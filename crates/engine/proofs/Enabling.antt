@@ -111,7 +111,8 @@ pub same_true : (e all x : Set) (t : Bool) → Fits e → Fits all → all ≡ x
 same_true e all x t fe fa h k = k ∙ equal-within e all fe fa ∙ ap₂ ◌and◌ (true-in e all x _ h refl) (true_of e all x _ h refl)
 
 -- the same where each is asked by itself
-pub asked_true : (e all x : Set) (a b t : Bool) → all ≡ x → a ≡ within e all → b ≡ within all e → t ≡ (a && b) → t ≡ (within e x and within x e)
+pub asked_true : (e all x : Set) (a b t : Bool) → all ≡ x → a ≡ within e all → b ≡ within all e → t ≡ (a && b)
+    → t ≡ (within e x and within x e)
 asked_true e all x a b t h ha hb k = k ∙ and_is a b ∙ ap₂ ◌and◌ (true-in e all x a h ha) (true_of e all x b h hb)
 
 -- ---- a true marking

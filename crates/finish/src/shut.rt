@@ -9,8 +9,8 @@ use engine::Relations;
 use engine::graph::{EXCLUDES, INCLUDES};
 use sets::{Activity, tables};
 
-// What stands where nothing did: the statement of `shut_by` says 255 (docs/STATEMENTS.md). The walk carries it too: with an Option in its stead
-// a trace of thousands of events took up to half as long again.
+// What stands where nothing did: the statement of `shut_by` says 255 (docs/STATEMENTS.md). The walk carries it too: with an Option in its
+// stead a trace of thousands of events took up to two thirds longer.
 pub const NOTHING: Activity = Activity(255);
 
 // Whether an event has the step in its row of a relation.

@@ -22,9 +22,9 @@ pub struct Reading {
     pub graph: Graph,
 }
 
-// The rows of a relation, each put at its key into table r, up to the first that is refused. The form is a const parameter: where it is handed to one
-// loop, the compiler asks for it at each row. It stays a function of its own: within its caller a row's words have no register left, and reading a
-// file took up to two fifths longer.
+// The rows of a relation, each put at its key into table r, up to the first that is refused. The form is a const parameter: where it is
+// handed to one loop, the compiler asks for it at each row. It stays a function of its own: within its caller a row's words have no register
+// left, and reading a file took up to two fifths longer.
 #[inline(never)]
 fn take_rows_in<const WIDE: bool>(rows: &Rows, r: u8, held: &mut Relations) -> Answer
     requires { WIDE ≡ rows.now.wide }

@@ -57,8 +57,9 @@ equal-true c r i x events m all t fm fa ht ha =
     (equal-is m.enabled all fm fa t ht ∙ ap₂ ◌and◌ (true-in m.enabled all _ _ ha refl) (true_of m.enabled all _ _ ha refl))
 
 -- the same where each is asked by itself
-pub asked-true : (c r i x : List ℕ) (events : Set) (m : Marking) (all : Set) (a b t : Bool) → a ≡ within m.enabled all → b ≡ within all m.enabled
-    → t ≡ (a && b) → all ≡ enabled_set events (in_lists c [] [] []) m.state → t ≡ is_true events (in_lists c r i x) m
+pub asked-true : (c r i x : List ℕ) (events : Set) (m : Marking) (all : Set) (a b t : Bool) → a ≡ within m.enabled all
+    → b ≡ within all m.enabled → t ≡ (a && b) → all ≡ enabled_set events (in_lists c [] [] []) m.state
+    → t ≡ is_true events (in_lists c r i x) m
 unfolding is_true
 asked-true c r i x events m all a b t ha hb ht h = true-alone c r i x events m t (asked_true m.enabled all _ a b t h ha hb ht)
 

@@ -9,10 +9,10 @@ use sets::activity::WORD;
 use sets::{Rows, Set, rows};
 
 // The relation, at the events, without the pairs from a source to a target that a middle activity joins too; the first middle decides.
-// A middle is tried once for a source: all targets that it joins go at once, so it need not be tried for the next target again. Every pair is
-// judged on `rows`, which stay as they are, so the order of the pairs makes no difference. Rows by target serve as well as rows by source: a
-// pair turned round is joined by the same middles. In the narrow form the rows lie below 64 (02, 10/12): each is cut there, which changes
-// nothing, and the sets of the loops are parts of it, so their high words fall away.
+// A middle is tried once for a source: all targets that it joins go at once, so it need not be tried for the next target again. Every pair
+// is judged on `rows`, which stay as they are, so the order of the pairs makes no difference. Rows by target serve as well as rows by
+// source: a pair turned round is joined by the same middles. In the narrow form the rows lie below 64 (02, 10/12): each is cut there, which
+// changes nothing, and the sets of the loops are parts of it, so their high words fall away.
 fn reduced_in<const WIDE: bool>(events: Set, rows: &Rows) -> Rows
     requires { (a : ℕ) → a < width → mem events a ≡ true → fits WIDE rows.now a ≡ true }
     ensures { result ≡ rows_for events (reduced_of rows.now) }
