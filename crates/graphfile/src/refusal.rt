@@ -72,17 +72,18 @@ fn judge_end(file: &File) -> Answer
     Answer::Done
 }
 
-// Whether a row is accepted, by its key and its set. It is asked by itself: the loop over the rows then carries no answer from row to row, and takes a tenth less.
+// Whether a row is accepted, by its key and its set. It is asked by itself: the loop over the rows then carries no answer from row to row,
+// and takes a tenth less. That emptiness is asked before the other question about the set is for speed alone (docs/DESIGN-PASS.md, Speed).
 pub(crate) fn is_right(events: Set, key: Activity, row: Set, above: bool) -> bool
     ensures { result ≡ is_done (row_answer events key.0 row above) }
 {
     if !events.has(key) {
         return false;
     }
-    if !row.is_within(events) {
+    if row.is_empty() {
         return false;
     }
-    if row.is_empty() {
+    if !row.is_within(events) {
         return false;
     }
     above
